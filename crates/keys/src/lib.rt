@@ -6,24 +6,21 @@ ghost use Prim.Native.Nat.{_+_, _≤_};
 ghost use lib.ListN.{length, take, drop};
 ghost use Rattle.fields.specs.Order.{before, same};
 
+pub mod equal;
+pub mod order;
+
 // Whether the `size` bytes of s from p on come before those of t from q on.
 pub fn run_before(s: &[u8], p: usize, t: &[u8], q: usize, size: usize) -> bool
     requires { ⌜ (p + size ≤ length (now s)) × (q + size ≤ length (now t)) ⌝ }
     ensures { λ r. ⌜ r ≡ before (take size (drop p (now (s .entry)))) (take size (drop q (now (t .entry)))) ⌝ }
 {
-    let mut i = 0;
-    while i < size {
-        let x = s[p + i];
-        let y = t[q + i];
-        if x < y {
-            return true;
-        }
-        if y < x {
-            return false;
-        }
-        i += 1;
+    if size == 32 {
+        return order::before_32(s, p, t, q);
     }
-    false
+    if size < 8 {
+        return order::before_bytes(s, p, t, q, size);
+    }
+    order::before_words(s, p, t, q, size)
 }
 
 // Whether they are the same.
@@ -31,12 +28,11 @@ pub fn run_same(s: &[u8], p: usize, t: &[u8], q: usize, size: usize) -> bool
     requires { ⌜ (p + size ≤ length (now s)) × (q + size ≤ length (now t)) ⌝ }
     ensures { λ r. ⌜ r ≡ same (take size (drop p (now (s .entry)))) (take size (drop q (now (t .entry)))) ⌝ }
 {
-    let mut i = 0;
-    while i < size {
-        if s[p + i] != t[q + i] {
-            return false;
-        }
-        i += 1;
+    if size == 32 {
+        return equal::same_32(s, p, t, q);
     }
-    true
+    if size < 8 {
+        return equal::same_bytes(s, p, t, q, size);
+    }
+    equal::same_words(s, p, t, q, size)
 }
