@@ -1,2 +1,5 @@
+pub mod NumberLaws
+pub mod OverwriteLaws
+pub mod OrderLaws
 pub mod AllLaws
 pub mod SortLaws
