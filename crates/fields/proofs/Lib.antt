@@ -1,2 +1,6 @@
+pub mod NumberLaws
+pub mod OverwriteLaws
+pub mod OrderLaws
 pub mod EntriesLaws
 pub mod FilterLaws
+pub mod RisingLaws
