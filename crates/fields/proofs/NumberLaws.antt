@@ -67,6 +67,9 @@ fromBe-cons b bs =
     let z : 0 * 256 + b ≡ b = omega arith in
     after-head (0 * 256 + b) bs ∙ rw z
 
+pub fromBe-one : (at : ℕ) (s : List ℕ) → at < length s → fromBe (take 1 (drop at s)) ≡ getD s at 0
+fromBe-one at s h = rw (drop-cons s at 0 h) (omega arith)
+
 after-append : (n : ℕ) (xs ys : List ℕ) → fromBeAfter n (xs ++ ys) ≡ fromBeAfter (fromBeAfter n xs) ys
 after-append n [] ys = refl
 after-append n (x ∷ xs) ys = after-append (n * 256 + x) xs ys
@@ -102,6 +105,9 @@ pub toBe-fromBe : (bs : List ℕ) → Bytes bs → toBe (length bs) (fromBe bs) 
 toBe-fromBe bs f = rw (zero-add) at (toBe-after 0 0 bs f)
 
 -- ---- a number in two
+
+pub fromBe-injective : (xs ys : List ℕ) → length xs ≡ length ys → Bytes xs → Bytes ys → fromBe xs ≡ fromBe ys → xs ≡ ys
+fromBe-injective xs ys l f g e = sym (toBe-fromBe xs f) ∙ rw (l, e) (toBe-fromBe ys g)
 
 pub fromBe-append : (xs ys : List ℕ) → fromBe (xs ++ ys) ≡ fromBe xs * 256 ^ length ys + fromBe ys
 fromBe-append xs ys = after-append 0 xs ys ∙ after-head (fromBe xs) ys

@@ -12,7 +12,7 @@ use lib.Seq.{take-add, drop-drop, drop-cons, length-take-le, take-take}
 use borrow.Author.Tests.{ltb-true, ltb-false, eqb-true, eqb-false, lt-ltb, le-ltb, eq-eqb, ne-eqb}
 use Rattle.fields.specs.Number.{fromBe}
 use Rattle.fields.specs.Order.{before, same}
-use Rattle.fields.proofs.NumberLaws.{Bytes, bytes-tail, bytes-take, bytes-drop, fromBe-cons, fromBe-below}
+use Rattle.fields.proofs.NumberLaws.{Bytes, bytes-tail, bytes-take, bytes-drop, fromBe-cons, fromBe-below, fromBe-injective}
 
 -- ---- tests
 
@@ -249,3 +249,91 @@ same-number (x ∷ xs) (y ∷ ys) l f g =
     let u : fromBe xs < 256 ^ length xs = fromBe-below xs (bytes-tail x xs f) in
     let v : fromBe ys < 256 ^ length xs = rw e at (fromBe-below ys (bytes-tail y ys g)) in
     rw (same-number xs ys (sym e) (bytes-tail x xs f) (bytes-tail y ys g), fromBe-cons x xs, fromBe-cons y ys, e) (sym (eqb-parts x y (256 ^ length xs) (fromBe xs) (fromBe ys) u v))
+
+-- ---- word by word
+
+or-false : (t : Bool) → t || false ≡ t
+or-false true = refl
+or-false false = refl
+
+before-none : (x y : Bool) → x || (y && before [] []) ≡ x
+unfolding before
+before-none x true = or-false x
+before-none x false = or-false x
+
+same-none : (x : Bool) → x && same [] [] ≡ x
+unfolding same
+same-none true = refl
+same-none false = refl
+
+-- the `size` bytes of s from p on against those of t from q on
+module _ (s t : List ℕ) (f : Bytes s) (g : Bytes t) where
+  -- a word of m bytes, then n more bytes
+  module _ (p q m p′ q′ : ℕ) (e : p + m ≡ p′) (d : q + m ≡ q′) (h : p′ ≤ length s) (k : q′ ≤ length t) where
+    word : (u : List ℕ) (o o′ : ℕ) → o + m ≡ o′ → o′ ≤ length u → length (take m (drop o u)) ≡ m
+    word u o o′ i j = length-take-le m (drop o u) (rw (length-drop o u) (omega arith))
+
+    alike : length (take m (drop p s)) ≡ length (take m (drop q t))
+    alike = word s p p′ e h ∙ sym (word t q q′ d k)
+
+    pub word-before : before (take m (drop p s)) (take m (drop q t)) ≡ ltb (fromBe (take m (drop p s))) (fromBe (take m (drop q t)))
+    word-before =
+        before-number (take m (drop p s)) (take m (drop q t)) alike (bytes-take m (drop p s) (bytes-drop p s f)) (bytes-take m (drop q t) (bytes-drop q t g))
+
+    pub word-same : same (take m (drop p s)) (take m (drop q t)) ≡ eqb (fromBe (take m (drop p s))) (fromBe (take m (drop q t)))
+    word-same =
+        same-number (take m (drop p s)) (take m (drop q t)) alike (bytes-take m (drop p s) (bytes-drop p s f)) (bytes-take m (drop q t) (bytes-drop q t g))
+
+    pub words-before : (n : ℕ) → before (take (m + n) (drop p s)) (take (m + n) (drop q t))
+        ≡ ltb (fromBe (take m (drop p s))) (fromBe (take m (drop q t))) || (eqb (fromBe (take m (drop p s))) (fromBe (take m (drop q t))) && before (take n (drop p′ s)) (take n (drop q′ t)))
+    words-before n =
+        rw (take-add m n (drop p s), take-add m n (drop q t), drop-drop m p s, drop-drop m q t, e, d, before-append (take m (drop p s)) (take m (drop q t)) (take n (drop p′ s)) (take n (drop q′ t)) alike, word-before, word-same)
+
+    pub words-same : (n : ℕ) → same (take (m + n) (drop p s)) (take (m + n) (drop q t))
+        ≡ eqb (fromBe (take m (drop p s))) (fromBe (take m (drop q t))) && same (take n (drop p′ s)) (take n (drop q′ t))
+    words-same n =
+        rw (take-add m n (drop p s), take-add m n (drop q t), drop-drop m p s, drop-drop m q t, e, d, same-append (take m (drop p s)) (take m (drop q t)) (take n (drop p′ s)) (take n (drop q′ t)) alike, word-same)
+
+  -- words a and b of m bytes behind i bytes that are alike
+  module _ (p q size i m a b : ℕ) (h : p + size ≤ length s) (k : q + size ≤ length t) (l : i + m ≤ size) (z : take i (drop p s) ≡ take i (drop q t))
+      (ea : a ≡ fromBe (take m (drop (p + i) s))) (eb : b ≡ fromBe (take m (drop (q + i) t))) where
+    whole : i + (m + (size - (i + m))) ≡ size
+    whole = omega arith
+
+    before-from : before (take size (drop p s)) (take size (drop q t)) ≡ ltb a b || (eqb a b && before (take (size - (i + m)) (drop (p + i + m) s)) (take (size - (i + m)) (drop (q + i + m) t)))
+    before-from =
+        let n : ℕ = size - (i + m) in
+        ap (λ (o : ℕ). before (take o (drop p s)) (take o (drop q t))) (sym whole)
+        ∙ rw (take-add i (m + n) (drop p s), take-add i (m + n) (drop q t), drop-drop i p s, drop-drop i q t, z, before-shared (take i (drop q t)) (take (m + n) (drop (p + i) s)) (take (m + n) (drop (q + i) t)), ea, eb)
+        (words-before (p + i) (q + i) m (p + i + m) (q + i + m) refl refl (omega arith) (omega arith) n)
+
+    same-from : same (take size (drop p s)) (take size (drop q t)) ≡ eqb a b && same (take (size - (i + m)) (drop (p + i + m) s)) (take (size - (i + m)) (drop (q + i + m) t))
+    same-from =
+        let n : ℕ = size - (i + m) in
+        ap (λ (o : ℕ). same (take o (drop p s)) (take o (drop q t))) (sym whole)
+        ∙ rw (take-add i (m + n) (drop p s), take-add i (m + n) (drop q t), drop-drop i p s, drop-drop i q t, z, same-shared (take i (drop q t)) (take (m + n) (drop (p + i) s)) (take (m + n) (drop (q + i) t)), ea, eb)
+        (words-same (p + i) (q + i) m (p + i + m) (q + i + m) refl refl (omega arith) (omega arith) n)
+
+    pub differ-before : (a ≡ b → ⊥) → ltb a b ≡ before (take size (drop p s)) (take size (drop q t))
+    differ-before n = sym (before-from ∙ rw (ne-eqb a b n) (or-false (ltb a b)))
+
+    pub differ-same : (a ≡ b → ⊥) → same (take size (drop p s)) (take size (drop q t)) ≡ false
+    differ-same n = same-from ∙ rw (ne-eqb a b n)
+
+    pub equal-next : a ≡ b → take (i + m) (drop p s) ≡ take (i + m) (drop q t)
+    equal-next w =
+        let u : length (take m (drop (p + i) s)) ≡ m = length-take-le m (drop (p + i) s) (rw (length-drop (p + i) s) (omega arith)) in
+        let v : length (take m (drop (q + i) t)) ≡ m = length-take-le m (drop (q + i) t) (rw (length-drop (q + i) t) (omega arith)) in
+        let r : take m (drop (p + i) s) ≡ take m (drop (q + i) t) = fromBe-injective (take m (drop (p + i) s)) (take m (drop (q + i) t)) (u ∙ sym v) (bytes-take m (drop (p + i) s) (bytes-drop (p + i) s f)) (bytes-take m (drop (q + i) t) (bytes-drop (q + i) t g)) (sym ea ∙ w ∙ eb) in
+        rw (take-add i m (drop p s), take-add i m (drop q t), drop-drop i p s, drop-drop i q t, z, r)
+
+    -- no bytes behind these words
+    pub last-before : i + m ≡ size → ltb a b ≡ before (take size (drop p s)) (take size (drop q t))
+    last-before w =
+        let n : size - (i + m) ≡ 0 = omega arith in
+        sym (before-from ∙ rw n (before-none (ltb a b) (eqb a b)))
+
+    pub last-same : i + m ≡ size → eqb a b ≡ same (take size (drop p s)) (take size (drop q t))
+    last-same w =
+        let n : size - (i + m) ≡ 0 = omega arith in
+        sym (same-from ∙ rw n (same-none (eqb a b)))
