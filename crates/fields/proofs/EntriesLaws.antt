@@ -6,7 +6,7 @@ use native.Mathlib.Nat.{suc-mul, zero-mul, zero-add, suc-add, add-zero, not-suc-
 use native.Mathlib.Numerals.{add-one}
 use native.Mathlib.Omega.{arith}
 use lib.ListN.{length, take, drop, getD, set, replicate, length-append, length-take, length-drop, length-replicate, take-append-drop, replicate-append-replicate}
-use lib.Seq.{take-append-le, drop-append-le, take-at, drop-at, drop-drop, take-take, take-add, length-take-le, set-split, drop-append-add}
+use lib.Seq.{take-append-le, drop-append-le, take-at, drop-at, drop-drop, take-take, take-add, take-all, length-take-le, drop-append-add}
 use Rattle.fields.specs.Zero.{zeros}
 use Rattle.fields.specs.Entries.{entries, entry, joined, insertedAt, removedAt, replaced}
 
@@ -206,3 +206,50 @@ pub replaced-same : (width count : ℕ) (bytes : List ℕ) → replaced width co
 replaced-same width count bytes =
     let l : length (entries width count bytes) ≡ count = length-entries width count bytes in
     replaced-more width count (entries width count bytes) bytes (omega arith) ∙ rw (l, joined-entries width count bytes, take-append-drop)
+
+-- ---- an edit, as bytes: m entries before its place
+
+module _ (width m n : ℕ) (bytes : List ℕ) where
+  pub inserted-entries : (e : List ℕ) → insertedAt m e (entries width (m + n) bytes) ≡ entries width m bytes ++ (e ∷ entries width n (drop (m * width) bytes))
+  unfolding insertedAt
+  inserted-entries e = rw (take-entries width m n bytes, drop-entries width m n bytes)
+
+  pub removed-entries : removedAt m (entries width (m + suc n) bytes) ≡ entries width m bytes ++ entries width n (drop (m * width + width) bytes)
+  unfolding removedAt
+  removed-entries =
+      let s : m + suc n ≡ (m + 1) + n = omega arith in
+      let z : (m + 1) * width ≡ m * width + width = omega arith in
+      let d : drop (m + 1) (entries width (m + suc n) bytes) ≡ entries width n (drop (m * width + width) bytes) = rw (s, drop-entries width (m + 1) n bytes, z) in
+      rw (take-entries width m (suc n) bytes, d)
+
+  pub replaced-inserted : (e : List ℕ)
+      → replaced width (m + n) (insertedAt m e (entries width (m + n) bytes)) bytes
+      ≡ take (m * width) bytes ++ (e ++ (take (n * width) (drop (m * width) bytes) ++ drop ((m + n) * width + width) bytes))
+  replaced-inserted e =
+      let new : List (List ℕ) = entries width m bytes ++ (e ∷ entries width n (drop (m * width) bytes)) in
+      let l : length new ≡ m + suc n =
+      length-append (entries width m bytes) (e ∷ entries width n (drop (m * width) bytes)) ∙ rw (length-entries width m bytes, length-entries width n (drop (m * width) bytes)) in
+      let z : (m + suc n) * width ≡ (m + n) * width + width = omega arith in
+      rw inserted-entries
+      (replaced-more width (m + n) new bytes (omega arith)
+      ∙ rw (l, z, joined-append (entries width m bytes) (e ∷ entries width n (drop (m * width) bytes)), joined-entries width m bytes, joined-entries width n (drop (m * width) bytes)) (simp append-assoc))
+
+  pub replaced-removed : replaced width (m + suc n) (removedAt m (entries width (m + suc n) bytes)) bytes
+      ≡ take (m * width) bytes ++ (take (n * width) (drop (m * width + width) bytes) ++ (zeros width ++ drop ((m + suc n) * width) bytes))
+  replaced-removed =
+      let new : List (List ℕ) = entries width m bytes ++ entries width n (drop (m * width + width) bytes) in
+      let l : length new ≡ m + n =
+      length-append (entries width m bytes) (entries width n (drop (m * width + width) bytes)) ∙ rw (length-entries width m bytes, length-entries width n (drop (m * width + width) bytes)) in
+      let z : m + suc n - (m + n) ≡ 1 = omega arith in
+      let o : 1 * width ≡ width = omega arith in
+      rw removed-entries
+      (replaced-fewer width (m + suc n) new bytes (omega arith)
+      ∙ rw (l, z, o, joined-append (entries width m bytes) (entries width n (drop (m * width + width) bytes)), joined-entries width m bytes, joined-entries width n (drop (m * width + width) bytes)) (simp append-assoc))
+
+  pub replaced-appended : (new : List ℕ) → length new ≡ n * width
+      → replaced width m (entries width m bytes ++ entries width n new) bytes ≡ take (m * width) bytes ++ (new ++ drop ((m + n) * width) bytes)
+  replaced-appended new h =
+      let l : length (entries width m bytes ++ entries width n new) ≡ m + n = length-append (entries width m bytes) (entries width n new) ∙ rw (length-entries width m bytes, length-entries width n new) in
+      let t : take (n * width) new ≡ new = take-all (n * width) new (omega arith) in
+      replaced-more width m (entries width m bytes ++ entries width n new) bytes (omega arith)
+      ∙ rw (l, joined-append (entries width m bytes) (entries width n new), joined-entries width m bytes, joined-entries width n new, t) (simp append-assoc)

@@ -13,7 +13,7 @@ use Rattle.fields.proofs.NumberLaws.{Bytes, bytes-take, bytes-drop, toBe-fromBe
 use Rattle.fields.proofs.OverwriteLaws.{overwritten-nil, overwritten-next, overwritten-same, length-overwritten, take-before, drop-from, drop-after, part-before}
 use Rattle.table.specs.Move.{moved}
 
-length-part : (from size : ℕ) (s : List ℕ) → from + size ≤ length s → length (take size (drop from s)) ≡ size
+pub length-part : (from size : ℕ) (s : List ℕ) → from + size ≤ length s → length (take size (drop from s)) ≡ size
 length-part from size s h = length-take-le size (drop from s) (simp length-drop (omega arith))
 
 part-add : (from m n : ℕ) (s : List ℕ) → take m (drop from s) ++ take n (drop (from + m) s) ≡ take (m + n) (drop from s)
