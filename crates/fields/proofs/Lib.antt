@@ -1,5 +1,6 @@
 pub mod NumberLaws
 pub mod OverwriteLaws
+pub mod ZeroLaws
 pub mod OrderLaws
 pub mod EntriesLaws
 pub mod FilterLaws

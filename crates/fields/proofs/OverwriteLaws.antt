@@ -6,7 +6,7 @@ use native.Mathlib.Nat.{add-zero, zero-add, suc-add}
 use native.Mathlib.Numerals.{add-one}
 use native.Mathlib.Omega.{arith}
 use lib.ListN.{length, take, drop, getD, set, length-append, length-take, length-drop, take-append-drop, drop-of-length-le}
-use lib.Seq.{take-append-le, drop-append-le, take-at, drop-at, getD-at, set-at, drop-drop, take-take, take-add, take-suc, drop-cons, length-take-le, getD-take, drop-append-add, take-nil, set-split}
+use lib.Seq.{take-append-le, drop-append-le, take-at, drop-at, getD-at, set-at, drop-drop, take-take, take-add, take-suc, drop-cons, length-take-le, getD-take, drop-append-add, take-nil, take-all, set-split}
 use Rattle.fields.specs.Number.{toBe}
 use Rattle.fields.specs.Overwrite.{overwritten}
 use Rattle.fields.proofs.NumberLaws.{length-toBe}
@@ -131,3 +131,12 @@ module _ (s : List ℕ) (at width n j v : ℕ) (h : at + width ≤ length s) (l 
 pub write-none : (at width n : ℕ) (s : List ℕ) → overwritten (at + width) (drop width (toBe width n)) s ≡ s
 write-none at width n s =
     rw (drop-of-length-le (toBe width n) {i = width} (rw length-toBe (omega arith))) (overwritten-nil (at + width) s)
+
+-- ---- copying over the front, byte by byte
+
+pub front-turn : (new s : List ℕ) (i b : ℕ) → i < length new → i < length s → b ≡ getD new i 0 → set (take i new ++ drop i s) i b ≡ take (i + 1) new ++ drop (i + 1) s
+front-turn new s i b h l e =
+    rw (add-one, drop-cons s i 0 l, take-suc new i 0 h, set-at (take i new) (getD s i 0) (drop (suc i) s) b i (length-take-le i new (omega arith)), e, append-assoc)
+
+pub front-all : (new s : List ℕ) (i : ℕ) → length new ≤ i → length s ≤ i → take i new ++ drop i s ≡ new
+front-all new s i h l = rw (take-all i new h, drop-of-length-le s {i = i} l, append-nil)
