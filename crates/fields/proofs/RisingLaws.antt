@@ -9,10 +9,10 @@ use native.Mathlib.Omega.{arith}
 use lib.ListN.{length, take, drop, getD, length-drop}
 use lib.Seq.{drop-cons, getD-drop}
 use Rattle.fields.specs.Order.{before}
-use Rattle.fields.specs.Entries.{rising, insertedAt, removedAt}
+use Rattle.fields.specs.Entries.{entries, rising, insertedAt, removedAt}
 use Rattle.fields.specs.Filter.{consIf, kept, marked}
 use Rattle.fields.proofs.OrderLaws.{and-left, and-right, before-transitive}
-use Rattle.fields.proofs.EntriesLaws.{Each, each-at, each-map, each-inserted, each-removed}
+use Rattle.fields.proofs.EntriesLaws.{length-entries, entries-at, entry-front, Each, each-at, each-map, each-inserted, each-removed}
 use Rattle.fields.proofs.FilterLaws.{each-kept, each-marked}
 use lib.Dec.{eqb}
 
@@ -129,3 +129,15 @@ module _ (size : ℕ) where
       → rising size (insertedAt i x es) ≡ true
   unfolding insertedAt
   rising-inserted i x es h f g = ascending-rising (take i es ++ (x ∷ drop i es)) (ascending-inserted i x es (rising-ascending es h) f g)
+
+-- neighbours in a table's bytes
+pub rising-pair : (width count size i : ℕ) (table : List ℕ) → 0 < i → i < count → size ≤ width
+    → rising size (drop (i - 1) (entries width count table))
+    ≡ before (take size (drop ((i - 1) * width) table)) (take size (drop (i * width) table)) && rising size (drop i (entries width count table))
+rising-pair width count size i table p h l =
+    let e : suc (i - 1) ≡ i = omega arith in
+    let a : suc (i - 1) < length (entries width count table) = rw length-entries (omega arith) in
+    let n : rising size (drop (i - 1) (entries width count table))
+        ≡ before (take size (getD (entries width count table) (i - 1) [])) (take size (getD (entries width count table) i [])) && rising size (drop i (entries width count table)) =
+    rw e at (rising-next size (entries width count table) (i - 1) a) in
+    n ∙ rw (entries-at width count (i - 1) table (omega arith), entries-at width count i table h, entry-front width (i - 1) size table l, entry-front width i size table l)
