@@ -34,14 +34,40 @@ pub moved-nowhere : (from size : ℕ) (s : List ℕ) → from + size ≤ length 
 unfolding moved
 moved-nowhere from size s h = overwritten-same from size s h
 
--- a word read and written
+-- bytes read as a number and written again
+word-again : (from size word : ℕ) (s : List ℕ) → Bytes s → from + size ≤ length s → word ≡ fromBe (take size (drop from s)) → toBe size word ≡ take size (drop from s)
+word-again from size word s b h e =
+    let l : length (take size (drop from s)) ≡ size = length-part from size s h in
+    rw e (rw l at (toBe-fromBe (take size (drop from s)) (bytes-take size (drop from s) (bytes-drop from s b))))
+
 pub moved-word : (from to size word : ℕ) (s : List ℕ) → Bytes s → from + size ≤ length s → word ≡ fromBe (take size (drop from s))
     → overwritten to (toBe size word) s ≡ moved from to size s
 unfolding moved
-moved-word from to size word s b h e =
-    let l : length (take size (drop from s)) ≡ size = length-part from size s h in
-    let r : toBe size (fromBe (take size (drop from s))) ≡ take size (drop from s) = rw l at (toBe-fromBe (take size (drop from s)) (bytes-take size (drop from s) (bytes-drop from s b))) in
-    rw (e, r)
+moved-word from to size word s b h e = rw (word-again from size word s b h e)
+
+-- the next n bytes, read before the move
+pub moved-next : (from to m n : ℕ) (s : List ℕ) → from + (m + n) ≤ length s → to + (m + n) ≤ length s
+    → overwritten (to + m) (take n (drop (from + m) s)) (moved from to m s) ≡ moved from to (m + n) s
+unfolding moved
+moved-next from to m n s h k =
+    let la : length (take m (drop from s)) ≡ m = length-part from m s (omega arith) in
+    let lb : length (take n (drop (from + m) s)) ≡ n = length-part (from + m) n s (omega arith) in
+    rw (← part-add from m n s) (rw la at (overwritten-next to (take m (drop from s)) (take n (drop (from + m) s)) s (omega arith)))
+
+word-next : (from to m word : ℕ) (s t u : List ℕ) → Bytes s → from + (m + 8) ≤ length s → to + (m + 8) ≤ length s → word ≡ fromBe (take 8 (drop (from + m) s))
+    → t ≡ moved from to m s → u ≡ overwritten (to + m) (toBe 8 word) t → u ≡ moved from to (m + 8) s
+word-next from to m word s t u b h k w e f = f ∙ rw (e, word-again (from + m) 8 word s b (omega arith) w) (moved-next from to m 8 s h k)
+
+-- four words, all read before the first is written
+pub moved-block : (from to a b c d : ℕ) (s t₁ t₂ t₃ t₄ : List ℕ) → Bytes s → from + 32 ≤ length s → to + 32 ≤ length s
+    → a ≡ fromBe (take 8 (drop from s)) → b ≡ fromBe (take 8 (drop (from + 8) s)) → c ≡ fromBe (take 8 (drop (from + 16) s)) → d ≡ fromBe (take 8 (drop (from + 24) s))
+    → t₁ ≡ overwritten to (toBe 8 a) s → t₂ ≡ overwritten (to + 8) (toBe 8 b) t₁ → t₃ ≡ overwritten (to + 16) (toBe 8 c) t₂ → t₄ ≡ overwritten (to + 24) (toBe 8 d) t₃
+    → t₄ ≡ moved from to 32 s
+moved-block from to a b c d s t₁ t₂ t₃ t₄ y h k ra rb rc rd e₁ e₂ e₃ e₄ =
+    let m₁ : t₁ ≡ moved from to 8 s = e₁ ∙ moved-word from to 8 a s y (omega arith) ra in
+    let m₂ : t₂ ≡ moved from to 16 s = word-next from to 8 b s t₁ t₂ y (omega arith) (omega arith) rb m₁ e₂ in
+    let m₃ : t₃ ≡ moved from to 24 s = word-next from to 16 c s t₂ t₃ y (omega arith) (omega arith) rc m₂ e₃ in
+    word-next from to 24 d s t₃ t₄ y h k rd m₃ e₄
 
 -- a write in front of a write is one write
 overwritten-in-front : (at : ℕ) (a b s : List ℕ) → at + length a + length b ≤ length s → overwritten at a (overwritten (at + length a) b s) ≡ overwritten at (a ++ b) s
@@ -67,12 +93,9 @@ pub moved-down : (from to m n : ℕ) (s : List ℕ) → to ≤ from → from + (
     → moved (from + m) (to + m) n (moved from to m s) ≡ moved from to (m + n) s
 unfolding moved
 moved-down from to m n s o h =
-    let a : List ℕ = take m (drop from s) in
-    let b : List ℕ = take n (drop (from + m) s) in
-    let la : length a ≡ m = length-part from m s (omega arith) in
-    let lb : length b ≡ n = length-part (from + m) n s (omega arith) in
-    let d : drop (from + m) (overwritten to a s) ≡ drop (from + m) s = drop-after to a s (omega arith) (from + m) (omega arith) in
-    rw (d, ← part-add from m n s) (rw la at (overwritten-next to a b s (omega arith)))
+    let la : length (take m (drop from s)) ≡ m = length-part from m s (omega arith) in
+    let d : drop (from + m) (overwritten to (take m (drop from s)) s) ≡ drop (from + m) s = drop-after to (take m (drop from s)) s (omega arith) (from + m) (omega arith) in
+    rw d (moved-next from to m n s h (omega arith))
 
 -- ---- a loop that moves `step` bytes a turn: s is what was, t the state, u the next one
 
