@@ -5,10 +5,13 @@ use mathlib.Core.List.{List, [], _∷_, _++_, append-assoc}
 use native.Mathlib.Nat.{suc-mul, zero-mul, zero-add, suc-add, add-zero, not-suc-le-zero, le-of-suc-le-suc, mul-le-mul-right}
 use native.Mathlib.Numerals.{add-one}
 use native.Mathlib.Omega.{arith}
-use lib.ListN.{length, take, drop, getD, set, replicate, length-append, length-take, length-drop, length-replicate, take-append-drop, replicate-append-replicate}
-use lib.Seq.{take-append-le, drop-append-le, take-at, drop-at, drop-drop, take-take, take-add, take-all, length-take-le, drop-append-add}
+use lib.ListN.{length, take, drop, getD, set, length-append, length-drop, length-set, take-append-drop}
+use lib.Seq.{take-append-le, drop-append-le, take-at, drop-at, drop-drop, take-take, take-add, take-all, length-take-le, set-split, drop-append-add}
 use Rattle.fields.specs.Zero.{zeros}
+use Rattle.fields.specs.Overwrite.{overwritten}
 use Rattle.fields.specs.Entries.{entries, entry, joined, insertedAt, removedAt, replaced}
+use Rattle.fields.proofs.ZeroLaws.{length-zeros, zeros-append, drop-zeros}
+use Rattle.fields.proofs.OverwriteLaws.{drop-take, length-overwritten, overwritten-within}
 
 module _ (width : ℕ) where
   pub length-entries : (n : ℕ) (bytes : List ℕ) → length (entries width n bytes) ≡ n
@@ -179,7 +182,7 @@ module _ (width count : ℕ) (new : List (List ℕ)) (bytes : List ℕ) (wide : 
 
   pub freed-zero : take ((count - length new) * width) (drop (length new * width) (replaced width count new bytes)) ≡ zeros ((count - length new) * width)
   freed-zero =
-      rw (drop-new, take-at (zeros ((count - length new) * width)) (drop (max count (length new) * width) bytes) ((count - length new) * width) (length-replicate ((count - length new) * width) 0))
+      rw (drop-new, take-at (zeros ((count - length new) * width)) (drop (max count (length new) * width) bytes) ((count - length new) * width) (length-zeros ((count - length new) * width)))
 
   -- what stands behind both tables stays
   pub drop-replaced : (q : ℕ) → max count (length new) * width ≤ q → drop q (replaced width count new bytes) ≡ drop q bytes
@@ -192,7 +195,7 @@ module _ (width count : ℕ) (new : List (List ℕ)) (bytes : List ℕ) (wide : 
       let r : both + (q - both) ≡ q = omega arith in
       ap (λ (n : ℕ). drop n (replaced width count new bytes)) (sym e)
       ∙ sym (drop-drop (freed + (q - both)) (length new * width) (replaced width count new bytes))
-      ∙ rw (drop-new, drop-further (zeros freed) (drop both bytes) freed (q - both) (length-replicate freed 0), drop-drop, r)
+      ∙ rw (drop-new, drop-further (zeros freed) (drop both bytes) freed (q - both) (length-zeros freed), drop-drop, r)
 
   pub length-replaced : max count (length new) * width ≤ length bytes → length (replaced width count new bytes) ≡ length bytes
   unfolding replaced
@@ -200,7 +203,7 @@ module _ (width count : ℕ) (new : List (List ℕ)) (bytes : List ℕ) (wide : 
       let l : length (joined new) ≡ length new * width = length-joined width new wide in
       let s : (count - length new) + length new ≡ max count (length new) = omega arith in
       let s′ : (count - length new) * width + length new * width ≡ max count (length new) * width = rw (← s) (omega arith) in
-      simp (length-append, length-replicate, length-drop) (omega arith)
+      simp (length-append, length-zeros, length-drop) (omega arith)
 
 pub replaced-same : (width count : ℕ) (bytes : List ℕ) → replaced width count (entries width count bytes) bytes ≡ bytes
 replaced-same width count bytes =
@@ -253,3 +256,46 @@ module _ (width m n : ℕ) (bytes : List ℕ) where
       let t : take (n * width) new ≡ new = take-all (n * width) new (omega arith) in
       replaced-more width m (entries width m bytes ++ entries width n new) bytes (omega arith)
       ∙ rw (l, joined-append (entries width m bytes) (entries width n new), joined-entries width m bytes, joined-entries width n new, t) (simp append-assoc)
+
+-- ---- a field, some bytes of an entry
+
+pub entry-field : (width i at size : ℕ) (bytes : List ℕ) → at + size ≤ width → take size (drop at (entry width i bytes)) ≡ take size (drop (i * width + at) bytes)
+unfolding entry
+entry-field width i at size bytes h =
+    let e : at + (width - at) ≡ width = omega arith in
+    let d : drop at (take width (drop (i * width) bytes)) ≡ take (width - at) (drop at (drop (i * width) bytes)) = rw e at (drop-take at (width - at) (drop (i * width) bytes)) in
+    rw (d, take-take size (width - at) (drop at (drop (i * width) bytes)) (omega arith), drop-drop)
+
+set-at-split : (width m n : ℕ) (e bytes : List ℕ) → length e ≡ width
+    → overwritten (m * width) e bytes ≡ replaced width (m + suc n) (set (entries width (m + suc n) bytes) m e) bytes
+unfolding overwritten
+set-at-split width m n e bytes h =
+    let es : List (List ℕ) = entries width (m + suc n) bytes in
+    let b : m < length es = rw (length-entries width (m + suc n) bytes) (omega arith) in
+    let l : length (set es m e) ≡ m + suc n = length-set es m e ∙ length-entries width (m + suc n) bytes in
+    let s : m + suc n ≡ suc m + n = omega arith in
+    let z : suc m * width ≡ m * width + width = omega arith in
+    let w : m * width + width + n * width ≡ (m + suc n) * width = omega arith in
+    let d : drop (suc m) es ≡ entries width n (drop (m * width + width) bytes) = rw (s, drop-entries width (suc m) n bytes, z) in
+    let j : joined (set es m e) ≡ take (m * width) bytes ++ (e ++ take (n * width) (drop (m * width + width) bytes)) =
+    rw (set-split es m e b, d, take-entries width m (suc n) bytes, joined-append (entries width m bytes) (e ∷ entries width n (drop (m * width + width) bytes)), joined-entries width m bytes, joined-entries width n (drop (m * width + width) bytes)) in
+    let r : drop (m * width + width) bytes ≡ take (n * width) (drop (m * width + width) bytes) ++ drop ((m + suc n) * width) bytes =
+    sym (take-append-drop (n * width) (drop (m * width + width) bytes)) ∙ rw (drop-drop, w) in
+    rw h (ap (λ (t : List ℕ). take (m * width) bytes ++ (e ++ t)) r
+    ∙ sym (replaced-more width (m + suc n) (set es m e) bytes (omega arith) ∙ rw (l, j) (simp append-assoc)))
+
+module _ (width count i : ℕ) (bytes : List ℕ) (h : i < count) where
+  -- an entry written over
+  pub replaced-set : (e : List ℕ) → length e ≡ width → overwritten (i * width) e bytes ≡ replaced width count (set (entries width count bytes) i e) bytes
+  replaced-set e l =
+      let s : i + suc (count - i - 1) ≡ count = omega arith in
+      rw s at (set-at-split width i (count - i - 1) e bytes l)
+
+  -- a field written over
+  pub replaced-field : (at : ℕ) (new : List ℕ) → at + length new ≤ width → count * width ≤ length bytes
+      → overwritten (i * width + at) new bytes ≡ replaced width count (set (entries width count bytes) i (overwritten at new (entry width i bytes))) bytes
+  unfolding entry
+  replaced-field at new l k =
+      let a : i * width + width ≤ count * width = omega (arith, mul-le-mul-right width h) in
+      let n : length (entry width i bytes) ≡ width = length-entry width i bytes (omega arith) in
+      overwritten-within (i * width) width at new bytes l (omega arith) ∙ replaced-set (overwritten at new (entry width i bytes)) (length-overwritten at new (entry width i bytes) (omega arith) ∙ n)

@@ -10,7 +10,7 @@ use borrow.Rule.Slice.PartMut.{putMid}
 use Rattle.fields.specs.Number.{fromBe, toBe}
 use Rattle.fields.specs.Overwrite.{overwritten}
 use Rattle.fields.proofs.NumberLaws.{Bytes, bytes-take, bytes-drop, toBe-fromBe}
-use Rattle.fields.proofs.OverwriteLaws.{overwritten-nil, overwritten-next, overwritten-same, length-overwritten, take-before, drop-from, drop-after, part-before}
+use Rattle.fields.proofs.OverwriteLaws.{overwritten-nil, overwritten-next, overwritten-in-front, overwritten-same, length-overwritten, take-before, drop-from, drop-after, part-before}
 use Rattle.table.specs.Move.{moved}
 
 pub length-part : (from size : ℕ) (s : List ℕ) → from + size ≤ length s → length (take size (drop from s)) ≡ size
@@ -68,13 +68,6 @@ moved-block from to a b c d s t₁ t₂ t₃ t₄ y h k ra rb rc rd e₁ e₂ e�
     let m₂ : t₂ ≡ moved from to 16 s = word-next from to 8 b s t₁ t₂ y (omega arith) (omega arith) rb m₁ e₂ in
     let m₃ : t₃ ≡ moved from to 24 s = word-next from to 16 c s t₂ t₃ y (omega arith) (omega arith) rc m₂ e₃ in
     word-next from to 24 d s t₃ t₄ y h k rd m₃ e₄
-
--- a write in front of a write is one write
-overwritten-in-front : (at : ℕ) (a b s : List ℕ) → at + length a + length b ≤ length s → overwritten at a (overwritten (at + length a) b s) ≡ overwritten at (a ++ b) s
-unfolding overwritten
-overwritten-in-front at a b s h =
-    let e : at + length (a ++ b) ≡ at + length a + length b = rw length-append (omega arith) in
-    rw (take-before (at + length a) b s h at (omega arith), drop-from (at + length a) b s h, e) (simp append-assoc)
 
 -- up, the last n bytes before the first m
 pub moved-up : (from to m n : ℕ) (s : List ℕ) → from ≤ to → to + (m + n) ≤ length s
