@@ -1,15 +1,18 @@
 -- Tables of entries of any width: what their list of entries is when the bytes are cut, joined or replaced.
 use Prim.Native.Nat.{ℕ, zero, suc, _+_, _-_, _*_, _≤_, _<_, max}
 use mathlib.Core.Path.{_≡_, refl, sym, ap, _∙_}
+use mathlib.Core.Bool.{Bool, true, false}
 use mathlib.Core.List.{List, [], _∷_, _++_, append-assoc}
-use native.Mathlib.Nat.{suc-mul, zero-mul, zero-add, suc-add, add-zero, not-suc-le-zero, le-of-suc-le-suc, mul-le-mul-right}
-use native.Mathlib.Numerals.{add-one}
+use lib.Dec.{leb}
+use borrow.Author.Tests.{leb-true, leb-false}
+use native.Mathlib.Nat.{add-mul, suc-mul, zero-mul, zero-add, suc-add, not-suc-le-zero, le-of-suc-le-suc, mul-le-mul-right}
 use native.Mathlib.Omega.{arith}
 use lib.ListN.{length, take, drop, getD, set, length-append, length-drop, length-set, take-append-drop}
 use lib.Seq.{take-append-le, drop-append-le, take-at, drop-at, drop-drop, take-take, take-add, take-all, length-take-le, set-split, drop-append-add}
 use Rattle.fields.specs.Zero.{zeros}
 use Rattle.fields.specs.Overwrite.{overwritten}
 use Rattle.fields.specs.Entries.{entries, entry, joined, insertedAt, removedAt, replaced}
+use Rattle.fields.proofs.EachLaws.{Each}
 use Rattle.fields.proofs.ZeroLaws.{length-zeros, zeros-append, drop-zeros}
 use Rattle.fields.proofs.OverwriteLaws.{drop-take, length-overwritten, overwritten-within}
 
@@ -76,47 +79,6 @@ module _ (width : ℕ) where
 pub entry-front : (width i size : ℕ) (bytes : List ℕ) → size ≤ width → take size (entry width i bytes) ≡ take size (drop (i * width) bytes)
 unfolding entry
 entry-front width i size bytes h = take-take size width (drop (i * width) bytes) h
-
--- each of the elements has the property
-abbrev pub Each : {A : Type 0} → (A → Type 0) → List A → Type 0
-Each P [] = Unit {0}
-Each P (x ∷ xs) = P x × Each P xs
-
-module _ {A : Type 0} (P : A → Type 0) where
-  pub each-append : (xs ys : List A) → Each P xs → Each P ys → Each P (xs ++ ys)
-  each-append [] ys p q = q
-  each-append (x ∷ xs) ys p q = (p .0, each-append xs ys (p .1) q)
-
-  pub each-front : (xs ys : List A) → Each P (xs ++ ys) → Each P xs
-  each-front [] ys p = tt
-  each-front (x ∷ xs) ys p = (p .0, each-front xs ys (p .1))
-
-  pub each-back : (xs ys : List A) → Each P (xs ++ ys) → Each P ys
-  each-back [] ys p = p
-  each-back (x ∷ xs) ys p = each-back xs ys (p .1)
-
-  pub each-take : (i : ℕ) (xs : List A) → Each P xs → Each P (take i xs)
-  each-take i xs p = each-front (take i xs) (drop i xs) (rw take-append-drop p)
-
-  pub each-drop : (i : ℕ) (xs : List A) → Each P xs → Each P (drop i xs)
-  each-drop i xs p = each-back (take i xs) (drop i xs) (rw take-append-drop p)
-
-  pub each-at : (xs : List A) (i : ℕ) (d : A) → i < length xs → Each P xs → P (getD xs i d)
-  each-at [] i d h p = absurd (not-suc-le-zero h)
-  each-at (x ∷ xs) zero d h p = p .0
-  each-at (x ∷ xs) (suc i) d h p = each-at xs i d (le-of-suc-le-suc h) (p .1)
-
-  pub each-inserted : (i : ℕ) (x : A) (xs : List A) → P x → Each P xs → Each P (insertedAt i x xs)
-  unfolding insertedAt
-  each-inserted i x xs p q = each-append (take i xs) (x ∷ drop i xs) (each-take i xs q) (p, each-drop i xs q)
-
-  pub each-removed : (i : ℕ) (xs : List A) → Each P xs → Each P (removedAt i xs)
-  unfolding removedAt
-  each-removed i xs q = each-append (take i xs) (drop (i + 1) xs) (each-take i xs q) (each-drop (i + 1) xs q)
-
-pub each-map : {A : Type 0} (P Q : A → Type 0) → ((x : A) → P x → Q x) → (xs : List A) → Each P xs → Each Q xs
-each-map P Q f [] p = tt
-each-map P Q f (x ∷ xs) p = (f x (p .0), each-map P Q f xs (p .1))
 
 -- each entry is `width` bytes long
 abbrev pub Wide : ℕ → List (List ℕ) → Type 0
@@ -257,6 +219,14 @@ module _ (width m n : ℕ) (bytes : List ℕ) where
       replaced-more width m (entries width m bytes ++ entries width n new) bytes (omega arith)
       ∙ rw (l, joined-append (entries width m bytes) (entries width n new), joined-entries width m bytes, joined-entries width n new, t) (simp append-assoc)
 
+-- an entry written behind the first n
+pub entries-then : (width n : ℕ) (e s : List ℕ) → length e ≡ width → n * width + width ≤ length s
+    → entries width (n + 1) (overwritten (n * width) e s) ≡ entries width n s ++ (e ∷ [])
+unfolding overwritten
+entries-then width n e s l h =
+    let k : length (take (n * width) s) ≡ n * width = length-take-le (n * width) s (omega arith) in
+    rw (entries-cut width n 1 (take (n * width) s) (e ++ drop (n * width + length e) s) k, entries-take width n (n * width) s (omega arith) (omega arith), entries-cons width 0 e (drop (n * width + length e) s) l)
+
 -- ---- a field, some bytes of an entry
 
 pub entry-field : (width i at size : ℕ) (bytes : List ℕ) → at + size ≤ width → take size (drop at (entry width i bytes)) ≡ take size (drop (i * width + at) bytes)
@@ -299,3 +269,45 @@ module _ (width count i : ℕ) (bytes : List ℕ) (h : i < count) where
       let a : i * width + width ≤ count * width = omega (arith, mul-le-mul-right width h) in
       let n : length (entry width i bytes) ≡ width = length-entry width i bytes (omega arith) in
       overwritten-within (i * width) width at new bytes l (omega arith) ∙ replaced-set (overwritten at new (entry width i bytes)) (length-overwritten at new (entry width i bytes) (omega arith) ∙ n)
+
+-- ---- two replacements in a row are one, unless the first reached past both tables
+
+freed-again : (width count one two : ℕ) (bytes : List ℕ) → one ≤ count → two ≤ count
+    → zeros ((one - two) * width) ++ drop ((two - one) * width) (zeros ((count - one) * width) ++ drop (count * width) bytes)
+    ≡ zeros ((count - two) * width) ++ drop (count * width) bytes
+freed-again width count one two bytes a b =
+    let s : count - one ≡ (two - one) + (count - max one two) = omega arith in
+    let t : (one - two) + (count - max one two) ≡ count - two = omega arith in
+    let p : (count - one) * width ≡ (two - one) * width + (count - max one two) * width = ap (λ (n : ℕ). n * width) s ∙ add-mul (two - one) (count - max one two) width in
+    let q : (one - two) * width + (count - max one two) * width ≡ (count - two) * width = sym (add-mul (one - two) (count - max one two) width) ∙ ap (λ (n : ℕ). n * width) t in
+    let r : (count - one) * width - (two - one) * width ≡ (count - max one two) * width = omega arith in
+    let l : (two - one) * width ≤ length (zeros ((count - one) * width)) = rw length-zeros (omega arith) in
+    rw (drop-append-le ((two - one) * width) (zeros ((count - one) * width)) (drop (count * width) bytes) l, drop-zeros, r, ← append-assoc, zeros-append, q)
+
+as-bytes : (width count : ℕ) (new : List (List ℕ)) (bytes : List ℕ)
+    → replaced width count new bytes ≡ joined new ++ (zeros ((count - length new) * width) ++ drop (max count (length new) * width) bytes)
+unfolding replaced
+as-bytes width count new bytes = refl
+
+module _ (width count : ℕ) (one two : List (List ℕ)) (bytes : List ℕ) (wide : Wide width one) where
+  again-fewer : length one ≤ count → length two ≤ count → replaced width (length one) two (replaced width count one bytes) ≡ replaced width count two bytes
+  again-fewer a b =
+      let m : max count (length one) ≡ count = omega arith in
+      let s : max (length one) (length two) ≡ length one + (length two - length one) = omega arith in
+      let p : max (length one) (length two) * width ≡ length one * width + (length two - length one) * width = ap (λ (n : ℕ). n * width) s ∙ add-mul (length one) (length two - length one) width in
+      as-bytes width (length one) two (replaced width count one bytes)
+      ∙ rw (p, ← drop-drop ((length two - length one) * width) (length one * width) (replaced width count one bytes), drop-new width count one bytes wide, m, freed-again width count (length one) (length two) bytes a b)
+      (sym (replaced-fewer width count two bytes b))
+
+  pub replaced-again : length one ≤ max count (length two) → replaced width (length one) two (replaced width count one bytes) ≡ replaced width count two bytes
+  replaced-again h = go (leb (length two) count) refl
+    where
+      go : (t : Bool) → leb (length two) count ≡ t → replaced width (length one) two (replaced width count one bytes) ≡ replaced width count two bytes
+      go true e =
+          let b : length two ≤ count = leb-true (length two) count e in
+          again-fewer (omega arith) b
+      go false e =
+          let b : count < length two = leb-false (length two) count e in
+          let m : max count (length one) * width ≤ length two * width = mul-le-mul-right width (omega arith) in
+          replaced-more width (length one) two (replaced width count one bytes) (omega arith)
+          ∙ rw (drop-replaced width count one bytes wide (length two * width) m) (sym (replaced-more width count two bytes (omega arith)))

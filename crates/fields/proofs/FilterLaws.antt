@@ -1,16 +1,16 @@
 -- Lists cut down by a test or by marks.
-use Prim.Native.Nat.{ℕ, zero, suc, _+_, _-_, _*_, _≤_, _<_}
-use mathlib.Core.Path.{_≡_, refl, sym, ap, _∙_}
-use mathlib.Core.Bool.{Bool, true, false, not, _&&_, cond}
+use Prim.Native.Nat.{ℕ, suc, _+_, _≤_, _<_}
+use mathlib.Core.Path.{_≡_, refl, ap}
+use mathlib.Core.Bool.{Bool, true, false, cond}
 use mathlib.Core.List.{List, [], _∷_, _++_, map}
 use native.Mathlib.Nat.{lt-irrefl}
 use native.Mathlib.Numerals.{add-one}
 use native.Mathlib.Omega.{arith}
 use lib.Dec.{eqb}
-use lib.ListN.{length, take, drop, getD, length-append}
-use lib.Seq.{drop-cons, drop-length}
+use lib.ListN.{length, drop, getD}
+use lib.Seq.{drop-cons}
 use Rattle.fields.specs.Filter.{consIf, kept, marked}
-use Rattle.fields.proofs.EntriesLaws.{Each}
+use Rattle.fields.proofs.EachLaws.{Each}
 
 module _ {ℓ} {A : Type ℓ} where
   length-consIf : (t : Bool) (x : A) (xs : List A) → length (consIf t x xs) ≤ suc (length xs)

@@ -1,18 +1,19 @@
 -- Tables whose keys rise: by index, and after an edit.
 use Prim.Native.Nat.{ℕ, zero, suc, _+_, _-_, _*_, _≤_, _<_}
-use mathlib.Core.Path.{_≡_, refl, sym, ap, _∙_}
+use mathlib.Core.Path.{_≡_, refl, _∙_}
 use mathlib.Core.Bool.{Bool, true, false, _&&_}
 use mathlib.Core.List.{List, [], _∷_, _++_}
 use native.Mathlib.Nat.{not-suc-le-zero, le-of-suc-le-suc, lt-irrefl}
 use native.Mathlib.Numerals.{add-one}
 use native.Mathlib.Omega.{arith}
 use lib.ListN.{length, take, drop, getD, length-drop}
-use lib.Seq.{drop-cons, getD-drop}
+use lib.Seq.{drop-cons}
 use Rattle.fields.specs.Order.{before}
 use Rattle.fields.specs.Entries.{entries, rising, insertedAt, removedAt}
 use Rattle.fields.specs.Filter.{consIf, kept, marked}
 use Rattle.fields.proofs.OrderLaws.{and-left, and-right, before-transitive}
-use Rattle.fields.proofs.EntriesLaws.{length-entries, entries-at, entry-front, Each, each-at, each-map, each-inserted, each-removed}
+use Rattle.fields.proofs.EachLaws.{Each, each-at, each-map, each-inserted, each-removed}
+use Rattle.fields.proofs.EntriesLaws.{length-entries, entries-at, entry-front}
 use Rattle.fields.proofs.FilterLaws.{each-kept, each-marked}
 use lib.Dec.{eqb}
 
@@ -138,6 +139,6 @@ rising-pair width count size i table p h l =
     let e : suc (i - 1) ≡ i = omega arith in
     let a : suc (i - 1) < length (entries width count table) = rw length-entries (omega arith) in
     let n : rising size (drop (i - 1) (entries width count table))
-        ≡ before (take size (getD (entries width count table) (i - 1) [])) (take size (getD (entries width count table) i [])) && rising size (drop i (entries width count table)) =
+    ≡ before (take size (getD (entries width count table) (i - 1) [])) (take size (getD (entries width count table) i [])) && rising size (drop i (entries width count table)) =
     rw e at (rising-next size (entries width count table) (i - 1) a) in
     n ∙ rw (entries-at width count (i - 1) table (omega arith), entries-at width count i table h, entry-front width (i - 1) size table l, entry-front width i size table l)

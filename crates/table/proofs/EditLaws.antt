@@ -1,11 +1,11 @@
 -- What the moves and writes of an edit make of a table.
-use Prim.Native.Nat.{ℕ, zero, suc, _+_, _-_, _*_, _≤_, _<_}
-use mathlib.Core.Path.{_≡_, refl, sym, ap, _∙_}
-use mathlib.Core.List.{List, [], _∷_, _++_, append-assoc}
+use Prim.Native.Nat.{ℕ, suc, _+_, _-_, _*_, _≤_, _<_}
+use mathlib.Core.Path.{_≡_, sym, ap, _∙_}
+use mathlib.Core.List.{List, _++_, append-assoc}
 use native.Mathlib.Omega.{arith}
-use lib.ListN.{length, take, drop, length-drop, length-replicate}
-use lib.Seq.{length-take-le}
+use lib.ListN.{length, take, drop}
 use Rattle.fields.specs.Zero.{zeros}
+use Rattle.fields.proofs.ZeroLaws.{length-zeros}
 use Rattle.fields.specs.Overwrite.{overwritten}
 use Rattle.fields.specs.Entries.{entries, joined, insertedAt, removedAt, replaced}
 use Rattle.fields.proofs.OverwriteLaws.{take-before, take-through, drop-from, drop-after}
@@ -54,7 +54,7 @@ unfolding moved overwritten
 removed-at width m n d x y h p q =
     let b : List ℕ = take (n * width) (drop (m * width + width) d) in
     let lb : length b ≡ n * width = length-part (m * width + width) (n * width) d (omega arith) in
-    let lz : length (zeros width) ≡ width = length-replicate width 0 in
+    let lz : length (zeros width) ≡ width = length-zeros width in
     let f : take (m * width + n * width) (overwritten (m * width) b d) ≡ take (m * width) d ++ b =
     ap (λ (k : ℕ). take (m * width + k) (overwritten (m * width) b d)) (sym lb) ∙ take-through (m * width) b d (omega arith) in
     let z : m * width + n * width + width ≡ (m + suc n) * width = omega arith in
@@ -83,7 +83,7 @@ unfolding overwritten
 cut-down width count left new d x y a h p r q =
     let l : left ≡ length new = sym (length-entries width left x) ∙ ap length p in
     let j : take (left * width) x ≡ joined new = sym (joined-entries width left x) ∙ ap joined p in
-    let lz : length (zeros ((count - left) * width)) ≡ (count - left) * width = length-replicate ((count - left) * width) 0 in
+    let lz : length (zeros ((count - left) * width)) ≡ (count - left) * width = length-zeros ((count - left) * width) in
     let z : left * width + (count - left) * width ≡ count * width = bytes-from width count left a in
     let e : replaced width count new d ≡ joined new ++ (zeros ((count - left) * width) ++ drop (count * width) d) = rw l (replaced-fewer width count new d (omega arith)) in
     (l, q ∙ rw (lz, z, j, r) (sym e))

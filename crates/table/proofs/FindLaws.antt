@@ -1,9 +1,9 @@
 -- A search of a table whose keys rise: how it goes, and what its answer means.
 use Prim.Native.Nat.{ℕ, zero, suc, _+_, _-_, _*_, _≤_, _<_}
-use mathlib.Core.Path.{_≡_, refl, sym, ap, _∙_}
+use mathlib.Core.Path.{_≡_, refl, _∙_}
 use mathlib.Core.Bool.{Bool, true, false, cond}
-use mathlib.Core.Logic.{_⊎_, inl, inr, ⊎-elim}
-use mathlib.Core.List.{List, [], _∷_, _++_}
+use mathlib.Core.Logic.{⊎-elim}
+use mathlib.Core.List.{List, [], _∷_}
 use native.Mathlib.Nat.{eq-or-lt-of-le, lt-irrefl, not-suc-le-zero, le-of-suc-le-suc}
 use native.Mathlib.Numerals.{add-one}
 use native.Mathlib.Omega.{arith}
@@ -14,8 +14,8 @@ use lib.Seq.{drop-cons, take-length}
 use Rattle.fields.specs.Order.{before, same}
 use Rattle.fields.specs.Entries.{entries, entry, rising, insertedAt}
 use Rattle.fields.proofs.OrderLaws.{same-eq, same-refl, same-sym, before-irreflexive, before-transitive, before-not-same, before-or-same}
-use Rattle.fields.proofs.EntriesLaws.{length-entries, entries-at, entry-front}
-use Rattle.fields.proofs.RisingLaws.{KeyBefore, rising-at, rising-inserted}
+use Rattle.fields.proofs.EntriesLaws.{entries-at, entry-front}
+use Rattle.fields.proofs.RisingLaws.{rising-at, rising-inserted}
 use Rattle.table.specs.Find.{found}
 use Rattle.table.specs.declared.find.Found.{Found}
 use Rattle.table.specs.declared.find.Found.the-variants.{At, Gap}
@@ -91,6 +91,7 @@ module _ (key : List ℕ) where
       here p =
           let z : k - k ≡ 0 = omega arith in
           rw z (record { inside = omega arith; below = λ j l. absurd (not-suc-le-zero l); stops = λ l. p })
+
       go : (b s : Bool) → before (take (length key) e) key ≡ b → (k + 1 ≤ indexOf (found key (k + 1) es)) × Stop key es (indexOf (found key (k + 1) es) - (k + 1))
           → (k ≤ indexOf (cond b (found key (k + 1) es) (cond s (At k) (Gap k)))) × Stop key (e ∷ es) (indexOf (cond b (found key (k + 1) es) (cond s (At k) (Gap k))) - k)
       go true s p w =

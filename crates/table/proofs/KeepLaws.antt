@@ -1,19 +1,19 @@
 -- One pass that keeps the marked entries.
-use Prim.Native.Nat.{ℕ, zero, suc, _+_, _-_, _*_, _≤_, _<_}
+use Prim.Native.Nat.{ℕ, _+_, _-_, _*_, _≤_, _<_}
 use mathlib.Core.Path.{_≡_, refl, sym, ap, _∙_}
-use mathlib.Core.Bool.{Bool, true, false}
+use mathlib.Core.Bool.{true, false}
 use mathlib.Core.List.{List, [], _∷_, _++_, append-assoc, append-nil}
 use native.Mathlib.Nat.{mul-le-mul-right}
 use native.Mathlib.Omega.{arith}
 use lib.Dec.{eqb}
 use lib.ListN.{length, take, drop, getD, drop-of-length-le}
-use lib.Seq.{drop-drop, length-take-le}
+use lib.Seq.{drop-drop}
 use Rattle.fields.specs.Overwrite.{overwritten}
 use Rattle.fields.specs.Entries.{entries, entry, replaced}
 use Rattle.fields.specs.Filter.{marked, consIf}
 use Rattle.fields.specs.Zero.{zeros}
-use Rattle.fields.proofs.OverwriteLaws.{length-overwritten, take-through, drop-after, overwritten-same}
-use Rattle.fields.proofs.EntriesLaws.{length-entries, length-entry, entries-at, entries-cut, entries-take, entries-cons}
+use Rattle.fields.proofs.OverwriteLaws.{length-overwritten, drop-after, overwritten-same}
+use Rattle.fields.proofs.EntriesLaws.{length-entries, length-entry, entries-at, entries-then}
 use Rattle.fields.proofs.FilterLaws.{marked-next, marked-end}
 use Rattle.table.specs.Move.{moved}
 use Rattle.table.proofs.EditLaws.{cut-down}
@@ -27,14 +27,6 @@ module _ (width from to : ℕ) (s : List ℕ) where
   pub entry-stays : from ≡ to → from * width + width ≤ length s → s ≡ overwritten (to * width) (entry width from s) s
   unfolding entry
   entry-stays e h = rw (← e) (sym (overwritten-same (from * width) width s h))
-
--- an entry written behind the first n
-pub entries-then : (width n : ℕ) (e s : List ℕ) → length e ≡ width → n * width + width ≤ length s
-    → entries width (n + 1) (overwritten (n * width) e s) ≡ entries width n s ++ (e ∷ [])
-unfolding overwritten
-entries-then width n e s l h =
-    let k : length (take (n * width) s) ≡ n * width = length-take-le (n * width) s (omega arith) in
-    rw (entries-cut width n 1 (take (n * width) s) (e ++ drop (n * width + length e) s) k, entries-take width n (n * width) s (omega arith) (omega arith), entries-cons width 0 e (drop (n * width + length e) s) l)
 
 -- The pass at entry i of the table d: t is the table as it is, of which the first `left` entries are kept.
 pub record Keeping (width count : ℕ) (marks d t : List ℕ) (left i : ℕ) : Type 0 where

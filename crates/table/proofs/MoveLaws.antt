@@ -1,16 +1,15 @@
 -- Bytes moved within others: a move in two parts, either way.
-use Prim.Native.Nat.{ℕ, zero, suc, _+_, _-_, _*_, _≤_, _<_}
-use mathlib.Core.Path.{_≡_, refl, sym, ap, _∙_}
-use mathlib.Core.List.{List, [], _∷_, _++_, append-assoc}
-use native.Mathlib.Nat.{add-zero}
+use Prim.Native.Nat.{ℕ, _+_, _-_, _≤_}
+use mathlib.Core.Path.{_≡_, _∙_}
+use mathlib.Core.List.{List, _++_}
 use native.Mathlib.Omega.{arith}
-use lib.ListN.{length, take, drop, getD, length-append, length-drop}
+use lib.ListN.{length, take, drop, length-drop}
 use lib.Seq.{take-add, drop-drop, length-take-le}
 use borrow.Rule.Slice.PartMut.{putMid}
 use Rattle.fields.specs.Number.{fromBe, toBe}
 use Rattle.fields.specs.Overwrite.{overwritten}
 use Rattle.fields.proofs.NumberLaws.{Bytes, bytes-take, bytes-drop, toBe-fromBe}
-use Rattle.fields.proofs.OverwriteLaws.{overwritten-nil, overwritten-next, overwritten-in-front, overwritten-same, length-overwritten, take-before, drop-from, drop-after, part-before}
+use Rattle.fields.proofs.OverwriteLaws.{overwritten-nil, overwritten-next, overwritten-in-front, overwritten-same, length-overwritten, drop-after, part-before}
 use Rattle.table.specs.Move.{moved}
 
 pub length-part : (from size : ℕ) (s : List ℕ) → from + size ≤ length s → length (take size (drop from s)) ≡ size

@@ -1,29 +1,18 @@
-use Rattle.table.proofs.EditLaws.{appended}
+-- What is written behind the last entry is a replacement: `appended`.
 use borrow.Author.Needs.{needs}
-use native.Mathlib.Omega.{arith}
-use Prim.Native.Nat.{ℕ, suc, _+_, _-_, _*_, _≤_, _<_}
-use mathlib.Core.Path.{_≡_, refl, sym, ap, _∙_}
-use mathlib.Core.List.{List, [], _∷_, _++_}
-use lib.ListN.{length, take, drop, getD, set}
+use Rattle.table.proofs.EditLaws.{appended}
 use Rattle.table.proofs.edit.append.Statement.{statement}
 use Rattle.table.proofs.edit.append.Tie as tie
-use Rattle.table.proofs.edit.append.Reads as reads
-use Rattle.table.proofs.edit.append.Lts as lts
-use Rattle.table.proofs.moves.overwrite.Reads as overwrite-reads
 
--- src/edit.rt:35:36
 mul-overwrite : tie.Need-mul-overwrite
 mul-overwrite c = search needs
 
--- src/edit.rt:35:5
 overwrite-requires : tie.Need-overwrite-requires
 overwrite-requires c κs = search needs
 
--- src/edit.rt:31:1
 same-length : tie.Need-same-length
 same-length c = search needs
 
--- src/edit.rt:31:1
 returns : tie.Need-returns
 returns c = let s = c .before .before .before .before .before .before in
     let a = s .args in

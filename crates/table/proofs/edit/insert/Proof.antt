@@ -1,46 +1,31 @@
-use Rattle.table.proofs.EditLaws.{bytes-from, inserted}
-use borrow.Author.Needs.{needs}
+-- The entries moved up and the new one written are one replacement: `inserted`.
 use native.Mathlib.Omega.{arith}
-use Prim.Native.Nat.{ℕ, suc, _+_, _-_, _*_, _≤_, _<_}
-use mathlib.Core.Path.{_≡_, refl, sym, ap, _∙_}
-use mathlib.Core.List.{List, [], _∷_, _++_}
-use lib.ListN.{length, take, drop, getD, set}
+use borrow.Author.Needs.{needs}
+use Rattle.table.proofs.EditLaws.{bytes-from, inserted}
 use Rattle.table.proofs.edit.insert.Statement.{statement}
 use Rattle.table.proofs.edit.insert.Tie as tie
-use Rattle.table.proofs.edit.insert.Reads as reads
-use Rattle.table.proofs.edit.insert.Lts as lts
-use Rattle.table.proofs.moves.move_up.Reads as move-up-reads
-use Rattle.table.proofs.moves.overwrite.Reads as overwrite-reads
 
--- src/edit.rt:13:17
 mul-place : tie.Need-mul-place
 mul-place c = let s = c .before .before in omega (arith, bytes-from (s .args .width) (s .args .count) (s .args .at) (s .pre .0))
 
--- src/edit.rt:14:17
 sub-size : tie.Need-sub-size
 sub-size c = search needs
 
--- src/edit.rt:14:16
 mul-size : tie.Need-mul-size
 mul-size c = let s = c .before .before in omega (arith, bytes-from (s .args .width) (s .args .count) (s .args .at) (s .pre .0))
 
--- src/edit.rt:15:41
 add-move-up : tie.Need-add-move-up
 add-move-up c = let s = c .before .before .before in omega (arith, bytes-from (s .args .width) (s .args .count) (s .args .at) (s .pre .0))
 
--- src/edit.rt:15:5
 move-up-requires : tie.Need-move-up-requires
 move-up-requires c κs = let s = c .before .before .before in omega (arith, bytes-from (s .args .width) (s .args .count) (s .args .at) (s .pre .0))
 
--- src/edit.rt:16:5
 overwrite-requires : tie.Need-overwrite-requires
 overwrite-requires c κs = let s = c .before .before .before .before .before .before .before in omega (arith, bytes-from (s .args .width) (s .args .count) (s .args .at) (s .pre .0))
 
--- src/edit.rt:9:1
 same-length : tie.Need-same-length
 same-length c = search needs
 
--- src/edit.rt:9:1
 returns : tie.Need-returns
 returns c = let s = c .before .before .before .before .before .before .before .before .before .before in
     let a = s .args in

@@ -1,20 +1,16 @@
+-- The loop: the keys below `lo` come before the key, and that of `hi` does not.
+use Prim.Native.Nat.{ℕ, suc, _+_, _-_, _/_, _≤_, _<_}
 use mathlib.Core.Bool.{true, false}
+use mathlib.Core.Path.{_≡_, sym, _∙_}
+use mathlib.Core.List.{List}
 use native.Mathlib.Nat.{mul-le-mul-right, lt-irrefl}
+use native.Mathlib.Omega.{arith}
+use borrow.Author.Needs.{needs}
 use Rattle.fields.specs.Entries.{entries}
 use Rattle.fields.proofs.EntriesLaws.{length-entries}
 use Rattle.table.proofs.FindLaws.{Below, below-falls, compared-before, compared-same, found-at, found-gap, found-end}
-use borrow.Author.Needs.{needs}
-use native.Mathlib.Omega.{arith}
-use Prim.Native.Nat.{ℕ, suc, _+_, _-_, _*_, _/_, _≤_, _<_}
-use mathlib.Core.Path.{_≡_, refl, sym, ap, _∙_}
-use mathlib.Core.List.{List, [], _∷_, _++_}
-use lib.ListN.{length, take, drop, getD, set}
 use Rattle.table.proofs.find.find.Statement.{statement}
 use Rattle.table.proofs.find.find.Tie as tie
-use Rattle.table.proofs.find.find.Reads as reads
-use Rattle.table.proofs.find.find.Lts as lts
-use Rattle.keys.proofs.run_before.Reads as run-before-reads
-use Rattle.keys.proofs.run_same.Reads as run-same-reads
 
 abbrev Inv-loop : tie.InvT-loop
 Inv-loop table width count key size lo₀ hi₀ lo hi =
@@ -23,41 +19,33 @@ Inv-loop table width count key size lo₀ hi₀ lo hi =
 abbrev μ-loop : tie.MeasureT-loop
 μ-loop table width count key size lo₀ hi₀ lo hi = hi - lo
 
--- src/find.rt:24:5
 loop-holds : tie.Need-loop-holds Inv-loop μ-loop
 loop-holds c = (omega arith, (omega arith, ((λ j h. absurd (lt-irrefl 0 (omega arith))), (λ h. absurd (lt-irrefl 0 (omega arith))))))
 
--- src/find.rt:25:25
 sub-mid : tie.Need-sub-mid Inv-loop μ-loop
 sub-mid c = search needs
 
--- src/find.rt:25:19
 add-mid : tie.Need-add-mid Inv-loop μ-loop
 add-mid c = search needs
 
--- src/find.rt:26:36
 mul-run-before : tie.Need-mul-run-before Inv-loop μ-loop
 mul-run-before c = let l = c .before in
     let s = c .before .before .before .before in
     let m : suc (l .loop .lo + (l .loop .hi - l .loop .lo) / 2) ≤ s .args .count = omega arith in
     omega (arith, mul-le-mul-right (s .args .width) m)
 
--- src/find.rt:26:12
 run-before-requires : tie.Need-run-before-requires Inv-loop μ-loop
 run-before-requires c κs = let l = c .before in
     let s = c .before .before .before .before in
     let m : suc (l .loop .lo + (l .loop .hi - l .loop .lo) / 2) ≤ s .args .count = omega arith in
     omega (arith, mul-le-mul-right (s .args .width) m)
 
--- src/find.rt:27:18
 add-lo : tie.Need-add-lo Inv-loop μ-loop
 add-lo c = search needs
 
--- src/find.rt:24:5
 loop-less : tie.Need-loop-less Inv-loop μ-loop
 loop-less c = search needs
 
--- src/find.rt:24:5
 loop-again : tie.Need-loop-again Inv-loop μ-loop
 loop-again c = let l = c .before .before .before in
     let s = c .before .before .before .before .before .before in
@@ -70,11 +58,9 @@ loop-again c = let l = c .before .before .before in
       (omega arith, (below-falls (a .key .now) es (s .pre .1) m (rw length-entries h) b, l .loop .inv .1 .1 .1)),
     )
 
--- src/find.rt:24:5
 loop-less-2 : tie.Need-loop-less-2 Inv-loop μ-loop
 loop-less-2 c = search needs
 
--- src/find.rt:24:5
 loop-again-2 : tie.Need-loop-again-2 Inv-loop μ-loop
 loop-again-2 c = let l = c .before .before .before in
     let s = c .before .before .before .before .before .before in
@@ -87,15 +73,12 @@ loop-again-2 c = let l = c .before .before .before in
       ),
     )
 
--- src/find.rt:33:34
 mul-run-same : tie.Need-mul-run-same Inv-loop μ-loop
 mul-run-same c = let s = c .before .before .before .before .before in omega (arith, mul-le-mul-right (s .args .width) (c .if2 .taken))
 
--- src/find.rt:33:12
 run-same-requires : tie.Need-run-same-requires Inv-loop μ-loop
 run-same-requires c κs = let s = c .before .before .before .before .before in omega (arith, mul-le-mul-right (s .args .width) (c .if2 .taken))
 
--- src/find.rt:34:13
 returns : tie.Need-returns Inv-loop μ-loop
 returns c = let l = c .before .before .before .before in
     let s = c .before .before .before .before .before .before .before in
@@ -105,7 +88,6 @@ returns c = let l = c .before .before .before .before in
     sym (found-at (a .key .now) (entries (a .width) (a .count) (a .table .now)) (l .loop .lo) (rw length-entries h) (l .loop .inv .1 .1 .0) (rw e at (l .loop .inv .1 .1 .1 (omega arith)))
     (compared-same (a .key .now) (a .table .now) (a .width) (a .count) (l .loop .lo) h (s .pre .0 .0) true (sym (c .before .run-same .ensures) ∙ c .if3 .taken)))
 
--- src/find.rt:16:1
 returns-2 : tie.Need-returns-2 Inv-loop μ-loop
 returns-2 c = let l = c .before .before .before .before in
     let s = c .before .before .before .before .before .before .before in
@@ -115,7 +97,6 @@ returns-2 c = let l = c .before .before .before .before in
     sym (found-gap (a .key .now) (entries (a .width) (a .count) (a .table .now)) (l .loop .lo) (rw length-entries h) (l .loop .inv .1 .1 .0) (rw e at (l .loop .inv .1 .1 .1 (omega arith)))
     (compared-same (a .key .now) (a .table .now) (a .width) (a .count) (l .loop .lo) h (s .pre .0 .0) false (sym (c .before .run-same .ensures) ∙ c .if3 .left)))
 
--- src/find.rt:16:1
 returns-3 : tie.Need-returns-3 Inv-loop μ-loop
 returns-3 c = let l = c .before .before in
     let s = c .before .before .before .before .before in

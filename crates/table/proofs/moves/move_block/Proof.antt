@@ -1,78 +1,55 @@
-use Rattle.table.proofs.MoveLaws.{moved-block}
-use borrow.Author.Needs.{needs}
+-- Four words, all read before the first is written: `moved-block`.
 use native.Mathlib.Omega.{arith}
-use Prim.Native.Nat.{ℕ, suc, _+_, _-_, _*_, _≤_, _<_}
-use mathlib.Core.Path.{_≡_, refl, sym, ap, _∙_}
-use mathlib.Core.List.{List, [], _∷_, _++_}
-use lib.ListN.{length, take, drop, getD, set}
+use borrow.Author.Needs.{needs}
+use Rattle.table.proofs.MoveLaws.{moved-block}
 use Rattle.table.proofs.moves.move_block.Statement.{statement}
 use Rattle.table.proofs.moves.move_block.Tie as tie
-use Rattle.table.proofs.moves.move_block.Reads as reads
-use Rattle.table.proofs.moves.move_block.Lts as lts
-use Rattle.fields.proofs.read_u64.Reads as read-u64-reads
-use Rattle.fields.proofs.write_u64.Reads as write-u64-reads
 
--- src/moves.rt:14:9
 read-u64-requires : tie.Need-read-u64-requires
 read-u64-requires c κs = search needs
 
--- src/moves.rt:15:33
 add-read-u64 : tie.Need-add-read-u64
 add-read-u64 c = search needs
 
--- src/moves.rt:15:9
 read-u64-requires-2 : tie.Need-read-u64-requires-2
 read-u64-requires-2 c κs = search needs
 
--- src/moves.rt:16:33
 add-read-u64-2 : tie.Need-add-read-u64-2
 add-read-u64-2 c = search needs
 
--- src/moves.rt:16:9
 read-u64-requires-3 : tie.Need-read-u64-requires-3
 read-u64-requires-3 c κs = search needs
 
--- src/moves.rt:17:33
 add-read-u64-3 : tie.Need-add-read-u64-3
 add-read-u64-3 c = search needs
 
--- src/moves.rt:17:9
 read-u64-requires-4 : tie.Need-read-u64-requires-4
 read-u64-requires-4 c κs = search needs
 
--- src/moves.rt:18:5
 write-u64-requires : tie.Need-write-u64-requires
 write-u64-requires c κs = search needs
 
--- src/moves.rt:19:26
 add-write-u64 : tie.Need-add-write-u64
 add-write-u64 c = search needs
 
--- src/moves.rt:19:5
 write-u64-requires-2 : tie.Need-write-u64-requires-2
 write-u64-requires-2 c κs = search needs
 
--- src/moves.rt:20:26
 add-write-u64-2 : tie.Need-add-write-u64-2
 add-write-u64-2 c = search needs
 
--- src/moves.rt:20:5
 write-u64-requires-3 : tie.Need-write-u64-requires-3
 write-u64-requires-3 c κs = search needs
 
--- src/moves.rt:21:26
 add-write-u64-3 : tie.Need-add-write-u64-3
 add-write-u64-3 c = search needs
 
--- src/moves.rt:21:5
 write-u64-requires-4 : tie.Need-write-u64-requires-4
 write-u64-requires-4 c κs = search needs
 
--- src/moves.rt:10:1
 same-length : tie.Need-same-length
 same-length c = search needs
 
--- src/moves.rt:10:1
 returns : tie.Need-returns
 returns c = let s = c .before .before .before .before .before .before .before .before .before .before .before .before .before .before .before .before .before .before .before .before .before .before .before .before .before .args in
     moved-block (s .from) (s .to) (c .before .before .before .before .before .before .before .before .before .before .before .before .before .before .before .before .before .before .before .before .before .before .read-u64 .result) (c .before .before .before .before .before .before .before .before .before .before .before .before .before .before .before .before .before .before .before .before .read-u642 .result) (c .before .before .before .before .before .before .before .before .before .before .before .before .before .before .before .before .before .before .read-u643 .result) (c .before .before .before .before .before .before .before .before .before .before .before .before .before .before .before .before .read-u644 .result) (s .s .now) (c .before .before .before .before .before .before .before .before .before .before .before .before .before .before .write-u64 .last .0) (c .before .before .before .before .before .before .before .before .before .before .write-u642 .last .0) (c .before .before .before .before .before .before .write-u643 .last .0) (c .before .before .write-u644 .last .0)

@@ -1,17 +1,14 @@
+-- Both loops: the first `done` bytes stand where they are to go. A turn is `down-turn`.
+use Prim.Native.Nat.{ℕ, _+_, _-_, _≤_}
+use mathlib.Core.Path.{_≡_, refl, sym}
+use mathlib.Core.List.{List}
+use native.Mathlib.Omega.{arith}
+use lib.ListN.{length}
+use borrow.Author.Needs.{needs}
 use Rattle.table.specs.Move.{moved}
 use Rattle.table.proofs.MoveLaws.{moved-none, down-turn, down-end}
-use borrow.Author.Needs.{needs}
-use native.Mathlib.Omega.{arith}
-use Prim.Native.Nat.{ℕ, suc, _+_, _-_, _*_, _≤_, _<_}
-use mathlib.Core.Path.{_≡_, refl, sym, ap, _∙_}
-use mathlib.Core.List.{List, [], _∷_, _++_}
-use lib.ListN.{length, take, drop, getD, set}
 use Rattle.table.proofs.moves.move_down.Statement.{statement}
 use Rattle.table.proofs.moves.move_down.Tie as tie
-use Rattle.table.proofs.moves.move_down.Reads as reads
-use Rattle.table.proofs.moves.move_down.Lts as lts
-use Rattle.table.proofs.moves.move_block.Reads as move-block-reads
-use Rattle.table.proofs.moves.move_word.Reads as move-word-reads
 
 abbrev Inv-loop : tie.InvT-loop
 Inv-loop s₀ from to size done₀ s done = (done ≤ size) × ((length s ≡ length s₀) × (s ≡ moved from to done s₀))
@@ -26,36 +23,28 @@ Inv-loop2 s₀ from to size done₀ s done =
 abbrev μ-loop2 : tie.MeasureT-loop2
 μ-loop2 s₀ from to size done₀ s done = size - done
 
--- src/moves.rt:55:5
 loop-holds : tie.Need-loop-holds Inv-loop μ-loop Inv-loop2 μ-loop2
 loop-holds c = let s = c .before .args in
     (omega arith, (refl, sym (moved-none (s .from) (s .to) (s .s .now))))
 
--- src/moves.rt:55:17
 sub-loop : tie.Need-sub-loop Inv-loop μ-loop Inv-loop2 μ-loop2
 sub-loop c = search needs
 
--- src/moves.rt:56:23
 add-move-block : tie.Need-add-move-block Inv-loop μ-loop Inv-loop2 μ-loop2
 add-move-block c = search needs
 
--- src/moves.rt:56:36
 add-move-block-2 : tie.Need-add-move-block-2 Inv-loop μ-loop Inv-loop2 μ-loop2
 add-move-block-2 c = search needs
 
--- src/moves.rt:56:9
 move-block-requires : tie.Need-move-block-requires Inv-loop μ-loop Inv-loop2 μ-loop2
 move-block-requires c κs = search needs
 
--- src/moves.rt:57:9
 add-done : tie.Need-add-done Inv-loop μ-loop Inv-loop2 μ-loop2
 add-done c = search needs
 
--- src/moves.rt:55:5
 loop-less : tie.Need-loop-less Inv-loop μ-loop Inv-loop2 μ-loop2
 loop-less c = search needs
 
--- src/moves.rt:55:5
 loop-again : tie.Need-loop-again Inv-loop μ-loop Inv-loop2 μ-loop2
 loop-again c = let l = c .before .before .before .before .before .loop in
     let s = c .before .before .before .before .before .before .before .args in (
@@ -66,35 +55,27 @@ loop-again c = let l = c .before .before .before .before .before .loop in
       ),
     )
 
--- src/moves.rt:59:5
 loop2-holds : tie.Need-loop2-holds Inv-loop μ-loop Inv-loop2 μ-loop2
 loop2-holds c = (omega arith, (refl, (λ d h e. e)))
 
--- src/moves.rt:59:16
 sub-loop2 : tie.Need-sub-loop2 Inv-loop μ-loop Inv-loop2 μ-loop2
 sub-loop2 c = search needs
 
--- src/moves.rt:60:22
 add-move-word : tie.Need-add-move-word Inv-loop μ-loop Inv-loop2 μ-loop2
 add-move-word c = search needs
 
--- src/moves.rt:60:35
 add-move-word-2 : tie.Need-add-move-word-2 Inv-loop μ-loop Inv-loop2 μ-loop2
 add-move-word-2 c = search needs
 
--- src/moves.rt:60:9
 move-word-requires : tie.Need-move-word-requires Inv-loop μ-loop Inv-loop2 μ-loop2
 move-word-requires c κs = search needs
 
--- src/moves.rt:61:9
 add-done-2 : tie.Need-add-done-2 Inv-loop μ-loop Inv-loop2 μ-loop2
 add-done-2 c = search needs
 
--- src/moves.rt:59:5
 loop2-less : tie.Need-loop2-less Inv-loop μ-loop Inv-loop2 μ-loop2
 loop2-less c = search needs
 
--- src/moves.rt:59:5
 loop2-again : tie.Need-loop2-again Inv-loop μ-loop Inv-loop2 μ-loop2
 loop2-again c = let l = c .before .before .before .before .before .loop2 in
     let s = c .before .before .before .before .before .before .before .before .before .args in (
@@ -105,27 +86,21 @@ loop2-again c = let l = c .before .before .before .before .before .loop2 in
       ),
     )
 
--- src/moves.rt:63:18
 add-move-word-3 : tie.Need-add-move-word-3 Inv-loop μ-loop Inv-loop2 μ-loop2
 add-move-word-3 c = search needs
 
--- src/moves.rt:63:31
 add-move-word-4 : tie.Need-add-move-word-4 Inv-loop μ-loop Inv-loop2 μ-loop2
 add-move-word-4 c = search needs
 
--- src/moves.rt:63:42
 sub-move-word : tie.Need-sub-move-word Inv-loop μ-loop Inv-loop2 μ-loop2
 sub-move-word c = search needs
 
--- src/moves.rt:63:5
 move-word-requires-2 : tie.Need-move-word-requires-2 Inv-loop μ-loop Inv-loop2 μ-loop2
 move-word-requires-2 c κs = search needs
 
--- src/moves.rt:50:1
 same-length : tie.Need-same-length Inv-loop μ-loop Inv-loop2 μ-loop2
 same-length c = search needs
 
--- src/moves.rt:50:1
 returns : tie.Need-returns Inv-loop μ-loop Inv-loop2 μ-loop2
 returns c = let l = c .before .before .before .before .before .loop2 in
     let s = c .before .before .before .before .before .before .before .before .before .args in

@@ -1,17 +1,14 @@
+-- Both loops: all but the first `left` bytes stand where they are to go. A turn is `up-turn`.
+use Prim.Native.Nat.{ℕ, _+_, _-_, _≤_}
+use mathlib.Core.Path.{_≡_, refl, sym}
+use mathlib.Core.List.{List}
+use native.Mathlib.Omega.{arith}
+use lib.ListN.{length}
+use borrow.Author.Needs.{needs}
 use Rattle.table.specs.Move.{moved}
 use Rattle.table.proofs.MoveLaws.{moved-none, up-turn, up-end}
-use borrow.Author.Needs.{needs}
-use native.Mathlib.Omega.{arith}
-use Prim.Native.Nat.{ℕ, suc, _+_, _-_, _*_, _≤_, _<_}
-use mathlib.Core.Path.{_≡_, refl, sym, ap, _∙_}
-use mathlib.Core.List.{List, [], _∷_, _++_}
-use lib.ListN.{length, take, drop, getD, set}
 use Rattle.table.proofs.moves.move_up.Statement.{statement}
 use Rattle.table.proofs.moves.move_up.Tie as tie
-use Rattle.table.proofs.moves.move_up.Reads as reads
-use Rattle.table.proofs.moves.move_up.Lts as lts
-use Rattle.table.proofs.moves.move_block.Reads as move-block-reads
-use Rattle.table.proofs.moves.move_word.Reads as move-word-reads
 
 abbrev Inv-loop : tie.InvT-loop
 Inv-loop s₀ from to size left₀ s left = (left ≤ size) × ((length s ≡ length s₀) × (s ≡ moved (from + left) (to + left) (size - left) s₀))
@@ -28,29 +25,23 @@ Inv-loop2 s₀ from to size left₀ s left =
 abbrev μ-loop2 : tie.MeasureT-loop2
 μ-loop2 s₀ from to size left₀ s left = left
 
--- src/moves.rt:38:5
 loop-holds : tie.Need-loop-holds Inv-loop μ-loop Inv-loop2 μ-loop2
 loop-holds c = let s = c .before .args in
     let e : s .size - s .size ≡ 0 = omega arith in
     (omega arith, (refl, rw e (sym (moved-none (s .from + s .size) (s .to + s .size) (s .s .now)))))
 
--- src/moves.rt:40:23
 add-move-block : tie.Need-add-move-block Inv-loop μ-loop Inv-loop2 μ-loop2
 add-move-block c = search needs
 
--- src/moves.rt:40:36
 add-move-block-2 : tie.Need-add-move-block-2 Inv-loop μ-loop Inv-loop2 μ-loop2
 add-move-block-2 c = search needs
 
--- src/moves.rt:40:9
 move-block-requires : tie.Need-move-block-requires Inv-loop μ-loop Inv-loop2 μ-loop2
 move-block-requires c κs = search needs
 
--- src/moves.rt:38:5
 loop-less : tie.Need-loop-less Inv-loop μ-loop Inv-loop2 μ-loop2
 loop-less c = search needs
 
--- src/moves.rt:38:5
 loop-again : tie.Need-loop-again Inv-loop μ-loop Inv-loop2 μ-loop2
 loop-again c = let l = c .before .before .before .before .before .loop in
     let s = c .before .before .before .before .before .before .before .args in (
@@ -61,27 +52,21 @@ loop-again c = let l = c .before .before .before .before .before .loop in
       ),
     )
 
--- src/moves.rt:42:5
 loop2-holds : tie.Need-loop2-holds Inv-loop μ-loop Inv-loop2 μ-loop2
 loop2-holds c = (omega arith, (refl, (λ d h e. e)))
 
--- src/moves.rt:44:22
 add-move-word : tie.Need-add-move-word Inv-loop μ-loop Inv-loop2 μ-loop2
 add-move-word c = search needs
 
--- src/moves.rt:44:35
 add-move-word-2 : tie.Need-add-move-word-2 Inv-loop μ-loop Inv-loop2 μ-loop2
 add-move-word-2 c = search needs
 
--- src/moves.rt:44:9
 move-word-requires : tie.Need-move-word-requires Inv-loop μ-loop Inv-loop2 μ-loop2
 move-word-requires c κs = search needs
 
--- src/moves.rt:42:5
 loop2-less : tie.Need-loop2-less Inv-loop μ-loop Inv-loop2 μ-loop2
 loop2-less c = search needs
 
--- src/moves.rt:42:5
 loop2-again : tie.Need-loop2-again Inv-loop μ-loop Inv-loop2 μ-loop2
 loop2-again c = let l = c .before .before .before .before .before .loop2 in
     let s = c .before .before .before .before .before .before .before .before .before .args in (
@@ -92,15 +77,12 @@ loop2-again c = let l = c .before .before .before .before .before .loop2 in
       ),
     )
 
--- src/moves.rt:46:5
 move-word-requires-2 : tie.Need-move-word-requires-2 Inv-loop μ-loop Inv-loop2 μ-loop2
 move-word-requires-2 c κs = search needs
 
--- src/moves.rt:33:1
 same-length : tie.Need-same-length Inv-loop μ-loop Inv-loop2 μ-loop2
 same-length c = search needs
 
--- src/moves.rt:33:1
 returns : tie.Need-returns Inv-loop μ-loop Inv-loop2 μ-loop2
 returns c = let l = c .before .before .before .before .before .loop2 in
     let s = c .before .before .before .before .before .before .before .before .before .args in

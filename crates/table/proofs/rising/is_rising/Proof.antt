@@ -1,20 +1,16 @@
-use mathlib.Core.Bool.{true, false}
+-- The loop: the answer for the whole table is that for the entries from i - 1 on.
+use Prim.Native.Nat.{_+_, _-_, _≤_, _<_}
+use mathlib.Core.Path.{_≡_, refl, sym, _∙_}
 use native.Mathlib.Nat.{mul-le-mul-right}
+use native.Mathlib.Omega.{arith}
+use lib.ListN.{drop}
 use borrow.Author.Tests.{not-true, not-false}
+use borrow.Author.Needs.{needs}
 use Rattle.fields.specs.Entries.{entries, rising}
 use Rattle.fields.proofs.EntriesLaws.{length-entries}
 use Rattle.fields.proofs.RisingLaws.{rising-pair, rising-end}
-use borrow.Author.Needs.{needs}
-use native.Mathlib.Omega.{arith}
-use Prim.Native.Nat.{ℕ, suc, _+_, _-_, _*_, _≤_, _<_}
-use mathlib.Core.Path.{_≡_, refl, sym, ap, _∙_}
-use mathlib.Core.List.{List, [], _∷_, _++_}
-use lib.ListN.{length, take, drop, getD, set}
 use Rattle.table.proofs.rising.is_rising.Statement.{statement}
 use Rattle.table.proofs.rising.is_rising.Tie as tie
-use Rattle.table.proofs.rising.is_rising.Reads as reads
-use Rattle.table.proofs.rising.is_rising.Lts as lts
-use Rattle.keys.proofs.run_before.Reads as run-before-reads
 
 abbrev Inv-loop : tie.InvT-loop
 Inv-loop table width count size i₀ i = (0 < i) × (rising size (entries width count table) ≡ rising size (drop (i - 1) (entries width count table)))
@@ -22,47 +18,38 @@ Inv-loop table width count size i₀ i = (0 < i) × (rising size (entries width 
 abbrev μ-loop : tie.MeasureT-loop
 μ-loop table width count size i₀ i = count - i
 
--- src/rising.rt:13:5
 loop-holds : tie.Need-loop-holds Inv-loop μ-loop
 loop-holds c = (omega arith, refl)
 
--- src/rising.rt:14:38
 sub-run-before : tie.Need-sub-run-before Inv-loop μ-loop
 sub-run-before c = search needs
 
--- src/rising.rt:14:37
 mul-run-before : tie.Need-mul-run-before Inv-loop μ-loop
 mul-run-before c = let w = c .before .before .before .args .width in
     let p : c .before .loop .i - 1 ≤ c .before .loop .i = omega arith in
     omega (arith, mul-le-mul-right w (c .loop-test .taken), mul-le-mul-right w p)
 
--- src/rising.rt:14:61
 mul-run-before-2 : tie.Need-mul-run-before-2 Inv-loop μ-loop
 mul-run-before-2 c = let w = c .before .before .before .args .width in
     omega (arith, mul-le-mul-right w (c .loop-test .taken))
 
--- src/rising.rt:14:13
 run-before-requires : tie.Need-run-before-requires Inv-loop μ-loop
 run-before-requires c κs = let w = c .before .before .before .args .width in
     let p : c .before .loop .i - 1 ≤ c .before .loop .i = omega arith in
     omega (arith, mul-le-mul-right w (c .loop-test .taken), mul-le-mul-right w p)
 
--- src/rising.rt:15:13
 returns : tie.Need-returns Inv-loop μ-loop
 returns c = let l = c .before .before .before in
     let s = c .before .before .before .before .before in
     let a = s .args in
     sym (l .loop .inv .1 ∙ rising-pair (a .width) (a .count) (a .size) (l .loop .i) (a .table .now) (omega arith) (omega arith) (s .pre .0) ∙ rw (sym (c .before .run-before .ensures) ∙ not-true _ (c .if1 .taken)))
 
--- src/rising.rt:17:9
 add-i : tie.Need-add-i Inv-loop μ-loop
 add-i c = search needs
 
--- src/rising.rt:13:5
 loop-less : tie.Need-loop-less Inv-loop μ-loop
 loop-less c = search needs
 
--- src/rising.rt:13:5
 loop-again : tie.Need-loop-again Inv-loop μ-loop
 loop-again c = let l = c .before .before .before in
     let s = c .before .before .before .before .before in
@@ -70,10 +57,9 @@ loop-again c = let l = c .before .before .before in
     let e : l .loop .i + 1 - 1 ≡ l .loop .i = omega arith in (
       omega arith,
       rw e
-      (l .loop .inv .1 ∙ rising-pair (a .width) (a .count) (a .size) (l .loop .i) (a .table .now) (omega arith) (omega arith) (s .pre .0) ∙ rw (sym (c .before .run-before .ensures) ∙ not-false _ (c .if1 .left))),
+          (l .loop .inv .1 ∙ rising-pair (a .width) (a .count) (a .size) (l .loop .i) (a .table .now) (omega arith) (omega arith) (s .pre .0) ∙ rw (sym (c .before .run-before .ensures) ∙ not-false _ (c .if1 .left))),
     )
 
--- src/rising.rt:8:1
 returns-2 : tie.Need-returns-2 Inv-loop μ-loop
 returns-2 c = let l = c .before in
     let a = c .before .before .before .args in
