@@ -1,15 +1,14 @@
 -- A fact of every element of a list.
-use Prim.Native.Nat.{ℕ, zero, suc, _<_}
+use Prim.Native.Nat.{ℕ, zero, suc, _+_, _<_}
 use mathlib.Core.Path.{_≡_, refl}
 use mathlib.Core.Bool.{Bool, true, false}
 use mathlib.Core.List.{List, [], _∷_, _++_}
 use native.Mathlib.Nat.{not-suc-le-zero, le-of-suc-le-suc}
-use lib.ListN.{length, getD}
-use Rattle.fields.specs.Filter.{consIf, kept}
-
-abbrev pub All {ℓ κ} : {A : Type ℓ} → (A → Type κ) → List A → Type κ
-All P [] = Unit
-All P (x ∷ xs) = P x × All P xs
+use lib.ListN.{length, take, drop, getD, set, take-append-drop}
+use lib.Dec.{eqb}
+use Rattle.fields.specs.Facts.{All}
+use Rattle.fields.specs.Entries.{insertedAt, removedAt}
+use Rattle.fields.specs.Filter.{consIf, kept, marked}
 
 module _ {ℓ κ} {A : Type ℓ} (P : A → Type κ) where
   pub all-append : (xs ys : List A) → All P xs → All P ys → All P (xs ++ ys)
@@ -29,6 +28,34 @@ module _ {ℓ κ} {A : Type ℓ} (P : A → Type κ) where
       go true q = (p .0, q)
       go false q = q
 
+  pub all-front : (xs ys : List A) → All P (xs ++ ys) → All P xs
+  all-front [] ys p = tt
+  all-front (x ∷ xs) ys p = (p .0, all-front xs ys (p .1))
+
+  pub all-back : (xs ys : List A) → All P (xs ++ ys) → All P ys
+  all-back [] ys p = p
+  all-back (x ∷ xs) ys p = all-back xs ys (p .1)
+
+  pub all-take : (i : ℕ) (xs : List A) → All P xs → All P (take i xs)
+  all-take i xs p = all-front (take i xs) (drop i xs) (rw take-append-drop p)
+
+  pub all-drop : (i : ℕ) (xs : List A) → All P xs → All P (drop i xs)
+  all-drop i xs p = all-back (take i xs) (drop i xs) (rw take-append-drop p)
+
+  pub all-set : (xs : List A) (i : ℕ) (x : A) → P x → All P xs → All P (set xs i x)
+  all-set [] i x p q = tt
+  all-set (y ∷ ys) zero x p q = (p, q .1)
+  all-set (y ∷ ys) (suc i) x p q = (q .0, all-set ys i x p (q .1))
+
+  pub all-marked : (marks : List ℕ) (xs : List A) → All P xs → All P (marked marks xs)
+  all-marked [] xs p = tt
+  all-marked (m ∷ ms) [] p = tt
+  all-marked (m ∷ ms) (x ∷ xs) p = go (eqb m 1) (all-marked ms xs (p .1))
+    where
+      go : (b : Bool) → All P (marked ms xs) → All P (consIf b x (marked ms xs))
+      go true q = (p .0, q)
+      go false q = q
+
 pub all-pass {ℓ} : {A : Type ℓ} (test : A → Bool) (xs : List A) → All (λ x. test x ≡ true) (kept test xs)
 all-pass test [] = tt
 all-pass test (x ∷ xs) = go (test x) refl (all-pass test xs)
@@ -40,3 +67,12 @@ all-pass test (x ∷ xs) = go (test x) refl (all-pass test xs)
 pub all-weaker {ℓ κ} : {A : Type ℓ} (P Q : A → Type κ) → ((x : A) → P x → Q x) → (xs : List A) → All P xs → All Q xs
 all-weaker P Q f [] p = tt
 all-weaker P Q f (x ∷ xs) p = (f x (p .0), all-weaker P Q f xs (p .1))
+
+module _ {A : Type 0} (P : A → Type 0) where
+  pub all-insertedAt : (i : ℕ) (x : A) (xs : List A) → P x → All P xs → All P (insertedAt i x xs)
+  unfolding insertedAt
+  all-insertedAt i x xs p q = all-append P (take i xs) (x ∷ drop i xs) (all-take P i xs q) (p, all-drop P i xs q)
+
+  pub all-removedAt : (i : ℕ) (xs : List A) → All P xs → All P (removedAt i xs)
+  unfolding removedAt
+  all-removedAt i xs q = all-append P (take i xs) (drop (i + 1) xs) (all-take P i xs q) (all-drop P (i + 1) xs q)

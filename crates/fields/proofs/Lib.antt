@@ -1,6 +1,9 @@
 pub mod NumberLaws
 pub mod OverwriteLaws
-pub mod OrderLaws
 pub mod ZeroLaws
+pub mod OrderLaws
 pub mod AllLaws
+pub mod EntriesLaws
+pub mod FilterLaws
+pub mod RisingLaws
 pub mod SortLaws

@@ -6,7 +6,7 @@ use native.Mathlib.Nat.{add-zero, zero-add, suc-add}
 use native.Mathlib.Numerals.{add-one}
 use native.Mathlib.Omega.{arith}
 use lib.ListN.{length, take, drop, getD, set, length-append, length-drop, take-append-drop, drop-of-length-le}
-use lib.Seq.{take-append-le, take-at, drop-at, getD-at, set-at, drop-drop, take-take, take-suc, drop-cons, length-take-le, getD-take, drop-append-add, take-nil, take-all, set-split}
+use lib.Seq.{take-append-le, drop-append-le, take-at, drop-at, getD-at, set-at, drop-drop, take-take, take-add, take-suc, drop-cons, length-take-le, getD-take, drop-append-add, take-nil, take-all, set-split}
 use Rattle.fields.specs.Number.{fromBe, toBe}
 use Rattle.fields.specs.Overwrite.{overwritten}
 use Rattle.fields.proofs.NumberLaws.{length-toBe, fromBe-toBe}
@@ -84,6 +84,27 @@ overwritten-next at a b s h =
     let l : at + length a ≤ length s = omega arith in
     let e : at + length (a ++ b) ≡ at + length a + length b = rw length-append (omega arith) in
     rw (take-through at a s l, drop-after at a s l (at + length a + length b) (omega arith), e) (simp append-assoc)
+
+pub overwritten-in-front : (at : ℕ) (a b s : List ℕ) → at + length a + length b ≤ length s
+    → overwritten at a (overwritten (at + length a) b s) ≡ overwritten at (a ++ b) s
+unfolding overwritten
+overwritten-in-front at a b s h =
+    let e : at + length (a ++ b) ≡ at + length a + length b = rw length-append (omega arith) in
+    rw (take-before (at + length a) b s h at (omega arith), drop-from (at + length a) b s h, e) (simp append-assoc)
+
+-- a write within `size` bytes is a write of those bytes
+pub overwritten-within : (at size i : ℕ) (new s : List ℕ) → i + length new ≤ size → at + size ≤ length s
+    → overwritten (at + i) new s ≡ overwritten at (overwritten i new (take size (drop at s))) s
+unfolding overwritten
+overwritten-within at size i new s h k =
+    let part : List ℕ = take size (drop at s) in
+    let l : length part ≡ size = length-take-le size (drop at s) (simp length-drop (omega arith)) in
+    let n : length (take i part ++ (new ++ drop (i + length new) part)) ≡ size = length-overwritten i new part (omega arith) ∙ l in
+    let e : at + (i + length new) ≡ at + i + length new = omega arith in
+    let b : drop (at + i + length new) s ≡ drop (i + length new) part ++ drop (at + size) s =
+    sym (ap (λ (j : ℕ). drop j s) e) ∙ sym (drop-drop (i + length new) at s) ∙ ap (drop (i + length new)) (sym (take-append-drop size (drop at s)))
+    ∙ drop-append-le (i + length new) part (drop size (drop at s)) (omega arith) ∙ rw drop-drop in
+    rw (take-add at i s, b, n, take-take i size (drop at s) (omega arith)) (simp append-assoc)
 
 -- a write over a write of the same length
 pub overwritten-again : (at : ℕ) (a b s : List ℕ) → length a ≡ length b → at + length a ≤ length s → overwritten at b (overwritten at a s) ≡ overwritten at b s

@@ -1,0 +1,4 @@
+pub mod MoveLaws
+pub mod EditLaws
+pub mod KeepLaws
+pub mod FindLaws

@@ -1,0 +1,126 @@
+-- Bytes moved within others: a move in two parts, either way.
+use Prim.Native.Nat.{ℕ, _+_, _-_, _≤_}
+use mathlib.Core.Path.{_≡_, _∙_}
+use mathlib.Core.List.{List, _++_}
+use native.Mathlib.Omega.{arith}
+use lib.ListN.{length, take, drop, length-drop}
+use lib.Seq.{take-add, drop-drop, length-take-le}
+use borrow.Rule.Slice.PartMut.{putMid}
+use Rattle.fields.specs.Number.{fromBe, toBe}
+use Rattle.fields.specs.Overwrite.{overwritten}
+use Rattle.fields.specs.Facts.{Bytes}
+use Rattle.fields.proofs.NumberLaws.{bytes-take, bytes-drop, toBe-fromBe}
+use Rattle.fields.proofs.OverwriteLaws.{overwritten-nil, overwritten-next, overwritten-in-front, overwritten-same, length-overwritten, drop-after, part-before}
+use Rattle.table.specs.Move.{moved}
+
+pub length-part : (from size : ℕ) (s : List ℕ) → from + size ≤ length s → length (take size (drop from s)) ≡ size
+length-part from size s h = length-take-le size (drop from s) (simp length-drop (omega arith))
+
+part-add : (from m n : ℕ) (s : List ℕ) → take m (drop from s) ++ take n (drop (from + m) s) ≡ take (m + n) (drop from s)
+part-add from m n s = rw (take-add m n (drop from s), drop-drop)
+
+pub length-moved : (from to size : ℕ) (s : List ℕ) → from + size ≤ length s → to + size ≤ length s → length (moved from to size s) ≡ length s
+unfolding moved
+length-moved from to size s h l =
+    let e : length (take size (drop from s)) ≡ size = length-part from size s h in
+    length-overwritten to (take size (drop from s)) s (omega arith)
+
+pub moved-none : (from to : ℕ) (s : List ℕ) → moved from to 0 s ≡ s
+unfolding moved
+moved-none from to s = overwritten-nil to s
+
+-- what stands where it is to go
+pub moved-nowhere : (from size : ℕ) (s : List ℕ) → from + size ≤ length s → moved from from size s ≡ s
+unfolding moved
+moved-nowhere from size s h = overwritten-same from size s h
+
+-- bytes read as a number and written again
+word-again : (from size word : ℕ) (s : List ℕ) → Bytes s → from + size ≤ length s → word ≡ fromBe (take size (drop from s)) → toBe size word ≡ take size (drop from s)
+word-again from size word s b h e =
+    let l : length (take size (drop from s)) ≡ size = length-part from size s h in
+    rw e (rw l at (toBe-fromBe (take size (drop from s)) (bytes-take size (drop from s) (bytes-drop from s b))))
+
+pub moved-word : (from to size word : ℕ) (s : List ℕ) → Bytes s → from + size ≤ length s → word ≡ fromBe (take size (drop from s))
+    → overwritten to (toBe size word) s ≡ moved from to size s
+unfolding moved
+moved-word from to size word s b h e = rw (word-again from size word s b h e)
+
+-- the next n bytes, read before the move
+pub moved-next : (from to m n : ℕ) (s : List ℕ) → from + (m + n) ≤ length s → to + (m + n) ≤ length s
+    → overwritten (to + m) (take n (drop (from + m) s)) (moved from to m s) ≡ moved from to (m + n) s
+unfolding moved
+moved-next from to m n s h k =
+    let la : length (take m (drop from s)) ≡ m = length-part from m s (omega arith) in
+    let lb : length (take n (drop (from + m) s)) ≡ n = length-part (from + m) n s (omega arith) in
+    rw (← part-add from m n s) (rw la at (overwritten-next to (take m (drop from s)) (take n (drop (from + m) s)) s (omega arith)))
+
+word-next : (from to m word : ℕ) (s t u : List ℕ) → Bytes s → from + (m + 8) ≤ length s → to + (m + 8) ≤ length s → word ≡ fromBe (take 8 (drop (from + m) s))
+    → t ≡ moved from to m s → u ≡ overwritten (to + m) (toBe 8 word) t → u ≡ moved from to (m + 8) s
+word-next from to m word s t u b h k w e f = f ∙ rw (e, word-again (from + m) 8 word s b (omega arith) w) (moved-next from to m 8 s h k)
+
+-- four words, all read before the first is written
+pub moved-block : (from to a b c d : ℕ) (s t₁ t₂ t₃ t₄ : List ℕ) → Bytes s → from + 32 ≤ length s → to + 32 ≤ length s
+    → a ≡ fromBe (take 8 (drop from s)) → b ≡ fromBe (take 8 (drop (from + 8) s)) → c ≡ fromBe (take 8 (drop (from + 16) s)) → d ≡ fromBe (take 8 (drop (from + 24) s))
+    → t₁ ≡ overwritten to (toBe 8 a) s → t₂ ≡ overwritten (to + 8) (toBe 8 b) t₁ → t₃ ≡ overwritten (to + 16) (toBe 8 c) t₂ → t₄ ≡ overwritten (to + 24) (toBe 8 d) t₃
+    → t₄ ≡ moved from to 32 s
+moved-block from to a b c d s t₁ t₂ t₃ t₄ y h k ra rb rc rd e₁ e₂ e₃ e₄ =
+    let m₁ : t₁ ≡ moved from to 8 s = e₁ ∙ moved-word from to 8 a s y (omega arith) ra in
+    let m₂ : t₂ ≡ moved from to 16 s = word-next from to 8 b s t₁ t₂ y (omega arith) (omega arith) rb m₁ e₂ in
+    let m₃ : t₃ ≡ moved from to 24 s = word-next from to 16 c s t₂ t₃ y (omega arith) (omega arith) rc m₂ e₃ in
+    word-next from to 24 d s t₃ t₄ y h k rd m₃ e₄
+
+-- up, the last n bytes before the first m
+pub moved-up : (from to m n : ℕ) (s : List ℕ) → from ≤ to → to + (m + n) ≤ length s
+    → moved from to m (moved (from + m) (to + m) n s) ≡ moved from to (m + n) s
+unfolding moved
+moved-up from to m n s o h =
+    let a : List ℕ = take m (drop from s) in
+    let b : List ℕ = take n (drop (from + m) s) in
+    let la : length a ≡ m = length-part from m s (omega arith) in
+    let lb : length b ≡ n = length-part (from + m) n s (omega arith) in
+    let p : take m (drop from (overwritten (to + m) b s)) ≡ a = part-before (to + m) b s (omega arith) from m (omega arith) in
+    rw (p, ← part-add from m n s) (rw la at (overwritten-in-front to a b s (omega arith)))
+
+-- down, the first m bytes before the last n
+pub moved-down : (from to m n : ℕ) (s : List ℕ) → to ≤ from → from + (m + n) ≤ length s
+    → moved (from + m) (to + m) n (moved from to m s) ≡ moved from to (m + n) s
+unfolding moved
+moved-down from to m n s o h =
+    let la : length (take m (drop from s)) ≡ m = length-part from m s (omega arith) in
+    let d : drop (from + m) (overwritten to (take m (drop from s)) s) ≡ drop (from + m) s = drop-after to (take m (drop from s)) s (omega arith) (from + m) (omega arith) in
+    rw d (moved-next from to m n s h (omega arith))
+
+-- ---- a loop that moves `step` bytes a turn: s is what was, t the state, u the next one
+
+module _ (from to size : ℕ) (s t u : List ℕ) where
+  pub up-turn : (left step : ℕ) → from ≤ to → to + size ≤ length s → step ≤ left → left ≤ size → t ≡ moved (from + left) (to + left) (size - left) s
+      → u ≡ moved (from + (left - step)) (to + (left - step)) step t → u ≡ moved (from + (left - step)) (to + (left - step)) (size - (left - step)) s
+  up-turn left step o h a b e f =
+      let f₁ : from + left ≡ from + (left - step) + step = omega arith in
+      let t₁ : to + left ≡ to + (left - step) + step = omega arith in
+      let z : step + (size - left) ≡ size - (left - step) = omega arith in
+      let e′ : t ≡ moved (from + (left - step) + step) (to + (left - step) + step) (size - left) s = rw (f₁, t₁) at e in
+      f ∙ rw e′ (rw z at (moved-up (from + (left - step)) (to + (left - step)) step (size - left) s (omega arith) (omega arith)))
+
+  pub up-end : (left : ℕ) → from ≤ to → to + size ≤ length s → left ≤ size → t ≡ moved (from + left) (to + left) (size - left) s
+      → u ≡ moved from to left t → u ≡ moved from to size s
+  up-end left o h a e f =
+      let z : left + (size - left) ≡ size = omega arith in
+      f ∙ rw e (rw z at (moved-up from to left (size - left) s o (omega arith)))
+
+  pub down-turn : (done step : ℕ) → to ≤ from → from + size ≤ length s → done + step ≤ size → t ≡ moved from to done s
+      → u ≡ moved (from + done) (to + done) step t → u ≡ moved from to (done + step) s
+  down-turn done step o h a e f = f ∙ rw e (moved-down from to done step s o (omega arith))
+
+  pub down-end : (done : ℕ) → to ≤ from → from + size ≤ length s → done ≤ size → t ≡ moved from to done s
+      → u ≡ moved (from + done) (to + done) (size - done) t → u ≡ moved from to size s
+  down-end done o h a e f =
+      let z : done + (size - done) ≡ size = omega arith in
+      f ∙ rw e (rw z at (moved-down from to done (size - done) s o (omega arith)))
+
+-- a part that came back
+pub part-back : (at size : ℕ) (new back s : List ℕ) → length new ≡ size → back ≡ new → putMid at (at + size - at) s back ≡ overwritten at new s
+unfolding overwritten
+part-back at size new back s l e =
+    let k : at + size - at ≡ size = omega arith in
+    rw (e, k, l, drop-drop)

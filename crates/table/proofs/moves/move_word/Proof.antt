@@ -1,0 +1,24 @@
+-- Bytes read as a number and written again are the same bytes: `moved-word`.
+use mathlib.Core.Path.{_∙_}
+use native.Mathlib.Omega.{arith}
+use borrow.Author.Needs.{needs}
+use Rattle.table.proofs.MoveLaws.{moved-word}
+use Rattle.table.proofs.moves.move_word.Statement.{statement}
+use Rattle.table.proofs.moves.move_word.Tie as tie
+
+read-requires : tie.Need-read-requires
+read-requires c κs = search needs
+
+write-requires : tie.Need-write-requires
+write-requires c κs = search needs
+
+same-length : tie.Need-same-length
+same-length c = search needs
+
+returns : tie.Need-returns
+returns c = let s = c .before .before .before .before .before .before .before .args in
+    c .before .before .write .ensures
+    ∙ moved-word (s .from) (s .to) (s .size) (c .before .before .before .before .read .result) (s .s .now) (λ i. omega (arith, c .before .before .before .before .before .before .slice-known .given i)) (omega arith) (c .before .before .before .before .read .ensures .0)
+
+pub move-word-spec : {M : Type 1} → statement M
+move-word-spec = tie.close (tie.spec read-requires write-requires same-length returns)

@@ -1,0 +1,34 @@
+-- The part that was lent comes back as the new bytes: `part-back`.
+use mathlib.Core.Path.{refl}
+use lib.ListN.{length}
+use borrow.Author.Needs.{needs}
+use Rattle.table.proofs.MoveLaws.{part-back}
+use Rattle.table.proofs.moves.overwrite.Statement.{statement}
+use Rattle.table.proofs.moves.overwrite.Tie as tie
+
+add-end : tie.Need-add-end
+add-end c = search needs
+
+sub-copy : tie.Need-sub-copy
+sub-copy c = search needs
+
+part-copy-start : tie.Need-part-copy-start
+part-copy-start c = search needs
+
+part-copy-end : tie.Need-part-copy-end
+part-copy-end c = search needs
+
+copy-requires : tie.Need-copy-requires
+copy-requires c κs = search needs
+
+same-length : tie.Need-same-length
+same-length c = search needs
+
+returns : tie.Need-returns
+returns c = let s = c .before .before .before .before .before .before .args in
+    part-back (s .at) (length (s .new .now)) (s .new .now) (c .before .before .copy .last .1 .0) (s .s .now) refl (c .before .before .copy .ensures)
+
+pub overwrite-spec : {M : Type 1} → statement M
+overwrite-spec =
+    tie.close
+    (tie.spec add-end sub-copy part-copy-start part-copy-end copy-requires same-length returns)
