@@ -1,0 +1,17 @@
+pub mod Protocol
+pub mod Settings
+pub mod Delivery
+pub mod State
+pub mod Peers
+pub mod Requests
+pub mod Sections
+pub mod Check
+pub mod Events
+pub mod Steps
+pub mod Image
+pub mod Lists
+pub mod Commands
+pub mod Calls
+pub mod Book
+pub mod Runs
+pub mod Demand3
