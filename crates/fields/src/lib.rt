@@ -41,3 +41,46 @@ pub fn write(s: &mut [u8], at: usize, width: usize, n: u64)
         v = v / 256;
     }
 }
+
+// The widths that areas use, each one load or store.
+pub fn read_u16(s: &[u8], at: usize) -> u16
+    requires { ⌜ at + 2 ≤ length (now s) ⌝ }
+    ensures { λ r. ⌜ r ≡ fromBe (take 2 (drop at (now (s .entry)))) ⌝ }
+{
+    read(s, at, 2) as u16
+}
+
+pub fn read_u32(s: &[u8], at: usize) -> u32
+    requires { ⌜ at + 4 ≤ length (now s) ⌝ }
+    ensures { λ r. ⌜ r ≡ fromBe (take 4 (drop at (now (s .entry)))) ⌝ }
+{
+    read(s, at, 4) as u32
+}
+
+pub fn read_u64(s: &[u8], at: usize) -> u64
+    requires { ⌜ at + 8 ≤ length (now s) ⌝ }
+    ensures { λ r. ⌜ r ≡ fromBe (take 8 (drop at (now (s .entry)))) ⌝ }
+{
+    read(s, at, 8)
+}
+
+pub fn write_u16(s: &mut [u8], at: usize, n: u16)
+    requires { ⌜ at + 2 ≤ length (now s) ⌝ }
+    ensures { λ _. ⌜ now (s .exit) ≡ overwritten at (toBe 2 n) (now (s .entry)) ⌝ }
+{
+    write(s, at, 2, n as u64)
+}
+
+pub fn write_u32(s: &mut [u8], at: usize, n: u32)
+    requires { ⌜ at + 4 ≤ length (now s) ⌝ }
+    ensures { λ _. ⌜ now (s .exit) ≡ overwritten at (toBe 4 n) (now (s .entry)) ⌝ }
+{
+    write(s, at, 4, n as u64)
+}
+
+pub fn write_u64(s: &mut [u8], at: usize, n: u64)
+    requires { ⌜ at + 8 ≤ length (now s) ⌝ }
+    ensures { λ _. ⌜ now (s .exit) ≡ overwritten at (toBe 8 n) (now (s .entry)) ⌝ }
+{
+    write(s, at, 8, n)
+}

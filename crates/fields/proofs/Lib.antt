@@ -1,0 +1,4 @@
+pub mod NumberLaws
+pub mod OverwriteLaws
+pub mod OrderLaws
+pub mod ZeroLaws

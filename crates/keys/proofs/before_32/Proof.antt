@@ -1,0 +1,78 @@
+-- Carried by `four-before`: the answer of the four words is the order of the runs.
+use borrow.Author.Needs.{needs}
+use native.Mathlib.Omega.{arith}
+use mathlib.Core.Path.{sym}
+use Rattle.fields.proofs.NumberLaws.{Bytes}
+use Rattle.keys.proofs.FourWordLaws.{four-before}
+use Rattle.keys.proofs.before_32.Statement.{statement}
+use Rattle.keys.proofs.before_32.Tie as tie
+
+read-u64-requires : tie.Need-read-u64-requires
+read-u64-requires c κs = search needs
+
+read-u64-requires-2 : tie.Need-read-u64-requires-2
+read-u64-requires-2 c κs = search needs
+
+add-read-u64 : tie.Need-add-read-u64
+add-read-u64 c = search needs
+
+read-u64-requires-3 : tie.Need-read-u64-requires-3
+read-u64-requires-3 c κs = search needs
+
+add-read-u64-2 : tie.Need-add-read-u64-2
+add-read-u64-2 c = search needs
+
+read-u64-requires-4 : tie.Need-read-u64-requires-4
+read-u64-requires-4 c κs = search needs
+
+add-read-u64-3 : tie.Need-add-read-u64-3
+add-read-u64-3 c = search needs
+
+read-u64-requires-5 : tie.Need-read-u64-requires-5
+read-u64-requires-5 c κs = search needs
+
+add-read-u64-4 : tie.Need-add-read-u64-4
+add-read-u64-4 c = search needs
+
+read-u64-requires-6 : tie.Need-read-u64-requires-6
+read-u64-requires-6 c κs = search needs
+
+add-read-u64-5 : tie.Need-add-read-u64-5
+add-read-u64-5 c = search needs
+
+read-u64-requires-7 : tie.Need-read-u64-requires-7
+read-u64-requires-7 c κs = search needs
+
+add-read-u64-6 : tie.Need-add-read-u64-6
+add-read-u64-6 c = search needs
+
+read-u64-requires-8 : tie.Need-read-u64-requires-8
+read-u64-requires-8 c κs = search needs
+
+returns : tie.Need-returns
+returns c =
+    let s = c .before .before .before .before .before .before .before .before .before .before in
+    let f : Bytes (s .args .s .now) = λ i. omega (arith, c .before .before .before .before .before .before .before .before .before .shared-slice-known .given i) in
+    let g : Bytes (s .args .t .now) = λ i. omega (arith, c .before .before .before .before .before .before .before .before .shared-slice-known2 .given i) in
+    rw (c .read-u648 .ensures, c .before .read-u647 .ensures, c .before .before .read-u646 .ensures, c .before .before .before .read-u645 .ensures, c .before .before .before .before .read-u644 .ensures, c .before .before .before .before .before .read-u643 .ensures, c .before .before .before .before .before .before .read-u642 .ensures, c .before .before .before .before .before .before .before .read-u64 .ensures)
+    (sym (four-before (s .args .s .now) (s .args .t .now) f g (s .args .p) (s .args .q) (s .pre .0) (s .pre .1)))
+
+pub before-32-spec : {M : Type 1} → statement M
+before-32-spec =
+    tie.close
+    (tie.spec
+    read-u64-requires
+    read-u64-requires-2
+    add-read-u64
+    read-u64-requires-3
+    add-read-u64-2
+    read-u64-requires-4
+    add-read-u64-3
+    read-u64-requires-5
+    add-read-u64-4
+    read-u64-requires-6
+    add-read-u64-5
+    read-u64-requires-7
+    add-read-u64-6
+    read-u64-requires-8
+    returns)
