@@ -5,4 +5,5 @@
 pub mod edit;
 pub mod find;
 pub mod keep;
+pub mod moves;
 pub mod rising;

@@ -1,0 +1,86 @@
+-- Lists cut down by a test or by marks.
+use Prim.Native.Nat.{ℕ, zero, suc, _+_, _-_, _*_, _≤_, _<_}
+use mathlib.Core.Path.{_≡_, refl, sym, ap, _∙_}
+use mathlib.Core.Bool.{Bool, true, false, not, _&&_, cond}
+use mathlib.Core.List.{List, [], _∷_, _++_, map}
+use native.Mathlib.Nat.{lt-irrefl}
+use native.Mathlib.Numerals.{add-one}
+use native.Mathlib.Omega.{arith}
+use lib.Dec.{eqb}
+use lib.ListN.{length, take, drop, getD, length-append}
+use lib.Seq.{drop-cons, drop-length}
+use Rattle.fields.specs.Filter.{consIf, kept, marked}
+use Rattle.fields.proofs.EntriesLaws.{Each}
+
+module _ {ℓ} {A : Type ℓ} where
+  length-consIf : (t : Bool) (x : A) (xs : List A) → length (consIf t x xs) ≤ suc (length xs)
+  length-consIf true x xs = omega arith
+  length-consIf false x xs = omega arith
+
+  consIf-append : (t : Bool) (x : A) (xs ys : List A) → consIf t x (xs ++ ys) ≡ consIf t x xs ++ ys
+  consIf-append true x xs ys = refl
+  consIf-append false x xs ys = refl
+
+  pub kept-append : (test : A → Bool) (xs ys : List A) → kept test (xs ++ ys) ≡ kept test xs ++ kept test ys
+  kept-append test [] ys = refl
+  kept-append test (x ∷ xs) ys = rw (kept-append test xs ys, consIf-append)
+
+  pub length-kept : (test : A → Bool) (xs : List A) → length (kept test xs) ≤ length xs
+  length-kept test [] = omega arith
+  length-kept test (x ∷ xs) = omega (arith, length-kept test xs, length-consIf (test x) x (kept test xs))
+
+  pub length-marked : (marks : List ℕ) (xs : List A) → length (marked marks xs) ≤ length xs
+  length-marked [] xs = omega arith
+  length-marked (m ∷ marks) [] = omega arith
+  length-marked (m ∷ marks) (x ∷ xs) = omega (arith, length-marked marks xs, length-consIf (eqb m 1) x (marked marks xs))
+
+  -- marks that a test wrote
+  pub marked-kept : (test : A → Bool) (xs : List A) → marked (map (λ (x : A). cond (test x) 1 0) xs) xs ≡ kept test xs
+  marked-kept test [] = refl
+  marked-kept test (x ∷ xs) = one (test x) (marked-kept test xs)
+    where
+      one : (t : Bool) → marked (map (λ (y : A). cond (test y) 1 0) xs) xs ≡ kept test xs
+          → consIf (eqb (cond t 1 0) 1) x (marked (map (λ (y : A). cond (test y) 1 0) xs) xs) ≡ consIf t x (kept test xs)
+      one true e = ap (λ (ys : List A). x ∷ ys) e
+      one false e = e
+
+  -- marks behind the elements count for nothing
+  pub marked-behind : (marks more : List ℕ) (xs : List A) → length marks ≡ length xs → marked (marks ++ more) xs ≡ marked marks xs
+  marked-behind [] [] [] h = refl
+  marked-behind [] (m ∷ more) [] h = refl
+  marked-behind [] more (x ∷ xs) h = absurd (lt-irrefl 0 (omega arith))
+  marked-behind (m ∷ marks) more [] h = refl
+  marked-behind (m ∷ marks) more (x ∷ xs) h = rw (marked-behind marks more xs (omega arith))
+
+  -- ---- one element at a time
+  module _ (marks : List ℕ) (xs : List A) (d : A) (i : ℕ) (h : i < length xs) (l : i < length marks) where
+    pub marked-next : marked (drop i marks) (drop i xs) ≡ consIf (eqb (getD marks i 0) 1) (getD xs i d) (marked (drop (i + 1) marks) (drop (i + 1) xs))
+    marked-next = rw (add-one, drop-cons marks i 0 l, drop-cons xs i d h)
+
+  pub marked-end : (marks : List ℕ) → _≡_ {A = List A} (marked marks []) []
+  marked-end [] = refl
+  marked-end (m ∷ marks) = refl
+
+-- a property of each element is one of each that is left
+module _ {A : Type 0} (P : A → Type 0) where
+  each-consIf : (t : Bool) (x : A) (xs : List A) → P x → Each P xs → Each P (consIf t x xs)
+  each-consIf true x xs p q = (p, q)
+  each-consIf false x xs p q = q
+
+  pub each-kept : (test : A → Bool) (xs : List A) → Each P xs → Each P (kept test xs)
+  each-kept test [] p = tt
+  each-kept test (x ∷ xs) p = each-consIf (test x) x (kept test xs) (p .0) (each-kept test xs (p .1))
+
+  pub each-marked : (marks : List ℕ) (xs : List A) → Each P xs → Each P (marked marks xs)
+  each-marked [] xs p = tt
+  each-marked (m ∷ marks) [] p = tt
+  each-marked (m ∷ marks) (x ∷ xs) p = each-consIf (eqb m 1) x (marked marks xs) (p .0) (each-marked marks xs (p .1))
+
+-- each element that is kept passes the test
+pub each-passes : {A : Type 0} (test : A → Bool) (xs : List A) → Each (λ (x : A). test x ≡ true) (kept test xs)
+each-passes test [] = tt
+each-passes test (x ∷ xs) = one (test x) refl (each-passes test xs)
+  where
+    one : (t : Bool) → test x ≡ t → Each (λ y. test y ≡ true) (kept test xs) → Each (λ y. test y ≡ true) (consIf t x (kept test xs))
+    one true e p = (e, p)
+    one false e p = p

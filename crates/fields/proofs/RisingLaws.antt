@@ -1,0 +1,131 @@
+-- Tables whose keys rise: by index, and after an edit.
+use Prim.Native.Nat.{ℕ, zero, suc, _+_, _-_, _*_, _≤_, _<_}
+use mathlib.Core.Path.{_≡_, refl, sym, ap, _∙_}
+use mathlib.Core.Bool.{Bool, true, false, _&&_}
+use mathlib.Core.List.{List, [], _∷_, _++_}
+use native.Mathlib.Nat.{not-suc-le-zero, le-of-suc-le-suc, lt-irrefl}
+use native.Mathlib.Numerals.{add-one}
+use native.Mathlib.Omega.{arith}
+use lib.ListN.{length, take, drop, getD, length-drop}
+use lib.Seq.{drop-cons, getD-drop}
+use Rattle.fields.specs.Order.{before}
+use Rattle.fields.specs.Entries.{rising, insertedAt, removedAt}
+use Rattle.fields.specs.Filter.{consIf, kept, marked}
+use Rattle.fields.proofs.OrderLaws.{and-left, and-right, before-transitive}
+use Rattle.fields.proofs.EntriesLaws.{Each, each-at, each-map, each-inserted, each-removed}
+use Rattle.fields.proofs.FilterLaws.{each-kept, each-marked}
+use lib.Dec.{eqb}
+
+-- e's key comes before f's
+abbrev pub KeyBefore : ℕ → List ℕ → List ℕ → Type 0
+KeyBefore size e f = before (take size e) (take size f) ≡ true
+
+-- each key comes before all that follow it
+abbrev pub Ascending : ℕ → List (List ℕ) → Type 0
+Ascending size [] = Unit {0}
+Ascending size (e ∷ es) = Each (KeyBefore size e) es × Ascending size es
+
+module _ (size : ℕ) where
+  rising-first : (e f : List ℕ) (es : List (List ℕ)) → KeyBefore size e f → Each (KeyBefore size f) es → Each (KeyBefore size e) (f ∷ es)
+  rising-first e f es h p =
+      (h, each-map (KeyBefore size f) (KeyBefore size e) (λ g q. before-transitive (take size e) (take size f) (take size g) h q) es p)
+
+  pub rising-ascending : (es : List (List ℕ)) → rising size es ≡ true → Ascending size es
+  unfolding rising
+  rising-ascending [] h = tt
+  rising-ascending (e ∷ []) h = (tt, tt)
+  rising-ascending (e ∷ (f ∷ es)) h =
+      let p : Ascending size (f ∷ es) = rising-ascending (f ∷ es) (and-right (before (take size e) (take size f)) (rising size (f ∷ es)) h) in
+      (rising-first e f es (and-left (before (take size e) (take size f)) (rising size (f ∷ es)) h) (p .0), p)
+
+  pub ascending-rising : (es : List (List ℕ)) → Ascending size es → rising size es ≡ true
+  unfolding rising
+  ascending-rising [] p = refl
+  ascending-rising (e ∷ []) p = refl
+  ascending-rising (e ∷ (f ∷ es)) p = rw (p .0 .0, ascending-rising (f ∷ es) (p .1))
+
+  ascending-at : (es : List (List ℕ)) → Ascending size es → (i j : ℕ) → i < j → j < length es → KeyBefore size (getD es i []) (getD es j [])
+  ascending-at [] p i j h l = absurd (not-suc-le-zero l)
+  ascending-at (e ∷ es) p zero zero h l = absurd (not-suc-le-zero h)
+  ascending-at (e ∷ es) p zero (suc j) h l = each-at (KeyBefore size e) es j [] (le-of-suc-le-suc l) (p .0)
+  ascending-at (e ∷ es) p (suc i) zero h l = absurd (not-suc-le-zero h)
+  ascending-at (e ∷ es) p (suc i) (suc j) h l = ascending-at es (p .1) i j (le-of-suc-le-suc h) (le-of-suc-le-suc l)
+
+  -- an earlier key comes before a later one
+  pub rising-at : (es : List (List ℕ)) → rising size es ≡ true → (i j : ℕ) → i < j → j < length es → KeyBefore size (getD es i []) (getD es j [])
+  rising-at es h = ascending-at es (rising-ascending es h)
+
+  -- neighbours suffice
+  pub rising-by-index : (es : List (List ℕ)) → ((i : ℕ) → suc i < length es → KeyBefore size (getD es i []) (getD es (suc i) [])) → rising size es ≡ true
+  unfolding rising
+  rising-by-index [] f = refl
+  rising-by-index (e ∷ []) f = refl
+  rising-by-index (e ∷ (g ∷ es)) f = rw (f 0 (omega arith), rising-by-index (g ∷ es) (λ i h. f (suc i) (omega arith)))
+
+  -- ---- one pair of neighbours at a time
+  pub rising-next : (es : List (List ℕ)) (i : ℕ) → suc i < length es
+      → rising size (drop i es) ≡ before (take size (getD es i [])) (take size (getD es (suc i) [])) && rising size (drop (suc i) es)
+  unfolding rising
+  rising-next es i h =
+      let l : i < length es = omega arith in
+      rw (drop-cons es i [] l, drop-cons es (suc i) [] h)
+
+  short : (es : List (List ℕ)) → length es ≤ 1 → rising size es ≡ true
+  unfolding rising
+  short [] h = refl
+  short (e ∷ []) h = refl
+  short (e ∷ (f ∷ es)) h = absurd (lt-irrefl 0 (omega arith))
+
+  pub rising-end : (es : List (List ℕ)) (i : ℕ) → length es ≤ i + 1 → rising size (drop i es) ≡ true
+  rising-end es i h = short (drop i es) (simp length-drop (omega arith))
+
+  -- ---- after an edit
+  ascending-removed : (i : ℕ) (es : List (List ℕ)) → Ascending size es → Ascending size (take i es ++ drop (suc i) es)
+  unfolding removedAt
+  ascending-removed zero [] p = tt
+  ascending-removed (suc i) [] p = tt
+  ascending-removed zero (e ∷ es) p = p .1
+  ascending-removed (suc i) (e ∷ es) p =
+      let q : Each (KeyBefore size e) (take i es ++ drop (suc i) es) = rw add-one at (each-removed (KeyBefore size e) i es (p .0)) in
+      (q, ascending-removed i es (p .1))
+
+  pub rising-removed : (i : ℕ) (es : List (List ℕ)) → rising size es ≡ true → rising size (removedAt i es) ≡ true
+  unfolding removedAt
+  rising-removed i es h = rw add-one (ascending-rising (take i es ++ drop (suc i) es) (ascending-removed i es (rising-ascending es h)))
+
+  ascending-consIf : (t : Bool) (e : List ℕ) (es : List (List ℕ)) → Each (KeyBefore size e) es → Ascending size es → Ascending size (consIf t e es)
+  ascending-consIf true e es p q = (p, q)
+  ascending-consIf false e es p q = q
+
+  ascending-kept : (test : List ℕ → Bool) (es : List (List ℕ)) → Ascending size es → Ascending size (kept test es)
+  ascending-kept test [] p = tt
+  ascending-kept test (e ∷ es) p = ascending-consIf (test e) e (kept test es) (each-kept (KeyBefore size e) test es (p .0)) (ascending-kept test es (p .1))
+
+  pub rising-kept : (test : List ℕ → Bool) (es : List (List ℕ)) → rising size es ≡ true → rising size (kept test es) ≡ true
+  rising-kept test es h = ascending-rising (kept test es) (ascending-kept test es (rising-ascending es h))
+
+  ascending-marked : (marks : List ℕ) (es : List (List ℕ)) → Ascending size es → Ascending size (marked marks es)
+  ascending-marked [] es p = tt
+  ascending-marked (m ∷ marks) [] p = tt
+  ascending-marked (m ∷ marks) (e ∷ es) p = ascending-consIf (eqb m 1) e (marked marks es) (each-marked (KeyBefore size e) marks es (p .0)) (ascending-marked marks es (p .1))
+
+  pub rising-marked : (marks : List ℕ) (es : List (List ℕ)) → rising size es ≡ true → rising size (marked marks es) ≡ true
+  rising-marked marks es h = ascending-rising (marked marks es) (ascending-marked marks es (rising-ascending es h))
+
+  -- an entry put in where all before it come before, and the one behind it comes behind
+  ascending-inserted : (i : ℕ) (x : List ℕ) (es : List (List ℕ)) → Ascending size es
+      → ((j : ℕ) → j < i → j < length es → KeyBefore size (getD es j []) x) → (i < length es → KeyBefore size x (getD es i []))
+      → Ascending size (take i es ++ (x ∷ drop i es))
+  unfolding insertedAt
+  ascending-inserted zero x [] p f g = (tt, tt)
+  ascending-inserted (suc i) x [] p f g = (tt, tt)
+  ascending-inserted zero x (e ∷ es) p f g = (rising-first x e es (g (omega arith)) (p .0), p)
+  ascending-inserted (suc i) x (e ∷ es) p f g =
+      let q : Each (KeyBefore size e) (insertedAt i x es) = each-inserted (KeyBefore size e) i x es (f 0 (omega arith) (omega arith)) (p .0) in
+      (q, ascending-inserted i x es (p .1) (λ j h l. f (suc j) (omega arith) (omega arith)) (λ h. g (omega arith)))
+
+  pub rising-inserted : (i : ℕ) (x : List ℕ) (es : List (List ℕ)) → rising size es ≡ true
+      → ((j : ℕ) → j < i → j < length es → KeyBefore size (getD es j []) x) → (i < length es → KeyBefore size x (getD es i []))
+      → rising size (insertedAt i x es) ≡ true
+  unfolding insertedAt
+  rising-inserted i x es h f g = ascending-rising (take i es ++ (x ∷ drop i es)) (ascending-inserted i x es (rising-ascending es h) f g)
