@@ -5,3 +5,5 @@ pub mod ZeroLaws
 pub mod EntriesLaws
 pub mod FilterLaws
 pub mod RisingLaws
+pub mod AllLaws
+pub mod SortLaws
