@@ -5,11 +5,8 @@ use mathlib.Core.Bool.{Bool, true, false}
 use mathlib.Core.List.{List, [], _∷_, _++_}
 use native.Mathlib.Nat.{not-suc-le-zero, le-of-suc-le-suc}
 use lib.ListN.{length, getD}
+use Rattle.fields.specs.Facts.{All}
 use Rattle.fields.specs.Filter.{consIf, kept}
-
-abbrev pub All {ℓ κ} : {A : Type ℓ} → (A → Type κ) → List A → Type κ
-All P [] = Unit
-All P (x ∷ xs) = P x × All P xs
 
 module _ {ℓ κ} {A : Type ℓ} (P : A → Type κ) where
   pub all-append : (xs ys : List A) → All P xs → All P ys → All P (xs ++ ys)

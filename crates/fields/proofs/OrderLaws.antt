@@ -12,7 +12,8 @@ use lib.Seq.{take-add, drop-drop, drop-cons, length-take-le, take-take}
 use borrow.Author.Tests.{ltb-true, ltb-false, eqb-true, eqb-false, lt-ltb, le-ltb, eq-eqb, ne-eqb}
 use Rattle.fields.specs.Number.{fromBe}
 use Rattle.fields.specs.Order.{before, same}
-use Rattle.fields.proofs.NumberLaws.{Bytes, bytes-tail, bytes-take, bytes-drop, fromBe-cons, fromBe-below, fromBe-injective}
+use Rattle.fields.specs.Facts.{Bytes}
+use Rattle.fields.proofs.NumberLaws.{bytes-tail, bytes-take, bytes-drop, fromBe-cons, fromBe-below, fromBe-injective}
 
 -- ---- tests
 

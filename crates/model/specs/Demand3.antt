@@ -3,6 +3,7 @@ use Prim.Native.Nat.{ℕ, zero, suc, _+_, _*_, _≤_, _<_, _^_}
 use mathlib.Core.Path.{_≡_}
 use mathlib.Core.List.{List, [], _∷_, map}
 use lib.ListN.{length}
+use Rattle.fields.specs.Facts.{All, Bytes}
 use Rattle.model.specs.Protocol.{Id}
 use Rattle.model.specs.Settings.{Settings, patience, mostRequests}
 use Rattle.model.specs.Delivery.{Request, idsOf}
@@ -11,11 +12,6 @@ use Rattle.model.specs.Calls.{Call, Opening}
 use Rattle.model.specs.Book as book
 use Rattle.model.specs.Book.{Book, Stay, Ended, endedFor}
 use Rattle.model.specs.Runs.{Path, bookOf, lastReport, Core, Lent, calledAll, freshCore}
-
--- P of each element
-abbrev pub All {ℓ} : {A : Type ℓ} → (A → Type 0) → List A → Type 0
-All P [] = Unit {0}
-All P (x ∷ xs) = P x × All P xs
 
 -- the clock of the last of some checks, or the entry where there are none
 abbrev pub lastOf : ℕ → List ℕ → ℕ
@@ -65,9 +61,6 @@ pub record Demand3 (area : List ℕ) (p : Path) : Type 0 where
       + endedFor book.abandoned (bookOf p .ended) + endedFor book.forgotten (bookOf p .ended) + endedFor book.purged (bookOf p .ended)
 
 -- What a caller can hand in at all: numbers of the arguments' widths, and bytes.
-abbrev pub Bytes : List ℕ → Type 0
-Bytes bytes = All (λ (b : ℕ). b < 256) bytes
-
 pub record InWidth (call : Call) : Type 0 where
   pub clock : call .clock < 2 ^ 64
   pub height : call .height < 2 ^ 32

@@ -9,7 +9,8 @@ use lib.Seq.{take-add, drop-drop, length-take-le}
 use borrow.Rule.Slice.PartMut.{putMid}
 use Rattle.fields.specs.Number.{fromBe, toBe}
 use Rattle.fields.specs.Overwrite.{overwritten}
-use Rattle.fields.proofs.NumberLaws.{Bytes, bytes-take, bytes-drop, toBe-fromBe}
+use Rattle.fields.specs.Facts.{Bytes}
+use Rattle.fields.proofs.NumberLaws.{bytes-take, bytes-drop, toBe-fromBe}
 use Rattle.fields.proofs.OverwriteLaws.{overwritten-nil, overwritten-next, overwritten-same, length-overwritten, take-before, drop-from, drop-after, part-before}
 use Rattle.table.specs.Move.{moved}
 
