@@ -2,7 +2,7 @@
 use Prim.Native.Nat.{ℕ, zero, suc, _<_}
 use mathlib.Core.Path.{_≡_, refl}
 use mathlib.Core.Bool.{Bool, true, false}
-use mathlib.Core.List.{List, [], _∷_, _++_}
+use mathlib.Core.List.{List, [], _∷_, _++_, map}
 use native.Mathlib.Nat.{not-suc-le-zero, le-of-suc-le-suc}
 use lib.ListN.{length, getD}
 use Rattle.fields.specs.Facts.{All}
@@ -37,3 +37,13 @@ all-pass test (x ∷ xs) = go (test x) refl (all-pass test xs)
 pub all-weaker {ℓ κ} : {A : Type ℓ} (P Q : A → Type κ) → ((x : A) → P x → Q x) → (xs : List A) → All P xs → All Q xs
 all-weaker P Q f [] p = tt
 all-weaker P Q f (x ∷ xs) p = (f x (p .0), all-weaker P Q f xs (p .1))
+
+-- a fact of every image
+module _ {ℓ κ ν} {A : Type ℓ} {B : Type κ} (P : B → Type ν) (f : A → B) where
+  pub all-images : (xs : List A) → All (λ x. P (f x)) xs → All P (map f xs)
+  all-images [] p = tt
+  all-images (x ∷ xs) p = (p .0, all-images xs (p .1))
+
+  pub images-all : (xs : List A) → All P (map f xs) → All (λ x. P (f x)) xs
+  images-all [] p = tt
+  images-all (x ∷ xs) p = (p .0, images-all xs (p .1))

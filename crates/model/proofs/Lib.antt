@@ -1,1 +1,12 @@
 pub mod Well
+pub mod Ids
+pub mod Sendings
+pub mod Fates
+pub mod StepKinds
+pub mod Modes
+pub mod Stays
+pub mod Entering
+pub mod Acts
+pub mod Agreement
+pub mod Balance
+pub mod Demand3

@@ -46,7 +46,7 @@ stepOf call =
     (cond (eqb (call .kind) 4) (Steps.reorg (call .fork))
     (cond (eqb (call .kind) 5) (Steps.announced (call .peer) (call .typeid) (idsIn (call .ids)))
     (cond (eqb (call .kind) 6)
-        (Steps.syncInfo (call .peer) (eqb (call .parsed) 1) (cond (eqb (call .hastip) 1) (some (call .tip)) none) (idsIn (call .continuation)))
+    (Steps.syncInfo (call .peer) (eqb (call .parsed) 1) (cond (eqb (call .hastip) 1) (some (call .tip)) none) (idsIn (call .continuation)))
     (cond (eqb (call .kind) 7) Steps.otherMessage
     (cond (eqb (call .kind) 8) (Steps.lostPeer (call .peer))
     (cond (eqb (call .kind) 9) (Steps.received (idsIn (call .ids)))

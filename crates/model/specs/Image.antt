@@ -86,8 +86,8 @@ padded size bytes = bytes ++ zeros (size - length bytes)
 unfoldable pub encode : State → List ℕ
 encode st =
     let front : List ℕ =
-        padded regionAt (padded stalledAt (headerBytes st) ++ joined (map (toBe peerSize) (st .sync .stalledPeers)))
-        ++ joined (map requestBytes (st .pending))
+    padded regionAt (padded stalledAt (headerBytes st) ++ joined (map (toBe peerSize) (st .sync .stalledPeers)))
+    ++ joined (map requestBytes (st .pending))
     in
     let back : List ℕ = joined (st .sync .evicted) in
     padded (areaSize - length back) front ++ back

@@ -3,9 +3,13 @@
 // Here only the numbers that code and definitions share, under the names that the Rust gives them.
 
 pub const TRANSACTION_TYPE_ID: u8 = 2;
+
 pub const HEADER_TYPE_ID: u8 = 101;
+
 pub const BLOCK_TRANSACTIONS_TYPE_ID: u8 = 102;
+
 pub const AD_PROOFS_TYPE_ID: u8 = 104;
+
 pub const EXTENSION_TYPE_ID: u8 = 108;
 
 // Most ids one request may carry.
