@@ -23,10 +23,10 @@ use Rattle.model.specs.Book.{Book, emptyBook, bookAfter}
 use Rattle.model.specs.Runs.{Finished, Path, bookAlong, bookOf, lastReport, Core, Lent, noted, called, calledAll, freshCore}
 use Rattle.model.specs.Demand3.{Fair, Demand3, InWidth, OpeningInWidth, Demand3Holds}
 use Rattle.model.proofs.Well.{Well}
-use Rattle.model.proofs.Fates.{openRequests, open-ids}
-use Rattle.model.proofs.Stays.{Good, good-fair}
-use Rattle.model.proofs.Agreement.{Agreement, unless-passed, accepted, step-agrees, opened-agrees}
-use Rattle.model.proofs.Balance.{ended-reasons}
+use Rattle.model.proofs.FateLaws.{openRequests, open-ids}
+use Rattle.model.proofs.StayLaws.{Good, good-fair}
+use Rattle.model.proofs.AgreementLaws.{Agreement, unless-passed, accepted, step-agrees, opened-agrees}
+use Rattle.model.proofs.BalanceLaws.{ended-reasons}
 
 -- What holds of a core in service: its area is the image of a state that agrees with the book.
 record InService (core : Core) : Type 0 where

@@ -29,14 +29,14 @@ use Rattle.model.specs.Calls.{Call, stepOf, argsOf, unless, isFlag, call
 use Rattle.model.specs.Book as book
 use Rattle.model.specs.Book.{Book, emptyBook, Stay, Ended, Fate, open', restarts, ends, ofVerdict, fateOf, modeAfter, stillOpen, allEnded, requestedIn, Entering, enterAll, fateIn, entering, bookAfter}
 use Rattle.model.specs.Demand3.{Fair}
-use Rattle.model.proofs.Ids.{not-among-nil, none-among-nil, Distinct, distinct-kept, among-sorted, distinct-sorted}
-use Rattle.model.proofs.Sendings.{requestedItem, requestedBySendings, requested-append, requested-commands, requested-retries}
-use Rattle.model.proofs.Fates.{openRequests, openIds, open-ids, remainingBy, remaining-same, remaining-stays, isRestart, restarting, restarting-judged, restarting-open, distinct-open, ended-count}
-use Rattle.model.proofs.StepKinds.{fateBy, fate-of-kind, modeBy, mode-of-kind, check-of-kind}
-use Rattle.model.proofs.Modes.{mode-follows, remaining-by, peers-listed}
-use Rattle.model.proofs.Stays.{Good, Judges, good-still-open, fair-ended, Room, restarting-room}
-use Rattle.model.proofs.Entering.{itemIds, Sound, Agrees, agrees-as, marks-sorted, retries-agree, enter-append, acts-agree}
-use Rattle.model.proofs.Acts.{acts-indirect}
+use Rattle.model.proofs.IdLaws.{not-among-nil, none-among-nil, Distinct, distinct-kept, among-sorted, distinct-sorted}
+use Rattle.model.proofs.RequestedLaws.{requestedItem, requestedBySendings, requested-append, requested-commands, requested-retries}
+use Rattle.model.proofs.FateLaws.{openRequests, openIds, open-ids, remainingBy, remaining-same, remaining-stays, isRestart, restarting, restarting-judged, restarting-open, distinct-open, ended-count}
+use Rattle.model.proofs.StepKindLaws.{fateBy, fate-of-kind, modeBy, mode-of-kind, check-of-kind}
+use Rattle.model.proofs.ModeLaws.{mode-follows, remaining-by, peers-listed}
+use Rattle.model.proofs.StayLaws.{Good, Judges, good-still-open, fair-ended, Room, restarting-room}
+use Rattle.model.proofs.EnteringLaws.{itemIds, Sound, Agrees, agrees-as, marks-sorted, retries-agree, enter-append, acts-agree}
+use Rattle.model.proofs.ActLaws.{acts-indirect}
 
 -- What holds between steps.
 pub record Agreement (st : State) (b : Book) : Type 0 where

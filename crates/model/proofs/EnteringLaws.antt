@@ -21,10 +21,10 @@ use Rattle.model.specs.Requests
 use Rattle.model.specs.Sections.{Item, itemBelow}
 use Rattle.model.specs.Check.{markAllRetried}
 use Rattle.model.specs.Book.{Stay, Requested, Entering, isOpen, takesPeer, enters, stayBefore, enter, enterAll}
-use Rattle.model.proofs.Ids.{or-left, or-none, Distinct, EachAmong, NoneAmong, none-among-cons, among-inserted, distinct-inserted, among-sorted}
-use Rattle.model.proofs.Fates.{openRequests, openIds, open-ids}
-use Rattle.model.proofs.Sendings.{requested, requestedItem, requestedBySendings, requested-append}
-use Rattle.model.proofs.Stays.{Good, Room, most-positive}
+use Rattle.model.proofs.IdLaws.{or-left, or-none, Distinct, EachAmong, NoneAmong, none-among-cons, among-inserted, distinct-inserted, among-sorted}
+use Rattle.model.proofs.FateLaws.{openRequests, openIds, open-ids}
+use Rattle.model.proofs.RequestedLaws.{requested, requestedItem, requestedBySendings, requested-append}
+use Rattle.model.proofs.StayLaws.{Good, Room, most-positive}
 
 abbrev pub itemIds : List Item → List Id
 itemIds items = map (λ (i : Item). i .id) items

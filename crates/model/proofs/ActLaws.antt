@@ -19,7 +19,7 @@ use Rattle.model.specs.Check.{askFresh}
 use Rattle.model.specs.Events.{Outcome, Continue, Synced, BehindPeer, SyncPeerGone, Stalled, EndOfStream, tipOutcome, raisedTip, notAbove, announce, continuation}
 use Rattle.model.specs.Steps
 use Rattle.model.specs.Steps.{Step, Args, Plan, planOf, plan}
-use Rattle.model.proofs.Entering.{Indirect}
+use Rattle.model.proofs.EnteringLaws.{Indirect}
 
 asks : (typeOf peerOf : Batch → ℕ) (pairs : List Pair) (batches : List Batch) → All Indirect (map (λ (b : Batch). ask (typeOf b) (peerOf b) pairs (b .ids)) batches)
 asks typeOf peerOf pairs [] = tt

@@ -14,7 +14,7 @@ use Rattle.model.specs.Settings.{Settings}
 use Rattle.model.specs.Delivery as delivery
 use Rattle.model.specs.Delivery.{Request, Verdict, verdict, verdictNumber, restarted, idsOf, checkTimeouts, afterVerdict, judged}
 use Rattle.model.specs.Book.{Stay, Ended, Reason, Fate, open', restarts, ends, ofVerdict, noted, withRequest, goesOn, stillOpen, endedBy, allEnded}
-use Rattle.model.proofs.Ids.{or-none, among-self, EachAmong, each-among-cons, Distinct}
+use Rattle.model.proofs.IdLaws.{or-none, among-self, EachAmong, each-among-cons, Distinct}
 
 abbrev pub openRequests : List Stay → List Request
 openRequests stays = map (λ (s : Stay). s .request) stays

@@ -18,8 +18,8 @@ use Rattle.model.specs.Delivery as delivery
 use Rattle.model.specs.Delivery.{Request, Verdict, verdict, restarted, idsOf}
 use Rattle.model.specs.Book.{Stay, Ended, Fate, open', restarts, ends, ofVerdict, noted, withRequest, goesOn, stillOpen, endedBy, allEnded}
 use Rattle.model.specs.Demand3.{lastOf, GapsWithin, InTime, patienceOf, mostOf, Fair}
-use Rattle.model.proofs.Ids.{or-none, Distinct, not-among-kept}
-use Rattle.model.proofs.Fates.{openRequests, openIds, open-ids, isRestart, restarting, not-among-open}
+use Rattle.model.proofs.IdLaws.{or-none, Distinct, not-among-kept}
+use Rattle.model.proofs.FateLaws.{openRequests, openIds, open-ids, isRestart, restarting, not-among-open}
 
 -- ---- settings
 

@@ -28,8 +28,8 @@ use Rattle.model.specs.Lists.{peersIn, peersFit, listFits, entriesOf}
 use Rattle.model.specs.Image.{peerSize}
 use Rattle.model.specs.Book as book
 use Rattle.model.specs.Book.{Fate, open', ends}
-use Rattle.model.proofs.Fates.{remainingBy, remaining-open, remaining-ended, remaining-kept, remaining-checked, remaining-same}
-use Rattle.model.proofs.StepKinds.{fateBy, modeBy, quietMode}
+use Rattle.model.proofs.FateLaws.{remainingBy, remaining-open, remaining-ended, remaining-kept, remaining-checked, remaining-same}
+use Rattle.model.proofs.StepKindLaws.{fateBy, modeBy, quietMode}
 
 -- with no peer listed none is chosen
 abbrev NoneFrom : List ℕ → Option ℕ → Type 0
