@@ -1,4 +1,5 @@
 pub mod Well
+pub mod Cases
 pub mod IdLaws
 pub mod RequestedLaws
 pub mod FateLaws

@@ -15,3 +15,4 @@ pub mod Calls
 pub mod Book
 pub mod Runs
 pub mod Demand3
+pub mod Cases
