@@ -1,17 +1,18 @@
 -- Bytes in parts that follow one another: what stands where, the whole from its parts, and parts that are numbers.
 use Prim.Native.Nat.{ℕ, zero, suc, _+_, _-_, _*_, _^_, _≤_, _<_}
 use mathlib.Core.Path.{_≡_, refl, sym, ap, _∙_}
-use mathlib.Core.List.{List, [], _∷_, _++_, append-assoc}
+use mathlib.Core.List.{List, [], _∷_, _++_, map, append-assoc}
 use native.Mathlib.Nat.{add-zero, add-assoc}
 use native.Mathlib.Omega.{arith}
 use lib.ListN.{length, take, drop, length-append, length-drop, take-append-drop}
 use lib.Seq.{take-at, drop-at, drop-drop, take-add, length-take-le}
-use Rattle.fields.specs.Facts.{Bytes}
+use Rattle.fields.specs.Facts.{All, Bytes}
 use mathlib.Core.Bool.{true}
 use Rattle.fields.specs.Number.{fromBe, toBe}
 use Rattle.fields.specs.Zero.{zeros, allZero}
 use Rattle.fields.proofs.NumberLaws.{bytes-nil, bytes-append, bytes-take, bytes-drop, length-toBe, toBe-bytes, fromBe-toBe, toBe-fromBe, fromBe-below}
 use Rattle.fields.proofs.ZeroLaws.{allZero-eq}
+use Rattle.fields.proofs.EntriesLaws.{Wide}
 
 module _ (at width : ℕ) (part rest bytes : List ℕ) where
   pub part-at : length part ≡ width → drop at bytes ≡ part ++ rest → take width (drop at bytes) ≡ part
@@ -83,3 +84,30 @@ holds-written (c ∷ cs) at bytes f h p =
     let k : at + c .width ≤ length bytes = omega arith in
     let n : at + c .width + extent cs ≤ length bytes = omega arith in
     rw (take-add (c .width) (extent cs) (drop at bytes), drop-drop (c .width) at bytes, holds-written cs (at + c .width) bytes f n (p .1), ← toBe-part at (c .width) bytes k f, p .0)
+
+-- ---- tables of numbers
+
+module _ (width : ℕ) where
+  pub numbers-wide : (ns : List ℕ) → Wide width (map (toBe width) ns)
+  numbers-wide [] = tt
+  numbers-wide (n ∷ ns) = (length-toBe width n, numbers-wide ns)
+
+  pub numbers-bytes : (ns : List ℕ) → All Bytes (map (toBe width) ns)
+  numbers-bytes [] = tt
+  numbers-bytes (n ∷ ns) = (toBe-bytes width n, numbers-bytes ns)
+
+  pub numbers-read : (ns : List ℕ) → All (λ (n : ℕ). n < 256 ^ width) ns → map fromBe (map (toBe width) ns) ≡ ns
+  numbers-read [] f = refl
+  numbers-read (n ∷ ns) f = rw (fromBe-toBe width n (f .0), numbers-read ns (f .1))
+
+  pub numbers-back : (es : List (List ℕ)) → Wide width es → All Bytes es → map (toBe width) (map fromBe es) ≡ es
+  numbers-back [] l f = refl
+  numbers-back (e ∷ es) l f =
+      let b : toBe width (fromBe e) ≡ e = rw (l .0) at (toBe-fromBe e (f .0)) in
+      rw (b, numbers-back es (l .1) (f .1))
+
+  pub numbers-below : (es : List (List ℕ)) → Wide width es → All Bytes es → All (λ (n : ℕ). n < 256 ^ width) (map fromBe es)
+  numbers-below [] l f = tt
+  numbers-below (e ∷ es) l f =
+      let b : fromBe e < 256 ^ width = rw (l .0) at (fromBe-below e (f .0)) in
+      (b, numbers-below es (l .1) (f .1))

@@ -1,2 +1,4 @@
 pub mod Well
 pub mod RecordLaws
+pub mod HeaderLaws
+pub mod ImageLaws
