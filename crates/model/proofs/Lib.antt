@@ -2,3 +2,4 @@ pub mod Well
 pub mod RecordLaws
 pub mod HeaderLaws
 pub mod ImageLaws
+pub mod FormedLaws
