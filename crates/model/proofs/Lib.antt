@@ -3,3 +3,4 @@ pub mod RecordLaws
 pub mod HeaderLaws
 pub mod ImageLaws
 pub mod FormedLaws
+pub mod RoundLaws
