@@ -38,12 +38,14 @@ pub all-weaker {ℓ κ} : {A : Type ℓ} (P Q : A → Type κ) → ((x : A) → 
 all-weaker P Q f [] p = tt
 all-weaker P Q f (x ∷ xs) p = (f x (p .0), all-weaker P Q f xs (p .1))
 
--- a fact of every image
-module _ {ℓ κ ν} {A : Type ℓ} {B : Type κ} (P : B → Type ν) (f : A → B) where
-  pub all-images : (xs : List A) → All (λ x. P (f x)) xs → All P (map f xs)
-  all-images [] p = tt
-  all-images (x ∷ xs) p = (p .0, all-images xs (p .1))
+pub all-map {ℓ κ μ} : {A : Type ℓ} {B : Type κ} (P : B → Type μ) (f : A → B) (xs : List A) → All (λ x. P (f x)) xs → All P (map f xs)
+all-map P f [] p = tt
+all-map P f (x ∷ xs) p = (p .0, all-map P f xs (p .1))
 
-  pub images-all : (xs : List A) → All P (map f xs) → All (λ x. P (f x)) xs
-  images-all [] p = tt
-  images-all (x ∷ xs) p = (p .0, images-all xs (p .1))
+pub map-all {ℓ κ μ} : {A : Type ℓ} {B : Type κ} (P : B → Type μ) (f : A → B) (xs : List A) → All P (map f xs) → All (λ x. P (f x)) xs
+map-all P f [] p = tt
+map-all P f (x ∷ xs) p = (p .0, map-all P f xs (p .1))
+
+pub map-back {ℓ κ} : {A : Type ℓ} {B : Type κ} (f : A → B) (g : B → A) (xs : List A) → All (λ x. g (f x) ≡ x) xs → map g (map f xs) ≡ xs
+map-back f g [] p = refl
+map-back f g (x ∷ xs) p = rw (p .0, map-back f g xs (p .1))

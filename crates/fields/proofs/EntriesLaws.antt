@@ -7,8 +7,10 @@ use native.Mathlib.Numerals.{add-one}
 use native.Mathlib.Omega.{arith}
 use lib.ListN.{length, take, drop, getD, set, replicate, length-append, length-take, length-drop, length-replicate, take-append-drop, replicate-append-replicate}
 use lib.Seq.{take-append-le, drop-append-le, take-at, drop-at, drop-drop, take-take, take-add, length-take-le, set-split, drop-append-add}
+use Rattle.fields.specs.Facts.{All, Bytes}
 use Rattle.fields.specs.Zero.{zeros}
 use Rattle.fields.specs.Entries.{entries, entry, joined, insertedAt, removedAt, replaced}
+use Rattle.fields.proofs.NumberLaws.{bytes-nil, bytes-append, bytes-take, bytes-drop}
 
 module _ (width : ℕ) where
   pub length-entries : (n : ℕ) (bytes : List ℕ) → length (entries width n bytes) ≡ n
@@ -76,8 +78,7 @@ entry-front width i size bytes h = take-take size width (drop (i * width) bytes)
 
 -- each of the elements has the property
 abbrev pub Each : {A : Type 0} → (A → Type 0) → List A → Type 0
-Each P [] = Unit {0}
-Each P (x ∷ xs) = P x × Each P xs
+Each P xs = All P xs
 
 module _ {A : Type 0} (P : A → Type 0) where
   pub each-append : (xs ys : List A) → Each P xs → Each P ys → Each P (xs ++ ys)
@@ -118,6 +119,14 @@ each-map P Q f (x ∷ xs) p = (f x (p .0), each-map P Q f xs (p .1))
 -- each entry is `width` bytes long
 abbrev pub Wide : ℕ → List (List ℕ) → Type 0
 Wide width = Each (λ (e : List ℕ). length e ≡ width)
+
+pub joined-bytes : (es : List (List ℕ)) → Each Bytes es → Bytes (joined es)
+joined-bytes [] f = bytes-nil
+joined-bytes (e ∷ es) f = bytes-append e (joined es) (f .0) (joined-bytes es (f .1))
+
+pub entries-bytes : (width n : ℕ) (bytes : List ℕ) → Bytes bytes → Each Bytes (entries width n bytes)
+entries-bytes width zero bytes f = tt
+entries-bytes width (suc n) bytes f = (bytes-take width bytes f, entries-bytes width n (drop width bytes) (bytes-drop width bytes f))
 
 pub joined-append : (es fs : List (List ℕ)) → joined (es ++ fs) ≡ joined es ++ joined fs
 joined-append [] fs = refl

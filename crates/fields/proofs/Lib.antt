@@ -3,6 +3,7 @@ pub mod OverwriteLaws
 pub mod OrderLaws
 pub mod ZeroLaws
 pub mod EntriesLaws
+pub mod PartLaws
 pub mod FilterLaws
 pub mod RisingLaws
 pub mod AllLaws

@@ -10,7 +10,7 @@ use borrow.Author.Tests.{eqb-true, leb-true}
 use Rattle.fields.specs.Facts.{All}
 use Rattle.fields.specs.Sort.{sorted}
 use Rattle.fields.proofs.OrderLaws.{and-left, and-right}
-use Rattle.fields.proofs.AllLaws.{all-weaker, all-images, images-all}
+use Rattle.fields.proofs.AllLaws.{all-weaker, all-map, map-all}
 use Rattle.fields.proofs.SortLaws.{all-sorted}
 use Rattle.model.specs.Protocol.{Id, isAmong}
 use Rattle.model.specs.Settings.{Settings}
@@ -147,8 +147,8 @@ module _ (settings : Settings) (clock : ℕ) (check : Bool) (fate : Request → 
       (sym (marks-sorted itemBelow (again peers) (openRequests (first .open')) once)) refl
       (retries-agree settings gone clock (sorted itemBelow (again peers)) first
       (distinct-sorted (λ (i : Item). i .id) itemBelow (again peers) once)
-      (all-images (λ (id : Id). isAmong id opens ≡ true) (λ (i : Item). i .id) (sorted itemBelow (again peers))
-      (all-sorted itemBelow (λ (i : Item). isAmong (i .id) opens ≡ true) (again peers) (images-all (λ (id : Id). isAmong id opens ≡ true) (λ (i : Item). i .id) (again peers) inside)))
+      (all-map (λ (id : Id). isAmong id opens ≡ true) (λ (i : Item). i .id) (sorted itemBelow (again peers))
+      (all-sorted itemBelow (λ (i : Item). isAmong (i .id) opens ≡ true) (again peers) (map-all (λ (id : Id). isAmong id opens ≡ true) (λ (i : Item). i .id) (again peers) inside)))
       (none-among-nil (itemIds (sorted itemBelow (again peers))))
       (all-weaker (Room (idsOf (restarting fate (openRequests stays)))) (Room (itemIds (sorted itemBelow (again peers))))
       (λ s room m. room (ap (isAmong (s .request .id)) (sym e) ∙ sym (among-sorted (λ (i : Item). i .id) itemBelow (s .request .id) (again peers)) ∙ m))

@@ -1,5 +1,10 @@
 pub mod Well
 pub mod Cases
+pub mod RecordLaws
+pub mod HeaderLaws
+pub mod ImageLaws
+pub mod FormedLaws
+pub mod RoundLaws
 pub mod IdLaws
 pub mod RequestedLaws
 pub mod FateLaws
