@@ -1,1 +1,4 @@
 pub mod Well
+pub mod Widths
+pub mod FinishedLaws
+pub mod ArgumentLaws
