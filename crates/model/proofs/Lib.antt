@@ -2,3 +2,4 @@ pub mod Well
 pub mod Widths
 pub mod FinishedLaws
 pub mod ArgumentLaws
+pub mod PendingLaws
