@@ -3,3 +3,4 @@ pub mod Widths
 pub mod FinishedLaws
 pub mod ArgumentLaws
 pub mod PendingLaws
+pub mod PlanLaws

@@ -1,7 +1,7 @@
 -- Pending requests through a step: each stays within its widths and limits, and their ids rise.
 use Prim.Native.Nat.{ℕ, zero, suc, _+_, _-_, _≤_, _<_, _^_, max}
 use mathlib.Core.Path.{_≡_, refl, sym, ap, _∙_}
-use mathlib.Core.Bool.{Bool, true, false, not, cond, _&&_, _||_, false≢true}
+use mathlib.Core.Bool.{Bool, true, false, not, cond, _&&_, _||_}
 use mathlib.Core.List.{List, [], _∷_, _++_, map}
 use lib.ListN.{length}
 use lib.Dec.{eqb, leb}
@@ -13,7 +13,7 @@ use Rattle.fields.specs.Filter.{consIf, kept}
 use Rattle.fields.specs.Sort.{inserted}
 use Rattle.fields.proofs.AllLaws.{all-map, all-kept, all-weaker, either}
 use Rattle.fields.proofs.SortLaws.{all-inserted, all-sorted}
-use Rattle.fields.proofs.OrderLaws.{before-transitive, before-or-same, same-sym}
+use Rattle.fields.proofs.OrderLaws.{before-transitive, before-or-same, same-sym, neither}
 use Rattle.model.specs.Protocol.{Id, isAmong, isTransaction}
 use Rattle.model.specs.Settings.{Settings, expired, givenUp, mostRequests}
 use Rattle.model.specs.Delivery
@@ -90,13 +90,9 @@ pub rising-inserted : (x : Request) (rs : List Request) → isPending (x .id) rs
 unfolding isPending isAmong
 rising-inserted x [] m h = (tt, tt)
 rising-inserted x (r ∷ rs) m h =
-    let n = or-false (same (x .id) (r .id)) (isAmong (x .id) (idsOf rs)) m in
+    let n = neither (same (x .id) (r .id)) (isAmong (x .id) (idsOf rs)) m in
     go (before (r .id) (x .id)) refl (same-sym (r .id) (x .id) ∙ n .0) (rising-inserted x rs (n .1) (h .1))
   where
-    or-false : (a b : Bool) → a || b ≡ false → (a ≡ false) × (b ≡ false)
-    or-false true b e = absurd (false≢true (sym e))
-    or-false false b e = (refl, e)
-
     go : (t : Bool) → before (r .id) (x .id) ≡ t → same (r .id) (x .id) ≡ false → RisingIds (idsOf (inserted idBefore x rs)) → RisingIds (idsOf (cond t (r ∷ inserted idBefore x rs) (x ∷ (r ∷ rs))))
     go true e n q = (all-ids-inserted (λ (id : Id). before (r .id) id ≡ true) x rs e (h .0), q)
     go false e n q =
