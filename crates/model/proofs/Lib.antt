@@ -4,3 +4,4 @@ pub mod FinishedLaws
 pub mod ArgumentLaws
 pub mod PendingLaws
 pub mod PlanLaws
+pub mod StepLaws
