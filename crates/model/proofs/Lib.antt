@@ -5,3 +5,4 @@ pub mod ArgumentLaws
 pub mod PendingLaws
 pub mod PlanLaws
 pub mod StepLaws
+pub mod CommandLaws
