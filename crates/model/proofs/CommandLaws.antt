@@ -22,11 +22,11 @@ pub ids-wide : (ids : List Id) → All WellId ids → Wide idSize ids
 ids-wide [] h = tt
 ids-wide (id ∷ ids) h = (h .0 .long, ids-wide ids (h .1))
 
-module _ (c : Command) (w : WellCommand c) where
-  pub length-command : length (commandBytes c) ≡ commandHeader + length (c .ids) * idSize
-  unfolding commandBytes
-  length-command = rw (length-joined idSize (c .ids) (ids-wide (c .ids) (w .ids))) (omega arith)
+pub length-command : (c : Command) → All WellId (c .ids) → length (commandBytes c) ≡ commandHeader + length (c .ids) * idSize
+unfolding commandBytes
+length-command c w = rw (length-joined idSize (c .ids) (ids-wide (c .ids) w)) (omega arith)
 
+module _ (c : Command) (w : WellCommand c) where
   -- the number of ids, whatever follows
   count-read : (rest : List ℕ) → field 12 4 (commandBytes c ++ rest) ≡ length (c .ids)
   unfolding commandBytes
@@ -57,7 +57,7 @@ module _ (c : Command) (w : WellCommand c) where
   command-read rest = rw (count-read rest, ids-read rest, batch-read rest, peer-read rest, kind-read rest, type-read rest)
 
   pub command-passed : (rest : List ℕ) → drop (commandHeader + field 12 4 (commandBytes c ++ rest) * idSize) (commandBytes c ++ rest) ≡ rest
-  command-passed rest = rw (count-read rest, drop-at (commandBytes c) rest (commandHeader + length (c .ids) * idSize) length-command)
+  command-passed rest = rw (count-read rest, drop-at (commandBytes c) rest (commandHeader + length (c .ids) * idSize) (length-command c (w .ids)))
 
   -- one command at the front of some bytes
   pub command-first : (n : ℕ) (rest : List ℕ) → commandsWithin (suc n) (commandBytes c ++ rest) ≡ c ∷ commandsWithin n rest
@@ -74,7 +74,7 @@ commands-within (suc n) (c ∷ cs) h w =
 pub commands-fewer : (cs : List Command) → All WellCommand cs → length cs ≤ length (allCommandBytes cs)
 commands-fewer [] w = omega arith
 commands-fewer (c ∷ cs) w =
-    let e = length-command c (w .0) in
+    let e = length-command c (w .0 .ids) in
     let r = commands-fewer cs (w .1) in
     rw length-append (omega arith)
 

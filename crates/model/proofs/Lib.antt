@@ -6,3 +6,4 @@ pub mod PendingLaws
 pub mod PlanLaws
 pub mod StepLaws
 pub mod CommandLaws
+pub mod SendingLaws
