@@ -7,3 +7,4 @@ pub mod PlanLaws
 pub mod StepLaws
 pub mod CommandLaws
 pub mod SendingLaws
+pub mod BoundLaws
