@@ -8,3 +8,4 @@ pub mod FilterLaws
 pub mod RisingLaws
 pub mod AllLaws
 pub mod SortLaws
+pub mod TotalLaws

@@ -25,6 +25,10 @@ pub and-right : (a b : Bool) → a && b ≡ true → b ≡ true
 and-right true b e = e
 and-right false b e = absurd (false≢true e)
 
+pub neither : (a b : Bool) → a || b ≡ false → (a ≡ false) × (b ≡ false)
+neither true b e = absurd (false≢true (sym e))
+neither false b e = (refl, e)
+
 pub not-both : (a : Bool) → a ≡ true → a ≡ false → ⊥
 not-both a p q = false≢true (sym q ∙ p)
 

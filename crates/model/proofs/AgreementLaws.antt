@@ -147,7 +147,7 @@ module _ (settings : Settings) (clock : ℕ) (check : Bool) (fate : Request → 
       (sym (marks-sorted itemBelow (again peers) (openRequests (first .open')) once)) refl
       (retries-agree settings gone clock (sorted itemBelow (again peers)) first
       (distinct-sorted (λ (i : Item). i .id) itemBelow (again peers) once)
-      (all-map (λ (id : Id). isAmong id opens ≡ true) (λ (i : Item). i .id) (sorted itemBelow (again peers))
+      (all-map (λ (i : Item). isAmong (i .id) opens ≡ true) (λ (id : Id). isAmong id opens ≡ true) (λ (i : Item). i .id) (λ i p. p) (sorted itemBelow (again peers))
       (all-sorted itemBelow (λ (i : Item). isAmong (i .id) opens ≡ true) (again peers) (map-all (λ (id : Id). isAmong id opens ≡ true) (λ (i : Item). i .id) (again peers) inside)))
       (none-among-nil (itemIds (sorted itemBelow (again peers))))
       (all-weaker (Room (idsOf (restarting fate (openRequests stays)))) (Room (itemIds (sorted itemBelow (again peers))))

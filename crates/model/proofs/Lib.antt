@@ -5,6 +5,15 @@ pub mod HeaderLaws
 pub mod ImageLaws
 pub mod FormedLaws
 pub mod RoundLaws
+pub mod Widths
+pub mod FinishedLaws
+pub mod ArgumentLaws
+pub mod PendingLaws
+pub mod PlanLaws
+pub mod StepLaws
+pub mod CommandLaws
+pub mod SendingLaws
+pub mod BoundLaws
 pub mod IdLaws
 pub mod RequestedLaws
 pub mod FateLaws

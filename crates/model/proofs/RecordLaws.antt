@@ -12,7 +12,6 @@ use Rattle.fields.specs.Facts.{All, Bytes}
 use Rattle.fields.specs.Number.{fromBe, toBe}
 use Rattle.fields.specs.Order.{before}
 use Rattle.fields.proofs.NumberLaws.{bytes-append, bytes-take, fromBe-split, fromBe-one}
-use Rattle.fields.proofs.AllLaws.{all-map, all-weaker}
 use Rattle.fields.proofs.OrderLaws.{and-left, and-right}
 use Rattle.fields.proofs.EntriesLaws.{Wide}
 use Rattle.fields.proofs.RisingLaws.{KeyBefore, Ascending}
