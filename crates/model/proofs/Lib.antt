@@ -8,3 +8,4 @@ pub mod StepLaws
 pub mod CommandLaws
 pub mod SendingLaws
 pub mod BoundLaws
+pub mod EntryLaws
