@@ -2,15 +2,17 @@
 use Prim.Native.Nat.{ℕ, _+_, _≤_, _<_}
 use mathlib.Core.Path.{_≡_, refl, sym}
 use mathlib.Core.Bool.{Bool, true, false}
+use mathlib.Core.List.{List}
 use lib.ListN.{length}
-use lib.Dec.{leb}
+use lib.Dec.{eqb, leb}
 use native.Mathlib.Omega.{arith}
-use borrow.Author.Tests.{leb-true}
+use borrow.Author.Tests.{leb-true, eqb-true}
 use Rattle.model.specs.Protocol.{trackedLimit, stalledLimit}
 use Rattle.model.specs.State.{State}
 use Rattle.model.specs.Steps.{plan, after}
+use Rattle.model.specs.Image.{areaSize, wellFormed, decode}
 use Rattle.model.specs.Lists.{peersFit, viewFits}
-use Rattle.model.specs.Calls.{Call, argsOf, unless, callFits, listsFit, resultRefusal, callRefusal}
+use Rattle.model.specs.Calls.{Call, argsOf, unless, callFits, listsFit, resultRefusal, callRefusal, stepRefusal}
 
 -- a test whose number is not the answer is passed
 pub held : (ok : Bool) (number others : ℕ) → 0 < number → unless ok number others ≡ 0 → (ok ≡ true) × (others ≡ 0)
@@ -57,3 +59,21 @@ passed st call e =
       tracked = leb-true (length (s .pending) + length (s .sync .evicted)) trackedLimit (h10 .0);
       stalledFew = leb-true (length (s .sync .stalledPeers)) stalledLimit (h11 .0);
     }
+
+-- The same with the areas.
+pub record PassedAreas (state area : List ℕ) (call : Call) : Type 0 where
+  pub stateSize : length state ≡ areaSize
+  pub image : wellFormed state ≡ true
+  pub commandsSize : areaSize ≤ length area
+  pub finished : callRefusal (decode state) call ≡ 0
+
+pub passed-areas : (state area : List ℕ) (call : Call) → stepRefusal state area call ≡ 0 → PassedAreas state area call
+unfolding stepRefusal
+passed-areas state area call e =
+    let r4 = callRefusal (decode state) call in
+    let r3 = unless (leb areaSize (length area)) 3 r4 in
+    let r2 = unless (wellFormed state) 2 r3 in
+    let h1 = held (eqb (length state) areaSize) 1 r2 (omega arith) e in
+    let h2 = held (wellFormed state) 2 r3 (omega arith) (h1 .1) in
+    let h3 = held (leb areaSize (length area)) 3 r4 (omega arith) (h2 .1) in
+    record { stateSize = eqb-true (length state) areaSize (h1 .0); image = h2 .0; commandsSize = leb-true areaSize (length area) (h3 .0); finished = h3 .1 }

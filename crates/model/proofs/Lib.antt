@@ -14,6 +14,7 @@ pub mod StepLaws
 pub mod CommandLaws
 pub mod SendingLaws
 pub mod BoundLaws
+pub mod EntryLaws
 pub mod IdLaws
 pub mod RequestedLaws
 pub mod FateLaws
