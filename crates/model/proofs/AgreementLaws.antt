@@ -29,6 +29,9 @@ use Rattle.model.specs.Calls.{Call, stepOf, argsOf, unless, isFlag, call
 use Rattle.model.specs.Book as book
 use Rattle.model.specs.Book.{Book, emptyBook, Stay, Ended, Fate, open', restarts, ends, ofVerdict, fateOf, modeAfter, stillOpen, allEnded, requestedIn, Entering, enterAll, fateIn, entering, bookAfter}
 use Rattle.model.specs.Demand3.{Fair}
+use Rattle.model.proofs.Widths.{WellAct}
+use Rattle.model.proofs.FinishedLaws.{Passed}
+use Rattle.model.proofs.StepLaws.{of-mode}
 use Rattle.model.proofs.IdLaws.{not-among-nil, none-among-nil, Distinct, distinct-kept, among-sorted, distinct-sorted}
 use Rattle.model.proofs.RequestedLaws.{requestedItem, requestedBySendings, requested-append, requested-commands, requested-retries}
 use Rattle.model.proofs.FateLaws.{openRequests, openIds, open-ids, remainingBy, remaining-same, remaining-stays, isRestart, restarting, restarting-judged, restarting-open, distinct-open, ended-count}
@@ -36,7 +39,6 @@ use Rattle.model.proofs.StepKindLaws.{fateBy, fate-of-kind, modeBy, mod
 use Rattle.model.proofs.ModeLaws.{mode-follows, remaining-by, peers-listed}
 use Rattle.model.proofs.StayLaws.{Good, Judges, good-still-open, fair-ended, Room, restarting-room}
 use Rattle.model.proofs.EnteringLaws.{itemIds, Sound, Agrees, agrees-as, marks-sorted, retries-agree, enter-append, acts-agree}
-use Rattle.model.proofs.ActLaws.{acts-indirect}
 
 -- What holds between steps.
 pub record Agreement (st : State) (b : Book) : Type 0 where
@@ -48,37 +50,12 @@ pub record Agreement (st : State) (b : Book) : Type 0 where
   pub fairEnded : All (λ (e : Ended). Fair (st .settings) (e .stay)) (b .ended)
   pub entries : b .entries ≡ length (b .open') + length (b .ended)
 
--- ---- a call that nothing refuses
-
-pub unless-passed : (ok : Bool) (number others : ℕ) → 0 < number → unless ok number others ≡ 0 → (ok ≡ true) × (others ≡ 0)
-unless-passed true number others p e = (refl, e)
-unless-passed false number others p e = absurd (omega arith)
-
-pub record Accepted (st : State) (call : Call) : Type 0 where
-  pub low : 1 ≤ call .kind
-  pub high : call .kind ≤ 16
-  pub ofMode : ofMode (st .mode) (st .sync .entrySent) (stepOf call) ≡ true
-  pub peers : peersFit (call .peers) ≡ true
-
-pub accepted : (st : State) (call : Call) → callRefusal st call ≡ 0 → Accepted st call
-unfolding callRefusal callFits
-accepted st call e =
-    let kind : Bool = leb 1 (call .kind) && leb (call .kind) 16 in
+known-kind : (st : State) (call : Call) → callFits st call ≡ true → (1 ≤ call .kind) × (call .kind ≤ 16)
+unfolding callFits
+known-kind st call e =
     let flags : Bool = isFlag (call .gate) && (isFlag (call .parsed) && isFlag (call .hastip)) in
-    let fits : Bool = ofMode (st .mode) (st .sync .entrySent) (stepOf call) in
-    let view : ℕ = unless (viewFits (call .view)) 8 (resultRefusal st (argsOf call)) in
-    let lists : ℕ = unless (listsFit call) 6 (unless (peersFit (call .peers)) 7 view) in
-    let p4 = unless-passed (leb (st .lastClock) (call .clock)) 4 (unless (kind && (flags && fits)) 5 lists) (omega arith) e in
-    let p5 = unless-passed (kind && (flags && fits)) 5 lists (omega arith) (p4 .1) in
-    let p6 = unless-passed (listsFit call) 6 (unless (peersFit (call .peers)) 7 view) (omega arith) (p5 .1) in
-    let p7 = unless-passed (peersFit (call .peers)) 7 view (omega arith) (p6 .1) in
-    let inKind = and-left kind (flags && fits) (p5 .0) in
-    record {
-      low = leb-true 1 (call .kind) (and-left (leb 1 (call .kind)) (leb (call .kind) 16) inKind);
-      high = leb-true (call .kind) 16 (and-right (leb 1 (call .kind)) (leb (call .kind) 16) inKind);
-      ofMode = and-right flags fits (and-right kind (flags && fits) (p5 .0));
-      peers = p7 .0;
-    }
+    let known = and-left (leb 1 (call .kind) && leb (call .kind) 16) (flags && ofMode (st .mode) (st .sync .entrySent) (stepOf call)) e in
+    (leb-true 1 (call .kind) (and-left (leb 1 (call .kind)) (leb (call .kind) 16) known), leb-true (call .kind) 16 (and-right (leb 1 (call .kind)) (leb (call .kind) 16) known))
 
 -- ---- the first half
 
@@ -157,7 +134,10 @@ module _ (settings : Settings) (clock : ℕ) (check : Bool) (fate : Request → 
 
 -- ---- one finished step
 
-module _ (st : State) (call : Call) (b : Book) (h : Agreement st b) (k : Accepted st call) where
+module _ (st : State) (call : Call) (b : Book) (h : Agreement st b) (passes : Passed st call) (actsWell : All WellAct (plan st (argsOf call) .acts)) where
+  known : (1 ≤ call .kind) × (call .kind ≤ 16)
+  known = known-kind st call (passes .fits)
+
   abbrev a : Args
   a = argsOf call
 
@@ -184,7 +164,7 @@ module _ (st : State) (call : Call) (b : Book) (h : Agreement st b) (k : Accepte
   remaining-open =
       remaining-by st a (stepOf call)
       ∙ remaining-same (call .clock) (fateBy (st .settings) (modeNumber (st .mode)) (call .clock) outcome (stepOf call)) fates
-      (λ r. sym (fate-of-kind call (st .settings) (modeNumber (st .mode)) outcome r (k .low) (k .high))) (st .pending)
+      (λ r. sym (fate-of-kind call (st .settings) (modeNumber (st .mode)) outcome r (known .0) (known .1))) (st .pending)
       ∙ ap (remainingBy (call .clock) fates) (h .pending)
       ∙ remaining-stays (eqb (call .kind) 12) (call .clock) fates (b .open')
 
@@ -196,13 +176,13 @@ module _ (st : State) (call : Call) (b : Book) (h : Agreement st b) (k : Accepte
   retried-checked : eqb (call .kind) 12 ≡ true → retried st a ≡ cond (a .gate) restarted []
   unfolding retried retries argsOf
   retried-checked e =
-      rw (← check-of-kind call (k .low) (k .high), e)
+      rw (← check-of-kind call (known .0) (known .1), e)
       (ap (λ (l : List Request). cond (a .gate) (map (retryOf (a .peers)) l) [])
       (ap (judged (st .settings) (call .clock) delivery.retried) (h .pending) ∙ restarting-judged (st .settings) (call .clock) fates (judges .checked e) (openRequests (b .open'))))
 
   retried-none : eqb (call .kind) 12 ≡ false → retried st a ≡ []
   unfolding retried argsOf
-  retried-none e = rw (← check-of-kind call (k .low) (k .high), e)
+  retried-none e = rw (← check-of-kind call (known .0) (known .1), e)
 
   abbrev ItemsAgree : List Item → Type 0
   ItemsAgree items = Agrees (st .settings) ended (markAllRetried items (openRequests (begun .open'))) (enterAll (call .clock) (map requestedItem (sorted itemBelow items)) begun)
@@ -226,7 +206,7 @@ module _ (st : State) (call : Call) (b : Book) (h : Agreement st b) (k : Accepte
   unfolding performed argsOf
   performed-agrees =
       acts-agree (st .settings) ended (a .gate) (call .clock) (plan st a .acts) (markAllRetried (retried st a) (remaining st a (a .step)))
-      (enterAll (call .clock) (map requestedItem (sorted itemBelow (retried st a))) begun) (acts-indirect st a)
+      (enterAll (call .clock) (map requestedItem (sorted itemBelow (retried st a))) begun) actsWell
       (rw remaining-open (retried-agree (eqb (call .kind) 12) refl))
 
   module _ (bytes : List ℕ) (reads : commandsIn bytes ≡ commands st a) where
@@ -252,8 +232,8 @@ module _ (st : State) (call : Call) (b : Book) (h : Agreement st b) (k : Accepte
     unfolding plan argsOf
     mode-agrees =
         rw (h .mode)
-        (mode-of-kind call (modeNumber (st .mode)) outcome (k .low) (k .high)
-        ∙ sym (mode-follows st a (length (call .peers)) (peers-listed (call .peers) (k .peers)) (stepOf call) (k .ofMode)))
+        (mode-of-kind call (modeNumber (st .mode)) outcome (known .0) (known .1)
+        ∙ sym (mode-follows st a (length (call .peers)) (peers-listed (call .peers) (passes .peers)) (stepOf call) (of-mode st call (passes .fits))))
 
     fates-same : fateIn b call outcome bytes ≡ fates
     unfolding fateIn

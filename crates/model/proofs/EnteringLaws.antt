@@ -9,7 +9,7 @@ use Rattle.fields.specs.Facts.{All}
 use Rattle.fields.specs.Order.{before, same}
 use Rattle.fields.specs.Filter.{consIf, kept}
 use Rattle.fields.specs.Sort.{inserted, sorted}
-use Rattle.fields.proofs.OrderLaws.{same-eq, same-sym}
+use Rattle.fields.proofs.OrderLaws.{neither, same-eq, same-sym}
 use Rattle.fields.proofs.AllLaws.{all-weaker, all-kept, all-pass}
 use Rattle.fields.proofs.SortLaws.{all-inserted, length-inserted, map-inserted}
 use borrow.Author.Tests.{not-true}
@@ -21,10 +21,12 @@ use Rattle.model.specs.Requests
 use Rattle.model.specs.Sections.{Item, itemBelow}
 use Rattle.model.specs.Check.{markAllRetried}
 use Rattle.model.specs.Book.{Stay, Requested, Entering, isOpen, takesPeer, enters, stayBefore, enter, enterAll}
-use Rattle.model.proofs.IdLaws.{or-left, or-none, Distinct, EachAmong, NoneAmong, none-among-cons, among-inserted, distinct-inserted, among-sorted}
+use Rattle.model.proofs.Widths.{WellAct}
+use Rattle.model.proofs.PendingLaws.{most-positive}
+use Rattle.model.proofs.IdLaws.{or-left, Distinct, EachAmong, NoneAmong, none-among-cons, among-inserted, distinct-inserted, among-sorted}
 use Rattle.model.proofs.FateLaws.{openRequests, openIds, open-ids}
 use Rattle.model.proofs.RequestedLaws.{requested, requestedItem, requestedBySendings, requested-append}
-use Rattle.model.proofs.StayLaws.{Good, Room, most-positive}
+use Rattle.model.proofs.StayLaws.{Good, Room}
 
 abbrev pub itemIds : List Item → List Id
 itemIds items = map (λ (i : Item). i .id) items
@@ -56,7 +58,7 @@ marks-swap : (x : Item) (items : List Item) (rs : List Request) → isAmong (x .
 unfolding isAmong
 marks-swap x [] rs m = refl
 marks-swap x (i ∷ items) rs m =
-    let p = or-none (same (x .id) (i .id)) (isAmong (x .id) (itemIds items)) m in
+    let p = neither (same (x .id) (i .id)) (isAmong (x .id) (itemIds items)) m in
     let n : same (i .id) (x .id) ≡ false = same-sym (i .id) (x .id) ∙ p .0 in
     ap (markAllRetried items) (mark-swap (i .peer) (x .peer) (i .id) (x .id) n rs) ∙ marks-swap x items (markRetried (i .peer) (i .id) rs) (p .1)
 
@@ -65,7 +67,7 @@ marks-inserted : (below : Item → Item → Bool) (x : Item) (items : List Item)
 unfolding isAmong
 marks-inserted below x [] rs m = refl
 marks-inserted below x (i ∷ items) rs m =
-    let p = or-none (same (x .id) (i .id)) (isAmong (x .id) (itemIds items)) m in
+    let p = neither (same (x .id) (i .id)) (isAmong (x .id) (itemIds items)) m in
     go (below i x) (same-sym (i .id) (x .id) ∙ p .0) (marks-inserted below x items (markRetried (i .peer) (i .id) rs) (p .1))
   where
     go : (t : Bool) → same (i .id) (x .id) ≡ false → markAllRetried (inserted below x items) (markRetried (i .peer) (i .id) rs) ≡ markAllRetried (x ∷ items) (markRetried (i .peer) (i .id) rs)
@@ -266,15 +268,8 @@ pub enter-append : (clock : ℕ) (xs ys : List Requested) (b : Entering) → ent
 enter-append clock [] ys b = refl
 enter-append clock (x ∷ xs) ys b = enter-append clock xs ys (enter clock x b)
 
--- Requests go through rule 3: an act sends none straight away.
-abbrev pub Indirect : Act → Type 0
-Indirect (ask typeId peer pairs ids) = Unit {0}
-Indirect (send (Requests.request typeId peer ids)) = ⊥
-Indirect (send (Requests.announcement peer ids)) = Unit {0}
-Indirect (send (Requests.syncInfo peer)) = Unit {0}
-
 module _ (settings : Settings) (gone : ℕ) (gate : Bool) (clock : ℕ) where
-  act-agrees : (g : Bool) (act : Act) (b : Entering) → Indirect act → Sound settings gone b
+  act-agrees : (g : Bool) (act : Act) (b : Entering) → WellAct act → Sound settings gone b
       → Agrees settings gone (perform g clock act (openRequests (b .open')) .pending) (enterAll clock (requestedBySendings (perform g clock act (openRequests (b .open')) .sendings)) b)
   act-agrees true (ask typeId peer pairs ids) b i h =
       rw (requested-list typeId peer (wanted (openRequests (b .open')) typeId pairs ids))
@@ -284,7 +279,7 @@ module _ (settings : Settings) (gone : ℕ) (gate : Bool) (clock : ℕ) where
   act-agrees g (send (Requests.announcement peer ids)) b i h = record { requests = refl; sound = h }
   act-agrees g (send (Requests.syncInfo peer)) b i h = record { requests = refl; sound = h }
 
-  pub acts-agree : (acts : List Act) (pending : List Request) (b : Entering) → All Indirect acts → Agrees settings gone pending b
+  pub acts-agree : (acts : List Act) (pending : List Request) (b : Entering) → All WellAct acts → Agrees settings gone pending b
       → Agrees settings gone (performAll gate clock acts pending .pending) (enterAll clock (requestedBySendings (performAll gate clock acts pending .sendings)) b)
   acts-agree [] pending b i h = h
   acts-agree (act ∷ acts) pending b i h =

@@ -14,7 +14,8 @@ use Rattle.model.specs.Settings.{Settings}
 use Rattle.model.specs.Delivery as delivery
 use Rattle.model.specs.Delivery.{Request, Verdict, verdict, verdictNumber, restarted, idsOf, checkTimeouts, afterVerdict, judged}
 use Rattle.model.specs.Book.{Stay, Ended, Reason, Fate, open', restarts, ends, ofVerdict, noted, withRequest, goesOn, stillOpen, endedBy, allEnded}
-use Rattle.model.proofs.IdLaws.{or-none, among-self, EachAmong, each-among-cons, Distinct}
+use Rattle.fields.proofs.OrderLaws.{neither}
+use Rattle.model.proofs.IdLaws.{among-self, EachAmong, each-among-cons, Distinct}
 
 abbrev pub openRequests : List Stay → List Request
 openRequests stays = map (λ (s : Stay). s .request) stays
@@ -118,7 +119,7 @@ module _ (isCheck : Bool) (clock : ℕ) (fate : Request → Fate) where
   unfolding isAmong restarted
   not-among-open id [] m = m
   not-among-open id (s ∷ stays) m =
-      let p = or-none (same id (s .request .id)) (isAmong id (openIds stays)) m in
+      let p = neither (same id (s .request .id)) (isAmong id (openIds stays)) m in
       go (fate (s .request)) (p .0) (not-among-open id stays (p .1))
     where
       go : (f : Fate) → same id (s .request .id) ≡ false → isAmong id (openIds (stillOpen isCheck clock fate stays)) ≡ false

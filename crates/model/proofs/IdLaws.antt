@@ -6,12 +6,8 @@ use Rattle.fields.specs.Facts.{All}
 use Rattle.fields.specs.Order.{same}
 use Rattle.fields.specs.Filter.{consIf, kept}
 use Rattle.fields.specs.Sort.{inserted, sorted}
-use Rattle.fields.proofs.OrderLaws.{same-refl, same-sym}
+use Rattle.fields.proofs.OrderLaws.{neither, same-refl, same-sym}
 use Rattle.model.specs.Protocol.{Id, isAmong}
-
-pub or-none : (a b : Bool) → a || b ≡ false → (a ≡ false) × (b ≡ false)
-or-none true b e = absurd (false≢true (sym e))
-or-none false b e = (refl, e)
 
 pub or-left : (a b : Bool) → a ≡ true → a || b ≡ true
 or-left a b e = rw e
@@ -57,7 +53,7 @@ pub none-among-cons : (x : Id) (ids those : List Id) → isAmong x ids ≡ false
 unfolding isAmong
 none-among-cons x [] those h n = tt
 none-among-cons x (id ∷ ids) those h n =
-    let p = or-none (same x id) (isAmong x ids) h in
+    let p = neither (same x id) (isAmong x ids) h in
     (rw (same-sym id x, p .0) (n .0), none-among-cons x ids those (p .1) (n .1))
 
 -- ---- none twice
@@ -83,7 +79,7 @@ module _ {ℓ} {A : Type ℓ} (idOf : A → Id) (below : A → A → Bool) where
   unfolding isAmong
   distinct-inserted x [] m d = (m, tt)
   distinct-inserted x (y ∷ ys) m d =
-      let p = or-none (same (idOf x) (idOf y)) (isAmong (idOf x) (map idOf ys)) m in
+      let p = neither (same (idOf x) (idOf y)) (isAmong (idOf x) (map idOf ys)) m in
       go (below y x) (p .0) (distinct-inserted x ys (p .1) (d .1))
     where
       go : (t : Bool) → same (idOf x) (idOf y) ≡ false → Distinct (map idOf (inserted below x ys)) → Distinct (map idOf (cond t (y ∷ inserted below x ys) (x ∷ (y ∷ ys))))
@@ -103,7 +99,7 @@ module _ {ℓ} {A : Type ℓ} (idOf : A → Id) (test : A → Bool) where
   pub not-among-kept : (id : Id) (xs : List A) → isAmong id (map idOf xs) ≡ false → isAmong id (map idOf (kept test xs)) ≡ false
   unfolding isAmong
   not-among-kept id [] m = m
-  not-among-kept id (x ∷ xs) m = let p = or-none (same id (idOf x)) (isAmong id (map idOf xs)) m in go (test x) (p .0) (not-among-kept id xs (p .1))
+  not-among-kept id (x ∷ xs) m = let p = neither (same id (idOf x)) (isAmong id (map idOf xs)) m in go (test x) (p .0) (not-among-kept id xs (p .1))
     where
       go : (t : Bool) → same id (idOf x) ≡ false → isAmong id (map idOf (kept test xs)) ≡ false → isAmong id (map idOf (consIf t x (kept test xs))) ≡ false
       go true p q = rw (p, q)

@@ -22,7 +22,6 @@ pub mod StepKindLaws
 pub mod ModeLaws
 pub mod StayLaws
 pub mod EnteringLaws
-pub mod ActLaws
 pub mod AgreementLaws
 pub mod BalanceLaws
 pub mod Demand3

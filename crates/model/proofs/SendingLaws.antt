@@ -35,7 +35,9 @@ request-well typeId peer (id ∷ ids) w = (w, tt)
 act-sends-well : (gate : Bool) (clock : ℕ) (act : Act) (rs : List Request) → WellAct act → All WellSending (perform gate clock act rs .sendings)
 act-sends-well true clock (ask typeId peer pairs ids) rs w = request-well typeId peer (wanted rs typeId pairs ids) (wanted-well rs typeId peer pairs ids w)
 act-sends-well false clock (ask typeId peer pairs ids) rs w = tt
-act-sends-well gate clock (send s) rs w = (w, tt)
+act-sends-well gate clock (send (request typeId peer ids)) rs w = absurd w
+act-sends-well gate clock (send (announcement peer ids)) rs w = (w, tt)
+act-sends-well gate clock (send (syncInfo peer)) rs w = (w, tt)
 
 pub performed-sends-well : (gate : Bool) (clock : ℕ) (acts : List Act) (rs : List Request) → All WellAct acts → All WellSending (performAll gate clock acts rs .sendings)
 performed-sends-well gate clock [] rs w = tt

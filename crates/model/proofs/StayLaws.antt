@@ -7,33 +7,22 @@ use native.Mathlib.Omega.{arith}
 use native.Mathlib.Nat.{mul-le-mul-right}
 use lib.ListN.{length}
 use lib.Dec.{eqb, leb}
-use borrow.Author.Tests.{eqb-true, leb-true, leb-false}
+use borrow.Author.Tests.{leb-false}
 use Rattle.fields.specs.Facts.{All}
 use Rattle.fields.specs.Order.{same}
 use Rattle.fields.specs.Filter.{consIf, kept}
-use Rattle.fields.proofs.OrderLaws.{same-sym}
+use Rattle.fields.proofs.OrderLaws.{neither, same-sym}
 use Rattle.model.specs.Protocol.{Id, isAmong, isTransaction}
-use Rattle.model.specs.Settings.{Settings, patience, expired, givenUp, mostRequests}
+use Rattle.model.specs.Settings.{Settings, patience, expired, givenUp}
 use Rattle.model.specs.Delivery as delivery
 use Rattle.model.specs.Delivery.{Request, Verdict, verdict, restarted, idsOf}
 use Rattle.model.specs.Book.{Stay, Ended, Fate, open', restarts, ends, ofVerdict, noted, withRequest, goesOn, stillOpen, endedBy, allEnded}
 use Rattle.model.specs.Demand3.{lastOf, GapsWithin, InTime, patienceOf, mostOf, Fair}
-use Rattle.model.proofs.IdLaws.{or-none, Distinct, not-among-kept}
+use Rattle.model.proofs.PendingLaws.{most-lasting, retried-means}
+use Rattle.model.proofs.IdLaws.{Distinct, not-among-kept}
 use Rattle.model.proofs.FateLaws.{openRequests, openIds, open-ids, isRestart, restarting, not-among-open}
 
--- ---- settings
-
-pub most-positive : (settings : Settings) (typeId : ℕ) → 0 < mostRequests settings typeId
-unfolding mostRequests
-most-positive settings typeId = go (isTransaction typeId)
-  where
-    go : (t : Bool) → 0 < cond t 1 (max 1 (settings .maxChecks))
-    go true = omega arith
-    go false = omega arith
-
-most-solid : (settings : Settings) (typeId : ℕ) → isTransaction typeId ≡ false → mostRequests settings typeId ≡ max 1 (settings .maxChecks)
-unfolding mostRequests
-most-solid settings typeId e = rw e
+-- ---- patience
 
 module _ (settings : Settings) (typeId : ℕ) where
   patience-more : (m k : ℕ) → patienceOf settings typeId m ≤ patienceOf settings typeId (m + k)
@@ -67,25 +56,13 @@ isWaiting open' = true
 isWaiting restarts = false
 isWaiting (ends reason) = false
 
+restart-retried : (v : Verdict) → ofVerdict v ≡ restarts → v ≡ delivery.retried
+restart-retried delivery.waiting e = absurd (false≢true (ap isRestart e))
+restart-retried delivery.retried e = refl
+restart-retried delivery.abandoned e = absurd (false≢true (ap isRestart e))
+restart-retried delivery.forgotten e = absurd (false≢true (ap isRestart e))
+
 module _ (settings : Settings) (clock : ℕ) (r : Request) where
-  pub record Retried : Type 0 where
-    pub due : patience settings (r .typeId) (r .checks) ≤ clock - r .stamp
-    pub solid : isTransaction (r .typeId) ≡ false
-    pub few : suc (r .checks) < settings .maxChecks
-
-  pub retried-due : ofVerdict (verdict settings clock r) ≡ restarts → Retried
-  unfolding verdict expired givenUp
-  retried-due e =
-      go (leb (patience settings (r .typeId) (r .checks)) (clock - r .stamp)) (isTransaction (r .typeId)) (leb (settings .maxChecks) (suc (r .checks))) refl refl refl e
-    where
-      go : (t u v : Bool) → leb (patience settings (r .typeId) (r .checks)) (clock - r .stamp) ≡ t → isTransaction (r .typeId) ≡ u → leb (settings .maxChecks) (suc (r .checks)) ≡ v
-          → ofVerdict (cond t (cond u delivery.forgotten (cond v delivery.abandoned delivery.retried)) delivery.waiting) ≡ restarts → Retried
-      go true true v p q k e = absurd (false≢true (ap isRestart e))
-      go true false true p q k e = absurd (false≢true (ap isRestart e))
-      go true false false p q k e =
-          record { due = leb-true (patience settings (r .typeId) (r .checks)) (clock - r .stamp) p; solid = q; few = leb-false (settings .maxChecks) (suc (r .checks)) k }
-      go false u v p q k e = absurd (false≢true (ap isRestart e))
-
   waiting-early : ofVerdict (verdict settings clock r) ≡ open' → clock - r .stamp < patience settings (r .typeId) (r .checks)
   unfolding verdict expired givenUp
   waiting-early e = go (leb (patience settings (r .typeId) (r .checks)) (clock - r .stamp)) (isTransaction (r .typeId)) (leb (settings .maxChecks) (suc (r .checks))) refl e
@@ -144,9 +121,8 @@ good-retried : (settings : Settings) (clock : ℕ) (s : Stay) → ofVerdict (ver
     → Good settings (withRequest s (restarted clock (s .request)) (clock ∷ s .outlived))
 unfolding restarted
 good-retried settings clock s e g =
-    let d : Retried settings clock (s .request) = retried-due settings clock (s .request) e in
-    let most : mostOf settings s ≡ max 1 (settings .maxChecks) = most-solid settings (s .request .typeId) (d .solid) in
-    let few : suc (s .request .checks) < mostOf settings s = rw most (omega (arith, d .few)) in
+    let means = retried-means settings clock (s .request) (restart-retried (verdict settings clock (s .request)) e) in
+    let few : suc (s .request .checks) < mostOf settings s = omega (arith, means .1, most-lasting settings (s .request .typeId) (means .0)) in
     let next = patience-next settings (s .request .typeId) (s .request .checks) in
     let rises = patience-rises settings (s .request .typeId) (suc (s .request .checks)) (mostOf settings s) (omega arith) in
     let stamp : (gap : ℕ) → GapsWithin gap (s .entry) (clock ∷ s .outlived)
@@ -211,7 +187,7 @@ room-cons : (x : Id) (ids : List Id) (stays : List Stay) → isAmong x (openIds 
 unfolding isAmong
 room-cons x ids [] m h = tt
 room-cons x ids (s ∷ stays) m h =
-    let p = or-none (same x (s .request .id)) (isAmong x (openIds stays)) m in
+    let p = neither (same x (s .request .id)) (isAmong x (openIds stays)) m in
     let q : same (s .request .id) x ≡ false = same-sym (s .request .id) x ∙ p .0 in
     (λ e. h .0 (rw q at e), room-cons x ids stays (p .1) (h .1))
 

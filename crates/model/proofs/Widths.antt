@@ -43,9 +43,12 @@ WellSending (requests.request typeId peer ids) = WellList typeId peer ids
 WellSending (requests.announcement peer ids) = WellList headerType peer ids × (length ids ≤ 400)
 WellSending (requests.syncInfo peer) = WellPeer peer
 
+-- A request goes through rule 3: no act sends one straight away.
 abbrev pub WellAct : Act → Type 0
 WellAct (requests.ask typeId peer pairs ids) = WellList typeId peer ids
-WellAct (requests.send s) = WellSending s
+WellAct (requests.send (requests.request typeId peer ids)) = ⊥
+WellAct (requests.send (requests.announcement peer ids)) = WellList headerType peer ids × (length ids ≤ 400)
+WellAct (requests.send (requests.syncInfo peer)) = WellPeer peer
 
 pub record WellCommand (c : Command) : Type 0 where
   pub kindLow : 1 ≤ c .kind
