@@ -1,10 +1,10 @@
 -- Core and book agree after a finished step if they did before it, and the stays' invariant is kept.
-use Prim.Native.Nat.{ℕ, suc, _+_, _≤_, _<_}
+use Prim.Native.Nat.{ℕ, _+_, _≤_}
 use mathlib.Core.Path.{_≡_, refl, sym, ap, _∙_}
-use mathlib.Core.Bool.{Bool, true, false, not, cond, _||_, _&&_, false≢true}
-use mathlib.Core.List.{List, [], _∷_, _++_, map, map-map}
+use mathlib.Core.Bool.{Bool, true, false, cond, _&&_, false≢true}
+use mathlib.Core.List.{List, [], _++_, map, map-map}
 use native.Mathlib.Omega.{arith}
-use lib.ListN.{length, length-map}
+use lib.ListN.{length}
 use lib.Dec.{eqb, leb}
 use borrow.Author.Tests.{eqb-true, leb-true}
 use Rattle.fields.specs.Facts.{All}
@@ -17,17 +17,15 @@ use Rattle.model.specs.Settings.{Settings}
 use Rattle.model.specs.Delivery as delivery
 use Rattle.model.specs.Delivery.{Request, verdict, idsOf, judged}
 use Rattle.model.specs.State.{modeNumber, State, opened}
-use Rattle.model.specs.Requests.{Command, commandsFrom}
 use Rattle.model.specs.Sections.{Item, itemBelow}
 use Rattle.model.specs.Check.{retryOf, retries, markAllRetried, retrySendings}
 use Rattle.model.specs.Events.{outcomeNumber}
-use Rattle.model.specs.Steps
-use Rattle.model.specs.Steps.{Step, Args, ofMode, isCheck, planOf, plan, remaining, retried, performed, after, commands}
-use Rattle.model.specs.Lists.{idsIn, peersIn, peersFit, viewFits}
+use Rattle.model.specs.Steps.{Args, ofMode, plan, remaining, retried, performed, after, commands}
+use Rattle.model.specs.Lists.{idsIn}
 use Rattle.model.specs.Commands.{commandsIn}
-use Rattle.model.specs.Calls.{Call, stepOf, argsOf, unless, isFlag, callFits, listsFit, resultRefusal, callRefusal}
+use Rattle.model.specs.Calls.{Call, stepOf, argsOf, isFlag, callFits}
 use Rattle.model.specs.Book as book
-use Rattle.model.specs.Book.{Book, emptyBook, Stay, Ended, Fate, open', restarts, ends, ofVerdict, fateOf, modeAfter, stillOpen, allEnded, requestedIn, Entering, enterAll, fateIn, entering, bookAfter}
+use Rattle.model.specs.Book.{Book, emptyBook, Stay, Ended, Fate, open', ends, ofVerdict, fateOf, modeAfter, stillOpen, allEnded, requestedIn, Entering, enterAll, fateIn, entering, bookAfter}
 use Rattle.model.specs.Demand3.{Fair}
 use Rattle.model.proofs.Widths.{WellAct}
 use Rattle.model.proofs.FinishedLaws.{Passed}
@@ -35,7 +33,7 @@ use Rattle.model.proofs.StepLaws.{of-mode}
 use Rattle.model.proofs.IdLaws.{not-among-nil, none-among-nil, Distinct, distinct-kept, among-sorted, distinct-sorted}
 use Rattle.model.proofs.RequestedLaws.{requestedItem, requestedBySendings, requested-append, requested-commands, requested-retries}
 use Rattle.model.proofs.FateLaws.{openRequests, openIds, open-ids, remainingBy, remaining-same, remaining-stays, isRestart, restarting, restarting-judged, restarting-open, distinct-open, ended-count}
-use Rattle.model.proofs.StepKindLaws.{fateBy, fate-of-kind, modeBy, mode-of-kind, check-of-kind}
+use Rattle.model.proofs.StepKindLaws.{fateBy, fate-of-kind, mode-of-kind, check-of-kind}
 use Rattle.model.proofs.ModeLaws.{mode-follows, remaining-by, peers-listed}
 use Rattle.model.proofs.StayLaws.{Good, Judges, good-still-open, fair-ended, Room, restarting-room}
 use Rattle.model.proofs.EnteringLaws.{itemIds, Sound, Agrees, agrees-as, marks-sorted, retries-agree, enter-append, acts-agree}

@@ -1,26 +1,25 @@
 -- Demand 3, proved: core and book agree after any list of raw calls, and every stay is fair.
-use Prim.Native.Nat.{ℕ, _+_, _≤_, _<_, _^_}
-use mathlib.Core.Path.{_≡_, refl, sym, ap, _∙_}
-use mathlib.Core.Bool.{Bool, true, false, cond}
-use mathlib.Core.List.{List, [], _∷_, _++_, map}
+use Prim.Native.Nat.{ℕ, _+_}
+use mathlib.Core.Path.{_≡_, refl, ap, _∙_}
+use mathlib.Core.Bool.{Bool, true, false}
+use mathlib.Core.List.{List, [], _∷_}
 use native.Mathlib.Omega.{arith}
 use lib.ListN.{length, take, drop, length-map}
 use lib.Seq.{take-at}
-use lib.Dec.{eqb, leb}
+use lib.Dec.{eqb}
 use borrow.Author.Tests.{eqb-true, eq-eqb}
 use Rattle.fields.specs.Facts.{All}
 use Rattle.fields.specs.Overwrite.{overwritten}
 use Rattle.fields.proofs.AllLaws.{all-weaker}
-use Rattle.model.specs.Settings.{Settings}
-use Rattle.model.specs.Delivery.{Request, idsOf}
+use Rattle.model.specs.Delivery.{idsOf}
 use Rattle.model.specs.State.{State, opened}
 use Rattle.model.specs.Events.{outcomeNumber}
 use Rattle.model.specs.Steps.{Args, plan, after, commands}
-use Rattle.model.specs.Image.{areaSize, encode, decode, pendingOf, wellFormed}
+use Rattle.model.specs.Image.{areaSize, encode, decode, pendingOf}
 use Rattle.model.specs.Commands.{commandsIn}
-use Rattle.model.specs.Calls.{Call, argsOf, unless, Answer, stepAnswer, stepBytes, callRefusal, stepRefusal, step, Result, refused, Opening, open'}
+use Rattle.model.specs.Calls.{Call, argsOf, stepAnswer, stepBytes, callRefusal, stepRefusal, step, Opening, open'}
 use Rattle.model.specs.Book.{Book, emptyBook, bookAfter}
-use Rattle.model.specs.Runs.{Finished, Path, bookAlong, bookOf, lastReport, Core, Lent, noted, called, calledAll, freshCore}
+use Rattle.model.specs.Runs.{Finished, bookAlong, bookOf, lastReport, Core, Lent, noted, called, calledAll, freshCore}
 use Rattle.model.specs.Demand3.{Fair, Demand3, InWidth, OpeningInWidth, Demand3Holds}
 use Rattle.model.proofs.Well.{Well}
 use Rattle.model.proofs.Widths.{WellAct}
@@ -29,7 +28,7 @@ use Rattle.model.proofs.FinishedLaws.{Passed, passed, passed-areas}
 use Rattle.model.proofs.PlanLaws.{plan-well}
 use Rattle.model.proofs.StepLaws.{opened-well, of-mode, args-well, step-well}
 use Rattle.model.proofs.BoundLaws.{step-read-back}
-use Rattle.model.proofs.FateLaws.{openRequests, open-ids}
+use Rattle.model.proofs.FateLaws.{open-ids}
 use Rattle.model.proofs.StayLaws.{Good, good-fair}
 use Rattle.model.proofs.AgreementLaws.{Agreement, step-agrees, opened-agrees}
 use Rattle.model.proofs.BalanceLaws.{ended-reasons}

@@ -1,26 +1,26 @@
 -- The second half of a step: the requests that the core marks are those that the book reads off the commands.
-use Prim.Native.Nat.{ℕ, zero, suc, _+_, _*_, _≤_, _<_}
+use Prim.Native.Nat.{ℕ, suc, _+_}
 use mathlib.Core.Path.{_≡_, refl, sym, ap, _∙_}
-use mathlib.Core.Bool.{Bool, true, false, not, cond, _||_, _&&_, false≢true}
+use mathlib.Core.Bool.{Bool, true, false, not, cond, _||_, false≢true}
 use mathlib.Core.List.{List, [], _∷_, _++_, map, append-nil}
 use native.Mathlib.Omega.{arith}
 use lib.ListN.{length, length-map}
 use Rattle.fields.specs.Facts.{All}
-use Rattle.fields.specs.Order.{before, same}
-use Rattle.fields.specs.Filter.{consIf, kept}
+use Rattle.fields.specs.Order.{same}
+use Rattle.fields.specs.Filter.{kept}
 use Rattle.fields.specs.Sort.{inserted, sorted}
 use Rattle.fields.proofs.OrderLaws.{neither, same-eq, same-sym}
 use Rattle.fields.proofs.AllLaws.{all-weaker, all-kept, all-pass}
 use Rattle.fields.proofs.SortLaws.{all-inserted, length-inserted, map-inserted}
 use borrow.Author.Tests.{not-true}
 use Rattle.model.specs.Protocol.{Id, isAmong}
-use Rattle.model.specs.Settings.{Settings, mostRequests}
-use Rattle.model.specs.Delivery.{Request, idsOf, isPending, idBefore, withPeer, markRequested, markRetried}
-use Rattle.model.specs.Requests.{Pair, isStored, Sending, Act, ask, send, wanted, requestOf, Done, requestAnnounced, perform, performAll}
+use Rattle.model.specs.Settings.{Settings}
+use Rattle.model.specs.Delivery.{Request, isPending, idBefore, withPeer, markRequested, markRetried}
+use Rattle.model.specs.Requests.{Pair, isStored, Act, ask, send, wanted, requestOf, Done, perform, performAll}
 use Rattle.model.specs.Requests
-use Rattle.model.specs.Sections.{Item, itemBelow}
+use Rattle.model.specs.Sections.{Item}
 use Rattle.model.specs.Check.{markAllRetried}
-use Rattle.model.specs.Book.{Stay, Requested, Entering, isOpen, takesPeer, enters, stayBefore, enter, enterAll}
+use Rattle.model.specs.Book.{Stay, Requested, Entering, takesPeer, enters, stayBefore, enter, enterAll}
 use Rattle.model.proofs.Widths.{WellAct}
 use Rattle.model.proofs.PendingLaws.{most-positive}
 use Rattle.model.proofs.IdLaws.{or-left, Distinct, EachAmong, NoneAmong, none-among-cons, among-inserted, distinct-inserted, among-sorted}

@@ -1,19 +1,18 @@
 -- The first half of a step, in the core and in the book: by a fate each, requests and stays go on, restart or end.
-use Prim.Native.Nat.{ℕ, zero, suc, _+_}
-use mathlib.Core.Path.{_≡_, refl, sym, ap, _∙_}
-use mathlib.Core.Bool.{Bool, true, false, not, cond, _||_, _&&_, false≢true}
+use Prim.Native.Nat.{ℕ, suc, _+_}
+use mathlib.Core.Path.{_≡_, refl, ap}
+use mathlib.Core.Bool.{Bool, true, false, not, cond}
 use mathlib.Core.List.{List, [], _∷_, map, map-map}
 use native.Mathlib.Omega.{arith}
 use lib.ListN.{length}
 use lib.Dec.{eqb}
-use Rattle.fields.specs.Facts.{All}
 use Rattle.fields.specs.Order.{same}
 use Rattle.fields.specs.Filter.{consIf, kept}
 use Rattle.model.specs.Protocol.{Id, isAmong}
 use Rattle.model.specs.Settings.{Settings}
 use Rattle.model.specs.Delivery as delivery
 use Rattle.model.specs.Delivery.{Request, Verdict, verdict, verdictNumber, restarted, idsOf, checkTimeouts, afterVerdict, judged}
-use Rattle.model.specs.Book.{Stay, Ended, Reason, Fate, open', restarts, ends, ofVerdict, noted, withRequest, goesOn, stillOpen, endedBy, allEnded}
+use Rattle.model.specs.Book.{Stay, Ended, Reason, Fate, open', restarts, ends, ofVerdict, goesOn, stillOpen, endedBy, allEnded}
 use Rattle.fields.proofs.OrderLaws.{neither}
 use Rattle.model.proofs.IdLaws.{among-self, EachAmong, each-among-cons, Distinct}
 

@@ -1,7 +1,7 @@
 -- Ids in lists: which are among them, and lists in which none stands twice.
-use mathlib.Core.Path.{_≡_, refl, sym, ap, _∙_}
-use mathlib.Core.Bool.{Bool, true, false, not, cond, _||_, false≢true}
-use mathlib.Core.List.{List, [], _∷_, _++_, map}
+use mathlib.Core.Path.{_≡_, refl, ap, _∙_}
+use mathlib.Core.Bool.{Bool, true, false, cond, _||_, false≢true}
+use mathlib.Core.List.{List, [], _∷_, map}
 use Rattle.fields.specs.Facts.{All}
 use Rattle.fields.specs.Order.{same}
 use Rattle.fields.specs.Filter.{consIf, kept}

@@ -1,7 +1,7 @@
 -- The mode that a step leaves, and what it ends, are what the book makes of the step and its outcome.
-use Prim.Native.Nat.{ℕ, _+_, _*_, _/_, _%_}
-use mathlib.Core.Path.{_≡_, refl, sym, ap, _∙_}
-use mathlib.Core.Bool.{Bool, true, false, not, cond, _||_, _&&_, false≢true}
+use Prim.Native.Nat.{ℕ, _*_, _/_, _%_}
+use mathlib.Core.Path.{_≡_, refl, sym}
+use mathlib.Core.Bool.{Bool, true, false, not, cond, _&&_}
 use mathlib.Core.List.{List, [], _∷_, map}
 use mathlib.Core.Option.{Option, none, some}
 use native.Mathlib.Omega.{arith}
@@ -9,7 +9,7 @@ use native.Mathlib.Nat.{div-add-mod', lt-irrefl}
 use lib.ListN.{length}
 use lib.Dec.{eqb, leb}
 use borrow.Author.Tests.{eqb-true, ne-eqb}
-use Rattle.fields.proofs.OrderLaws.{and-left, and-right}
+use Rattle.fields.proofs.OrderLaws.{and-left}
 use Rattle.fields.specs.Number.{fromBe}
 use Rattle.fields.specs.Entries.{entries}
 use Rattle.fields.specs.Filter.{kept}
@@ -17,18 +17,18 @@ use Rattle.model.specs.Protocol.{Id, isAmong, headerType}
 use Rattle.model.specs.Settings
 use Rattle.model.specs.Settings.{Settings}
 use Rattle.model.specs.Delivery as delivery
-use Rattle.model.specs.Delivery.{Request, verdict}
-use Rattle.model.specs.State.{Mode, new, seeking, syncing, synced, ended, modeNumber, isMode, hasSyncPeer, State}
+use Rattle.model.specs.Delivery.{Request}
+use Rattle.model.specs.State.{Mode, seeking, syncing, ended, modeNumber, isMode, State}
 use Rattle.model.specs.Peers.{firstOf, orElse, firstUnstalled, selectPeer}
 use Rattle.model.specs.Requests.{Act}
 use Rattle.model.specs.Events.{Outcome, Continue, Synced, BehindPeer, SyncPeerGone, Stalled, EndOfStream, outcomeNumber, tipOutcome, raisedTip, continuation}
 use Rattle.model.specs.Steps
 use Rattle.model.specs.Steps.{Step, Args, Plan, ofMode, planOf, remaining}
-use Rattle.model.specs.Lists.{peersIn, peersFit, listFits, entriesOf}
+use Rattle.model.specs.Lists.{peersIn, peersFit, listFits}
 use Rattle.model.specs.Image.{peerSize}
 use Rattle.model.specs.Book as book
 use Rattle.model.specs.Book.{Fate, open', ends}
-use Rattle.model.proofs.FateLaws.{remainingBy, remaining-open, remaining-ended, remaining-kept, remaining-checked, remaining-same}
+use Rattle.model.proofs.FateLaws.{remainingBy, remaining-open, remaining-ended, remaining-kept, remaining-checked}
 use Rattle.model.proofs.StepKindLaws.{fateBy, modeBy, quietMode}
 
 -- with no peer listed none is chosen

@@ -5,7 +5,7 @@ use mathlib.Core.Bool.{Bool, true, false, cond, _&&_}
 use mathlib.Core.List.{List, [], _∷_, _++_, map, map-append, append-assoc, append-nil}
 use native.Mathlib.Omega.{arith}
 use lib.Dec.{eqb}
-use lib.ListN.{length, take, drop, take-append-drop, length-drop}
+use lib.ListN.{length, drop, take-append-drop, length-drop}
 use borrow.Author.Tests.{eqb-true}
 use Rattle.fields.specs.Sort.{sorted}
 use Rattle.model.specs.Protocol.{Id, requestSize}

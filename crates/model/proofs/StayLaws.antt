@@ -1,16 +1,15 @@
 -- What holds of every open stay: its requests, checks, stamp, entry and the checks that it outlived.
-use Prim.Native.Nat.{ℕ, zero, suc, _+_, _-_, _*_, _≤_, _<_, max}
+use Prim.Native.Nat.{ℕ, zero, suc, _+_, _-_, _*_, _≤_, _<_}
 use mathlib.Core.Path.{_≡_, refl, sym, ap, _∙_}
-use mathlib.Core.Bool.{Bool, true, false, not, cond, _||_, _&&_, false≢true}
-use mathlib.Core.List.{List, [], _∷_, map}
+use mathlib.Core.Bool.{Bool, true, false, cond, false≢true}
+use mathlib.Core.List.{List, [], _∷_}
 use native.Mathlib.Omega.{arith}
 use native.Mathlib.Nat.{mul-le-mul-right}
-use lib.ListN.{length}
-use lib.Dec.{eqb, leb}
+use lib.Dec.{leb}
 use borrow.Author.Tests.{leb-false}
 use Rattle.fields.specs.Facts.{All}
 use Rattle.fields.specs.Order.{same}
-use Rattle.fields.specs.Filter.{consIf, kept}
+use Rattle.fields.specs.Filter.{consIf}
 use Rattle.fields.proofs.OrderLaws.{neither, same-sym}
 use Rattle.model.specs.Protocol.{Id, isAmong, isTransaction}
 use Rattle.model.specs.Settings.{Settings, patience, expired, givenUp}

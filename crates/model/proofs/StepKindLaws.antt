@@ -1,15 +1,13 @@
 -- The book reads a call by its number, the core as a step: they read the same.
 use Prim.Native.Nat.{ℕ, suc, _≤_}
 use mathlib.Core.Path.{_≡_, refl, sym, subst}
-use mathlib.Core.Bool.{Bool, true, false, not, cond, _||_, _&&_}
-use mathlib.Core.Logic.{_⊎_, inl, inr, ⊎-elim}
-use mathlib.Core.List.{List}
-use mathlib.Core.Option.{Option}
+use mathlib.Core.Bool.{not, cond, _||_, _&&_}
+use mathlib.Core.Logic.{⊎-elim}
 use native.Mathlib.Nat.{eq-or-lt-of-le}
 use native.Mathlib.Omega.{arith}
 use lib.ListN.{length}
 use lib.Dec.{eqb}
-use Rattle.model.specs.Protocol.{Id, isAmong}
+use Rattle.model.specs.Protocol.{isAmong}
 use Rattle.model.specs.Settings.{Settings}
 use Rattle.model.specs.Delivery.{Request, verdict}
 use Rattle.model.specs.Steps
