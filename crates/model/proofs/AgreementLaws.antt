@@ -168,10 +168,10 @@ module _ (st : State) (call : Call) (b : Book) (h : Agreement st b) (passes : Pa
 
   -- ---- the retries
 
-  abbrev restarted : List Item
-  restarted = map (retryOf (a .peers)) (restarting fates (openRequests (b .open')))
+  abbrev askedAgain : List Item
+  askedAgain = map (retryOf (a .peers)) (restarting fates (openRequests (b .open')))
 
-  retried-checked : eqb (call .kind) 12 ≡ true → retried st a ≡ cond (a .gate) restarted []
+  retried-checked : eqb (call .kind) 12 ≡ true → retried st a ≡ cond (a .gate) askedAgain []
   unfolding retried retries argsOf
   retried-checked e =
       rw (← check-of-kind call (known .0) (known .1), e)
@@ -188,13 +188,13 @@ module _ (st : State) (call : Call) (b : Book) (h : Agreement st b) (passes : Pa
   none-agree : ItemsAgree []
   none-agree = record { requests = refl; sound = begun-sound }
 
-  restarted-agree : (gate : Bool) → ItemsAgree (cond gate restarted [])
-  restarted-agree true =
+  again-agree : (gate : Bool) → ItemsAgree (cond gate askedAgain [])
+  again-agree true =
       again-agrees (st .settings) (call .clock) (eqb (call .kind) 12) fates (b .open') (b .ended) (b .entries) (a .peers) (h .distinct) (h .good) begun-sound
-  restarted-agree false = none-agree
+  again-agree false = none-agree
 
   retried-agree : (check : Bool) → eqb (call .kind) 12 ≡ check → ItemsAgree (retried st a)
-  retried-agree true e = rw (retried-checked e) (restarted-agree (a .gate))
+  retried-agree true e = rw (retried-checked e) (again-agree (a .gate))
   retried-agree false e = rw (retried-none e) none-agree
 
   -- ---- all that it sends

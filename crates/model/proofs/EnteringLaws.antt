@@ -9,7 +9,7 @@ use Rattle.fields.specs.Facts.{All}
 use Rattle.fields.specs.Order.{same}
 use Rattle.fields.specs.Filter.{kept}
 use Rattle.fields.specs.Sort.{inserted, sorted}
-use Rattle.fields.proofs.OrderLaws.{neither, same-eq, same-sym}
+use Rattle.fields.proofs.OrderLaws.{neither, or-left, same-eq, same-sym}
 use Rattle.fields.proofs.AllLaws.{all-weaker, all-kept, all-pass}
 use Rattle.fields.proofs.SortLaws.{all-inserted, length-inserted, map-inserted}
 use borrow.Author.Tests.{not-true}
@@ -23,7 +23,7 @@ use Rattle.model.specs.Check.{markAllRetried}
 use Rattle.model.specs.Book.{Stay, Requested, Entering, takesPeer, enters, stayBefore, enter, enterAll}
 use Rattle.model.proofs.Widths.{WellAct}
 use Rattle.model.proofs.PendingLaws.{most-positive}
-use Rattle.model.proofs.IdLaws.{or-left, Distinct, EachAmong, NoneAmong, none-among-cons, among-inserted, distinct-inserted, among-sorted}
+use Rattle.model.proofs.IdLaws.{Distinct, EachAmong, NoneAmong, none-among-cons, among-inserted, distinct-inserted, among-sorted}
 use Rattle.model.proofs.FateLaws.{openRequests, openIds, open-ids}
 use Rattle.model.proofs.RequestedLaws.{requested, requestedItem, requestedBySendings, requested-append}
 use Rattle.model.proofs.StayLaws.{Good, Room}

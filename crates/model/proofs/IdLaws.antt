@@ -6,20 +6,8 @@ use Rattle.fields.specs.Facts.{All}
 use Rattle.fields.specs.Order.{same}
 use Rattle.fields.specs.Filter.{consIf, kept}
 use Rattle.fields.specs.Sort.{inserted, sorted}
-use Rattle.fields.proofs.OrderLaws.{neither, same-refl, same-sym}
+use Rattle.fields.proofs.OrderLaws.{neither, or-right, or-swap, same-refl, same-sym}
 use Rattle.model.specs.Protocol.{Id, isAmong}
-
-pub or-left : (a b : Bool) → a ≡ true → a || b ≡ true
-or-left a b e = rw e
-
-pub or-right : (a b : Bool) → b ≡ true → a || b ≡ true
-or-right true b e = refl
-or-right false b e = e
-
-or-swap : (a b c : Bool) → a || (b || c) ≡ b || (a || c)
-or-swap true true c = refl
-or-swap true false c = refl
-or-swap false b c = refl
 
 -- ---- among
 
