@@ -4,3 +4,4 @@ pub mod HeaderLaws
 pub mod ImageLaws
 pub mod FormedLaws
 pub mod RoundLaws
+pub mod ChangeLaws
