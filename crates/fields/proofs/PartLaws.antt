@@ -1,18 +1,21 @@
 -- Bytes in parts that follow one another: what stands where, the whole from its parts, and parts that are numbers.
 use Prim.Native.Nat.{ℕ, zero, suc, _+_, _-_, _*_, _^_, _≤_, _<_}
 use mathlib.Core.Path.{_≡_, refl, sym, ap, _∙_}
+use mathlib.Core.Bool.{Bool, true, false}
 use mathlib.Core.List.{List, [], _∷_, _++_, map, append-assoc}
-use native.Mathlib.Nat.{add-zero, add-assoc}
+use native.Mathlib.Nat.{add-mul, mul-le-mul-right}
 use native.Mathlib.Omega.{arith}
 use lib.ListN.{length, take, drop, length-append, length-drop, take-append-drop}
-use lib.Seq.{take-at, drop-at, drop-drop, take-add, length-take-le}
+use lib.Dec.{leb}
+use lib.Seq.{take-at, drop-at, drop-drop, drop-append-le, drop-append-add, take-add, length-take-le}
+use borrow.Author.Tests.{leb-true, leb-false}
 use Rattle.fields.specs.Facts.{All, Bytes}
-use mathlib.Core.Bool.{true}
 use Rattle.fields.specs.Number.{fromBe, toBe}
 use Rattle.fields.specs.Zero.{zeros, allZero}
+use Rattle.fields.specs.Entries.{joined, replaced}
 use Rattle.fields.proofs.NumberLaws.{bytes-nil, bytes-append, bytes-take, bytes-drop, length-toBe, toBe-bytes, fromBe-toBe, toBe-fromBe, fromBe-below}
-use Rattle.fields.proofs.ZeroLaws.{allZero-eq}
-use Rattle.fields.proofs.EntriesLaws.{Wide}
+use Rattle.fields.proofs.ZeroLaws.{allZero-eq, length-zeros, zeros-append, drop-zeros}
+use Rattle.fields.proofs.EntriesLaws.{Wide, length-joined, replaced-fewer, replaced-more}
 
 module _ (at width : ℕ) (part rest bytes : List ℕ) where
   pub part-at : length part ≡ width → drop at bytes ≡ part ++ rest → take width (drop at bytes) ≡ part
@@ -111,3 +114,45 @@ module _ (width : ℕ) where
   numbers-below (e ∷ es) l f =
       let b : fromBe e < 256 ^ width = rw (l .0) at (fromBe-below e (f .0)) in
       (b, numbers-below es (l .1) (f .1))
+
+-- ---- a table with zero room behind it, replaced by another
+
+module _ (width : ℕ) (old new : List (List ℕ)) (free : ℕ) (rest : List ℕ) (wo : Wide width old) (wn : Wide width new) where
+  fewer : length new ≤ length old
+      → replaced width (length old) new (joined old ++ (zeros free ++ rest)) ≡ joined new ++ (zeros (length old * width + free - length new * width) ++ rest)
+  fewer h =
+      let s : (length old - length new) + length new ≡ length old = omega arith in
+      let t : (length old - length new) * width + length new * width ≡ length old * width = sym (add-mul (length old - length new) (length new) width) ∙ rw s in
+      let e : (length old - length new) * width + free ≡ length old * width + free - length new * width = omega arith in
+      replaced-fewer width (length old) new (joined old ++ (zeros free ++ rest)) h
+      ∙ rw (
+        drop-at (joined old) (zeros free ++ rest) (length old * width) (length-joined width old wo),
+        ← append-assoc (zeros ((length old - length new) * width)) (zeros free) rest,
+        zeros-append,
+        e,
+      )
+
+  more : length old ≤ length new → length new * width ≤ length old * width + free
+      → replaced width (length old) new (joined old ++ (zeros free ++ rest)) ≡ joined new ++ (zeros (length old * width + free - length new * width) ++ rest)
+  more h room =
+      let k : ℕ = length new * width - length old * width in
+      let l : length (joined old) ≡ length old * width = length-joined width old wo in
+      let m : length old * width ≤ length new * width = mul-le-mul-right width h in
+      let s : length new * width ≡ length (joined old) + k = omega arith in
+      let e : free - k ≡ length old * width + free - length new * width = omega arith in
+      let d : drop (length new * width) (joined old ++ (zeros free ++ rest)) ≡ zeros (length old * width + free - length new * width) ++ rest =
+          ap (λ (n : ℕ). drop n (joined old ++ (zeros free ++ rest))) s
+          ∙ drop-append-add (joined old) (zeros free ++ rest) k
+          ∙ drop-append-le k (zeros free) rest (rw (length-zeros free) (omega arith))
+          ∙ rw (drop-zeros free k, e)
+      in
+      replaced-more width (length old) new (joined old ++ (zeros free ++ rest)) h ∙ rw d
+
+  pub replaced-in-room : length new * width ≤ length old * width + free
+      → replaced width (length old) new (joined old ++ (zeros free ++ rest)) ≡ joined new ++ (zeros (length old * width + free - length new * width) ++ rest)
+  replaced-in-room room = go (leb (length new) (length old)) refl
+    where
+      go : (t : Bool) → leb (length new) (length old) ≡ t
+          → replaced width (length old) new (joined old ++ (zeros free ++ rest)) ≡ joined new ++ (zeros (length old * width + free - length new * width) ++ rest)
+      go true t = fewer (leb-true (length new) (length old) t)
+      go false t = more (omega (arith, leb-false (length new) (length old) t)) room

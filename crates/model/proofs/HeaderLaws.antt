@@ -8,6 +8,8 @@ use native.Mathlib.Omega.{arith}
 use lib.Dec.{eqb, leb}
 use lib.ListN.{length, take, drop, getD}
 use borrow.Author.Tests.{eqb-true, eq-eqb, leb-true}
+use Rattle.fields.specs.Facts.{Bytes}
+use Rattle.fields.proofs.NumberLaws.{bytes-nil, bytes-cons}
 use Rattle.fields.proofs.PartLaws.{Cell, written, extent, Fit, Holds}
 use Rattle.model.specs.State.{Mode, new, seeking, syncing, synced, ended, modeNumber, isMode, State}
 use Rattle.model.specs.Image.{modeOf, bit, field, headerBytes}
@@ -15,6 +17,9 @@ use Rattle.model.proofs.Well.{Well, WellSettings, WellSync}
 
 abbrev pub mark : List ℕ
 mark = 69 ∷ 68 ∷ 84 ∷ []
+
+pub mark-bytes : Bytes mark
+mark-bytes = bytes-cons 69 (68 ∷ 84 ∷ []) (omega arith) (bytes-cons 68 (84 ∷ []) (omega arith) (bytes-cons 84 [] (omega arith) bytes-nil))
 
 -- what follows the mark
 abbrev pub headerCells : State → List Cell

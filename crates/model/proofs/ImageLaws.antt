@@ -10,7 +10,7 @@ use Rattle.fields.specs.Facts.{All, Bytes}
 use Rattle.fields.specs.Number.{fromBe, toBe}
 use Rattle.fields.specs.Zero.{zeros}
 use Rattle.fields.specs.Entries.{entries, joined}
-use Rattle.fields.proofs.NumberLaws.{bytes-append, toBe-bytes}
+use Rattle.fields.proofs.NumberLaws.{bytes-append}
 use Rattle.fields.proofs.AllLaws.{all-weaker}
 use Rattle.fields.proofs.ZeroLaws.{length-zeros, zeros-bytes}
 use Rattle.fields.proofs.EntriesLaws.{Wide, length-joined, joined-bytes, entries-joined, joined-entries}
@@ -20,7 +20,7 @@ use Rattle.model.specs.State.{State}
 use Rattle.model.specs.Image.{areaSize, idSize, peerSize, recordSize, stalledAt, regionAt, padded, headerBytes, requestBytes, encode}
 use Rattle.model.proofs.Well.{Well, WellId, WellSync}
 use Rattle.model.proofs.RecordLaws.{Recorded, well-recorded, records-wide, records-bytes}
-use Rattle.model.proofs.HeaderLaws.{mark, headerCells, Header, header-holds, holds-header, header-written, header-fit}
+use Rattle.model.proofs.HeaderLaws.{mark, mark-bytes, headerCells, Header, header-holds, holds-header, header-written, header-fit}
 
 -- ---- how much room each part takes
 
@@ -109,19 +109,22 @@ padded-split header stalled pending evicted s r a h k =
     let l₄ : length (three ++ pending) ≡ r + length pending = rw (length-append three pending, l₃) in
     rw (l₄, l₂) (simp append-assoc)
 
--- what follows each part
+-- from each part to the end
 module _ (st : State) where
-  abbrev fromBetween : List ℕ
+  abbrev pub fromBetween : List ℕ
   fromBetween = zeros (regionFree st) ++ evictedBytes st
 
-  abbrev fromPending : List ℕ
+  abbrev pub fromPending : List ℕ
   fromPending = pendingBytes st ++ fromBetween
 
-  abbrev fromStalledRest : List ℕ
+  abbrev pub fromStalledRest : List ℕ
   fromStalledRest = zeros (stalledFree st) ++ fromPending
 
-  abbrev fromStalled : List ℕ
+  abbrev pub fromStalled : List ℕ
   fromStalled = stalledBytes st ++ fromStalledRest
+
+  abbrev pub fromHeaderRest : List ℕ
+  fromHeaderRest = zeros headerFree ++ fromStalled
 
 module _ (st : State) (z : Sized st) where
   pub length-stalled : length (stalledBytes st) ≡ length (st .sync .stalledPeers) * peerSize
@@ -144,7 +147,7 @@ same-parts header m h q p b n₁ n₂ n₃ k₁ k₂ k₃ e e₁ e₂ e₃ =
 
 -- The area is its parts one after another.
 pub encode-parts : (st : State) → Sized st
-    → encode st ≡ mark ++ (written (headerCells st) ++ (zeros headerFree ++ (stalledBytes st ++ (zeros (stalledFree st) ++ (pendingBytes st ++ (zeros (regionFree st) ++ evictedBytes st))))))
+    → encode st ≡ mark ++ (written (headerCells st) ++ fromHeaderRest st)
 unfolding encode
 encode-parts st z =
     let h : length (headerBytes st) ≡ 74 = length-header st in
@@ -195,49 +198,65 @@ laid-encode st area z l f laid =
         part-joined stalledAt (length (st .sync .stalledPeers) * peerSize) (stalledBytes st) (fromStalledRest st) area
         (sym (joined-entries peerSize (length (st .sync .stalledPeers)) (drop stalledAt area)) ∙ ap joined (laid .stalled)) d₄
     in
-    let d₂ : drop 74 area ≡ zeros headerFree ++ fromStalled st = part-joined 74 headerFree (zeros headerFree) (fromStalled st) area (laid .headerRest) d₃ in
-    let d₁ : drop 3 area ≡ written (headerCells st) ++ (zeros headerFree ++ fromStalled st) =
-        part-joined 3 71 (written (headerCells st)) (zeros headerFree ++ fromStalled st) area
+    let d₂ : drop 74 area ≡ fromHeaderRest st = part-joined 74 headerFree (zeros headerFree) (fromStalled st) area (laid .headerRest) d₃ in
+    let d₁ : drop 3 area ≡ written (headerCells st) ++ (fromHeaderRest st) =
+        part-joined 3 71 (written (headerCells st)) (fromHeaderRest st) area
         (holds-written (headerCells st) 3 area f (omega arith) (header-holds st area (laid .header))) d₂
     in
-    part-joined 0 3 mark (written (headerCells st) ++ (zeros headerFree ++ fromStalled st)) area (laid .start) d₁ ∙ sym (encode-parts st z)
+    part-joined 0 3 mark (written (headerCells st) ++ (fromHeaderRest st)) area (laid .start) d₁ ∙ sym (encode-parts st z)
 
--- and the encoding holds the state
 table-at : (width at : ℕ) (es : List (List ℕ)) (n : ℕ) (rest bytes : List ℕ) → length es ≡ n → Wide width es → drop at bytes ≡ joined es ++ rest → entries width n (drop at bytes) ≡ es
 table-at width at es n rest bytes l w e = rw (e, ← l) (entries-joined width es rest w)
 
-pub encode-laid : (st : State) → Sized st → Fit (headerCells st) → Laid st (encode st)
-encode-laid st z f =
-    let area : List ℕ = encode st in
-    let afterHeader : List ℕ = zeros headerFree ++ fromStalled st in
-    let d₁ : drop 3 area ≡ written (headerCells st) ++ afterHeader = part-behind 0 3 mark (written (headerCells st) ++ afterHeader) area refl (encode-parts st z) in
-    let d₂ : drop 74 area ≡ afterHeader = part-behind 3 71 (written (headerCells st)) afterHeader area refl d₁ in
-    let d₃ : drop stalledAt area ≡ fromStalled st = part-behind 74 headerFree (zeros headerFree) (fromStalled st) area (length-zeros headerFree) d₂ in
-    let d₄ : drop (stalledEnd st) area ≡ fromStalledRest st =
-        part-behind stalledAt (length (st .sync .stalledPeers) * peerSize) (stalledBytes st) (fromStalledRest st) area (length-stalled st z) d₃
-    in
-    let d₅ : drop regionAt area ≡ fromPending st =
-        rw (stalled-end st z) at (part-behind (stalledEnd st) (stalledFree st) (zeros (stalledFree st)) (fromPending st) area (length-zeros (stalledFree st)) d₄)
-    in
-    let d₆ : drop (pendingEnd st) area ≡ fromBetween st =
-        part-behind regionAt (length (st .pending) * recordSize) (pendingBytes st) (fromBetween st) area (length-pending st z) d₅
-    in
-    let d₇ : drop (evictedAt st) area ≡ evictedBytes st =
-        rw (pending-end st z) at (part-behind (pendingEnd st) (regionFree st) (zeros (regionFree st)) (evictedBytes st) area (length-zeros (regionFree st)) d₆)
-    in
-    record {
-      start = part-at 0 3 mark (written (headerCells st) ++ afterHeader) area refl (encode-parts st z);
-      header = holds-header st area (written-holds (headerCells st) 3 afterHeader area f d₁);
-      headerRest = part-at 74 headerFree (zeros headerFree) (fromStalled st) area (length-zeros headerFree) d₂;
-      stalled =
-          table-at peerSize stalledAt (map (toBe peerSize) (st .sync .stalledPeers)) (length (st .sync .stalledPeers)) (fromStalledRest st) area
-          (length-map (st .sync .stalledPeers) (toBe peerSize)) (numbers-wide peerSize (st .sync .stalledPeers)) d₃;
-      stalledRest = part-at (stalledEnd st) (stalledFree st) (zeros (stalledFree st)) (fromPending st) area (length-zeros (stalledFree st)) d₄;
-      pending =
-          table-at recordSize regionAt (map requestBytes (st .pending)) (length (st .pending)) (fromBetween st) area (length-map (st .pending) requestBytes) (z .records) d₅;
-      between = part-at (pendingEnd st) (regionFree st) (zeros (regionFree st)) (evictedBytes st) area (length-zeros (regionFree st)) d₆;
-      evicted = table-at idSize (evictedAt st) (st .sync .evicted) (length (st .sync .evicted)) [] area refl (z .ids) (rw append-nil d₇);
-    }
+-- the encoding from each part on
+module _ (st : State) (z : Sized st) where
+  drop-mark : drop 3 (encode st) ≡ written (headerCells st) ++ fromHeaderRest st
+  drop-mark = part-behind 0 3 mark (written (headerCells st) ++ fromHeaderRest st) (encode st) refl (encode-parts st z)
+
+  pub drop-header : drop 74 (encode st) ≡ fromHeaderRest st
+  drop-header = part-behind 3 71 (written (headerCells st)) (fromHeaderRest st) (encode st) refl drop-mark
+
+  pub drop-to-stalled : drop stalledAt (encode st) ≡ fromStalled st
+  drop-to-stalled = part-behind 74 headerFree (zeros headerFree) (fromStalled st) (encode st) (length-zeros headerFree) drop-header
+
+  pub drop-stalled : drop (stalledEnd st) (encode st) ≡ fromStalledRest st
+  drop-stalled = part-behind stalledAt (length (st .sync .stalledPeers) * peerSize) (stalledBytes st) (fromStalledRest st) (encode st) (length-stalled st z) drop-to-stalled
+
+  pub drop-to-region : drop regionAt (encode st) ≡ fromPending st
+  drop-to-region =
+      rw (stalled-end st z) at (part-behind (stalledEnd st) (stalledFree st) (zeros (stalledFree st)) (fromPending st) (encode st) (length-zeros (stalledFree st)) drop-stalled)
+
+  pub drop-pending : drop (pendingEnd st) (encode st) ≡ fromBetween st
+  drop-pending = part-behind regionAt (length (st .pending) * recordSize) (pendingBytes st) (fromBetween st) (encode st) (length-pending st z) drop-to-region
+
+  pub drop-to-evicted : drop (evictedAt st) (encode st) ≡ evictedBytes st
+  drop-to-evicted =
+      rw (pending-end st z) at (part-behind (pendingEnd st) (regionFree st) (zeros (regionFree st)) (evictedBytes st) (encode st) (length-zeros (regionFree st)) drop-pending)
+
+  pub take-header : take 74 (encode st) ≡ headerBytes st
+  take-header =
+      let e : encode st ≡ headerBytes st ++ fromHeaderRest st = encode-parts st z ∙ sym (append-assoc mark (written (headerCells st)) (fromHeaderRest st)) ∙ ap (λ (h : List ℕ). h ++ fromHeaderRest st) (sym (header-written st)) in
+      part-at 0 74 (headerBytes st) (fromHeaderRest st) (encode st) (length-header st) e
+
+  pub encode-laid : Fit (headerCells st) → Laid st (encode st)
+  encode-laid f =
+      record {
+        start = part-at 0 3 mark (written (headerCells st) ++ fromHeaderRest st) (encode st) refl (encode-parts st z);
+        header = holds-header st (encode st) (written-holds (headerCells st) 3 (fromHeaderRest st) (encode st) f drop-mark);
+        headerRest = part-at 74 headerFree (zeros headerFree) (fromStalled st) (encode st) (length-zeros headerFree) drop-header;
+        stalled =
+            table-at peerSize stalledAt (map (toBe peerSize) (st .sync .stalledPeers)) (length (st .sync .stalledPeers)) (fromStalledRest st) (encode st)
+            (length-map (st .sync .stalledPeers) (toBe peerSize)) (numbers-wide peerSize (st .sync .stalledPeers)) drop-to-stalled;
+        stalledRest = part-at (stalledEnd st) (stalledFree st) (zeros (stalledFree st)) (fromPending st) (encode st) (length-zeros (stalledFree st)) drop-stalled;
+        pending =
+            table-at recordSize regionAt (map requestBytes (st .pending)) (length (st .pending)) (fromBetween st) (encode st) (length-map (st .pending) requestBytes) (z .records) drop-to-region;
+        between = part-at (pendingEnd st) (regionFree st) (zeros (regionFree st)) (evictedBytes st) (encode st) (length-zeros (regionFree st)) drop-pending;
+        evicted = table-at idSize (evictedAt st) (st .sync .evicted) (length (st .sync .evicted)) [] (encode st) refl (z .ids) (rw append-nil drop-to-evicted);
+      }
+
+-- The header's fields and the tables of an encoding.
+pub well-laid : (st : State) → Well st → Laid st (encode st)
+well-laid st w = encode-laid st (well-sized st w) (header-fit st w)
 
 -- ---- length and bytes
 
@@ -275,7 +294,7 @@ pub encode-bytes : (st : State) → Well st → Bytes (encode st)
 encode-bytes st w =
     subst Bytes (sym (encode-parts st (well-sized st w)))
     (parts-bytes mark (written (headerCells st)) (zeros headerFree) (stalledBytes st) (zeros (stalledFree st)) (pendingBytes st) (zeros (regionFree st)) (evictedBytes st)
-     (toBe-bytes 3 4539476) (written-bytes (headerCells st)) (zeros-bytes headerFree)
+     mark-bytes (written-bytes (headerCells st)) (zeros-bytes headerFree)
      (joined-bytes (map (toBe peerSize) (st .sync .stalledPeers)) (numbers-bytes peerSize (st .sync .stalledPeers))) (zeros-bytes (stalledFree st))
      (joined-bytes (map requestBytes (st .pending)) (records-bytes (st .pending) (well-requests st w))) (zeros-bytes (regionFree st))
      (joined-bytes (st .sync .evicted) (ids-bytes (st .sync .evicted) (w .sync .evicted))))

@@ -24,9 +24,9 @@ use Rattle.model.specs.State.{Mode, syncing, modeNumber, isMode, hasSync
 use Rattle.model.specs.Image.{areaSize, idSize, peerSize, recordSize, stalledAt, regionAt, modeOf, bit, field, requestBytes, requestOf, modeByte, lastClockOf, stalledCount, pendingCount, evictedCount, settingsOf, stalledOf, pendingOf, evictedOf, decode, encode, noneTwice, allFit, typesNarrow, wellFormed}
 use Rattle.model.proofs.Well.{Well, WellId, WellRequest, WellSettings, WellSync, RisingIds}
 use Rattle.model.proofs.RecordLaws.{Recorded, requests-of-records, records-of-requests, all-fit, types-narrow, records-well, records-rise, ids-rise}
-use Rattle.model.proofs.HeaderLaws.{mark, Header, header-fit, mode-narrow, mode-of-number, number-of-mode, bit-of, of-bit}
+use Rattle.model.proofs.HeaderLaws.{mark, Header, mode-narrow, mode-of-number, number-of-mode, bit-of, of-bit}
 use Rattle.model.proofs.FormedLaws.{Formed, formed, well-formed, modeIn, recordsIn, stalledFreeIn, regionFreeIn}
-use Rattle.model.proofs.ImageLaws.{headerFree, stalledEnd, stalledFree, pendingEnd, regionFree, evictedAt, Laid, Sized, well-sized, well-requests, laid-encode, encode-laid, encode-length, encode-bytes}
+use Rattle.model.proofs.ImageLaws.{headerFree, stalledEnd, stalledFree, pendingEnd, regionFree, evictedAt, Laid, Sized, well-sized, well-requests, laid-encode, well-laid, encode-length, encode-bytes}
 
 -- ---- what an area that holds a state decodes to
 
@@ -85,7 +85,7 @@ module _ (st : State) (area : List ℕ) (l : length area ≡ areaSize) (laid : L
       )
 
 pub decode-encode : (st : State) → Well st → decode (encode st) ≡ st
-decode-encode st w = laid-decode st (encode st) (encode-length st w) (encode-laid st (well-sized st w) (header-fit st w)) w
+decode-encode st w = laid-decode st (encode st) (encode-length st w) (well-laid st w) w
 
 -- ---- its image is well formed
 
@@ -122,7 +122,7 @@ laid-formed st area l laid w =
 
 pub wellFormed-encode : (st : State) → Well st → wellFormed (encode st) ≡ true
 wellFormed-encode st w =
-    well-formed (encode st) (laid-formed st (encode st) (encode-length st w) (encode-laid st (well-sized st w) (header-fit st w)) w)
+    well-formed (encode st) (laid-formed st (encode st) (encode-length st w) (well-laid st w) w)
 
 -- ---- what a well-formed area decodes to
 
