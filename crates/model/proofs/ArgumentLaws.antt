@@ -1,32 +1,28 @@
 -- What the argument tests give: a call whose numbers and bytes are within their widths is read as well-formed arguments.
-use Prim.Native.Nat.{ℕ, zero, suc, _+_, _-_, _*_, _/_, _%_, _≤_, _<_, _^_}
-use mathlib.Core.Path.{_≡_, refl, sym}
+use Prim.Native.Nat.{ℕ, _+_, _-_, _*_, _/_, _%_, _≤_, _<_, _^_}
+use mathlib.Core.Path.{_≡_, refl}
 use mathlib.Core.Bool.{Bool, true, false, not, cond, _&&_, _||_}
 use mathlib.Core.List.{List, [], _∷_, map}
-use mathlib.Core.Option.{Option, none, some}
-use lib.ListN.{length, take, drop, getD, length-map, length-drop}
+use mathlib.Core.Option.{none, some}
+use lib.ListN.{length, drop, getD, length-map, length-drop}
 use lib.Seq.{length-take-le}
 use lib.Dec.{eqb, leb, ltb}
 use native.Mathlib.Omega.{arith}
-use borrow.Author.Tests.{leb-true, ltb-true, eqb-true}
+use borrow.Author.Tests.{leb-true, ltb-true}
 use Rattle.fields.specs.Facts.{All, Bytes}
 use Rattle.fields.specs.Number.{fromBe}
-use Rattle.fields.specs.Zero.{allZero}
 use Rattle.fields.specs.Entries.{entries, entry}
 use Rattle.fields.proofs.NumberLaws.{bytes-take, bytes-drop, fromBe-below}
 use Rattle.fields.proofs.EntriesLaws.{length-entries, entries-at, length-entry}
 use Rattle.fields.proofs.AllLaws.{all-map, all-at, all-weaker, either, entries-all}
 use Rattle.fields.proofs.OrderLaws.{and-left, and-right}
-use Rattle.model.specs.Protocol.{Id}
-use Rattle.model.specs.Sections.{Section, Header, absent, present}
-use Rattle.model.specs.Steps
-use Rattle.model.specs.Steps.{Step}
+use Rattle.model.specs.Sections.{absent, present}
 use Rattle.model.specs.Image.{idSize, peerSize}
-use Rattle.model.specs.Lists.{listFits, idsIn, peersIn, entriesOf, idsFit, continuationFits, pairsFit, peersFit, viewFits, rowSize, placeSize, sectionOf, headerOf, flagsFit, usedPlaces, rowFits, rowsFit, firstHeight, rowCount, viewOf}
+use Rattle.model.specs.Lists.{listFits, idsIn, peersIn, entriesOf, idsFit, continuationFits, pairsFit, viewFits, rowSize, placeSize, sectionOf, headerOf, usedPlaces, rowFits, rowsFit, firstHeight, rowCount, viewOf}
 use Rattle.model.specs.Calls.{Call, stepOf, argsOf, listsFit}
 use Rattle.model.specs.Demand3.{InWidth}
 use Rattle.model.proofs.Well.{WellId}
-use Rattle.model.proofs.Widths.{IfSome, WellPeer, WellHeight, WellList, WellSection, WellHeader, WellView, WellStep, WellArgs}
+use Rattle.model.proofs.Widths.{IfSome, WellPeer, WellHeight, WellSection, WellHeader, WellView, WellStep, WellArgs}
 
 -- ---- lists
 
@@ -72,9 +68,10 @@ header-well row l b h = go (eqb (getD row 0 0) 255) (and-left (leb (cond (eqb (g
         let n = getD row 0 0 in
         let few : getD row 0 0 ≤ 3 = leb-true (getD row 0 0) 3 f in
         let long : getD row 0 0 * placeSize ≤ length (drop 1 row) = simp length-drop (omega arith) in
-        let places = entries placeSize n (drop 1 row) in
-        (all-map (λ (e : List ℕ). (length e ≡ placeSize) × Bytes e) WellSection sectionOf section-well places (entries-all placeSize n (drop 1 row) long (bytes-drop 1 row b)),
-          rw (length-map places sectionOf, length-entries placeSize n (drop 1 row)) few)
+        let places = entries placeSize n (drop 1 row) in (
+          all-map (λ (e : List ℕ). (length e ≡ placeSize) × Bytes e) WellSection sectionOf section-well places (entries-all placeSize n (drop 1 row) long (bytes-drop 1 row b)),
+          rw (length-map places sectionOf, length-entries placeSize n (drop 1 row)) few,
+        )
 
 rows-fit : (rows : List (List ℕ)) → rowsFit rows ≡ true → All (λ (row : List ℕ). rowFits row ≡ true) rows
 rows-fit [] h = tt
@@ -146,7 +143,7 @@ module _ (call : Call) (width : InWidth call) (fits : listsFit call ≡ true) wh
       (either WellStep (eqb (call .kind) 4) _ _ tt
       (either WellStep (eqb (call .kind) 5) _ _ (record { typeId = width .typeid; peer = width .peer; ids = all }, few)
       (either WellStep (eqb (call .kind) 6) _ _
-          ((width .peer, tip-well (eqb (call .hastip) 1)), (ids-well (call .continuation) (width .continuation), ids-few 400 (call .continuation) continuation-fits))
+      ((width .peer, tip-well (eqb (call .hastip) 1)), (ids-well (call .continuation) (width .continuation), ids-few 400 (call .continuation) continuation-fits))
       (either WellStep (eqb (call .kind) 7) _ _ tt
       (either WellStep (eqb (call .kind) 8) _ _ tt
       (either WellStep (eqb (call .kind) 9) _ _ tt

@@ -1,6 +1,6 @@
 -- The command area is large enough: every finished step writes at most 49,152 bytes, three quarters of 65,536.
-use Prim.Native.Nat.{ℕ, zero, suc, _+_, _-_, _*_, _≤_, _<_, _^_, min}
-use mathlib.Core.Path.{_≡_, refl, sym, ap, _∙_}
+use Prim.Native.Nat.{ℕ, zero, suc, _+_, _-_, _*_, _≤_, min}
+use mathlib.Core.Path.{_≡_, refl}
 use mathlib.Core.Bool.{Bool, true, false, not, cond, _&&_}
 use mathlib.Core.List.{List, [], _∷_, _++_, map}
 use mathlib.Core.Option.{Option, none, some}
@@ -18,24 +18,24 @@ use Rattle.model.specs.Settings.{Settings, throttled}
 use Rattle.model.specs.Delivery as delivery
 use Rattle.model.specs.Delivery.{Request, orphansOf, judged, verdict, verdictNumber}
 use Rattle.model.specs.State.{isMode, syncing, seeking, SendClock, Sync, State}
-use Rattle.model.specs.Peers.{firstOf, selectPeer, resetSends}
-use Rattle.model.specs.Requests.{Pair, Sending, Act, ask, send, syncInfoTo, commandsFrom, performAll}
+use Rattle.model.specs.Peers.{firstOf, selectPeer}
+use Rattle.model.specs.Requests.{Pair, Sending, Act, ask, send, syncInfoTo}
 use Rattle.model.specs.Requests as requests
-use Rattle.model.specs.Sections.{Section, Header, absent, present, View, Item, Batch, batchesOf, Window, missing, widen, windowWithin, Sections, requestSectionsFrom, requestNextSections}
+use Rattle.model.specs.Sections.{Section, Header, absent, present, View, Item, Batch, batchesOf, Window, missing, widen, windowWithin, requestSectionsFrom, requestNextSections}
 use Rattle.model.specs.Check.{retryOf, retries, markAllRetried, retrySendings, askFresh}
 use Rattle.model.specs.Events.{Outcome, Continue, Synced, BehindPeer, SyncPeerGone, Stalled, EndOfStream, tipOutcome, raisedTip, notAbove, announce, continuation}
 use Rattle.model.specs.Steps
 use Rattle.model.specs.Steps.{Step, Args, isCheck, sayTo, advanceFrom, sectionsFrom, continues, leaves, advances, advancesAndRequests, entersSyncing, picks, isAtTip, answers, hearsSyncInfo, hearsAnnounced, askOrphans, loses, ticksSyncing, ticksSynced, progresses, checks, evicts, planOf, plan, remaining, retried, performed, after, commands}
-use Rattle.model.specs.Commands.{allCommandBytes, commandsIn}
+use Rattle.model.specs.Commands.{commandsIn}
 use Rattle.model.specs.Calls.{Call, argsOf, stepBytes, callRefusal}
 use Rattle.model.specs.Demand3.{InWidth}
 use Rattle.model.proofs.Well.{Well}
-use Rattle.model.proofs.Widths.{IfSome, WellItem, WellAct, WellSending, WellCommand, WellHeader, WellView, WellStep, WellArgs}
+use Rattle.model.proofs.Widths.{IfSome, WellSending, WellCommand, WellHeader, WellView, WellStep, WellArgs}
 use Rattle.model.proofs.FinishedLaws.{Passed, passed}
 use Rattle.model.proofs.PlanLaws.{WellPlan, plan-well}
 use Rattle.model.proofs.StepLaws.{retried-items-well, args-well, of-mode}
 use Rattle.model.proofs.CommandLaws.{commands-read-back}
-use Rattle.model.proofs.SendingLaws.{weight, actWeight, idCount, performed-sends-well, retries-sent-well, commands-well, sendings-bytes, performed-weight, performed-count, batches-weight, retries-weight, retries-count}
+use Rattle.model.proofs.SendingLaws.{weight, actWeight, performed-sends-well, retries-sent-well, commands-well, sendings-bytes, performed-weight, performed-count, batches-weight, retries-weight, retries-count}
 
 abbrev pub mostBytes : ℕ
 mostBytes = 49152
@@ -159,7 +159,7 @@ module _ (st : State) (a : Args) (tracked : length (st .pending) + length (st .s
       let few : length orphans ≤ length (st .pending) = length-kept test (st .pending) in
       let same : length (map f orphans) ≡ length orphans = length-map orphans f in
       let e : total actWeight (map (λ (b : Batch). ask (b .typeId) peer (a .stored) (b .ids)) (batchesOf (map f orphans))) ≡ 48 * length (map f orphans) =
-          batches-weight (λ (b : Batch). ask (b .typeId) peer (a .stored) (b .ids)) (λ b. refl) (map f orphans) in
+      batches-weight (λ (b : Batch). ask (b .typeId) peer (a .stored) (b .ids)) (λ b. refl) (map f orphans) in
       omega arith
 
   loses-weight : (peer : ℕ) → total actWeight (loses st a peer .acts) ≤ mostBytes

@@ -1,15 +1,14 @@
 -- Commands as bytes: what was written is read back.
-use Prim.Native.Nat.{ℕ, zero, suc, _+_, _-_, _*_, _^_, _≤_, _<_}
-use mathlib.Core.Path.{_≡_, refl, sym, ap, _∙_}
-use mathlib.Core.List.{List, [], _∷_, _++_, append-assoc}
-use lib.ListN.{length, take, drop, getD, length-append}
-use lib.Seq.{take-at, drop-at}
+use Prim.Native.Nat.{ℕ, zero, suc, _+_, _*_, _≤_}
+use mathlib.Core.Path.{_≡_, refl, ap, _∙_}
+use mathlib.Core.List.{List, [], _∷_, _++_}
+use lib.ListN.{length, drop, getD, length-append}
+use lib.Seq.{drop-at}
 use native.Mathlib.Omega.{arith}
 use native.Mathlib.Nat.{not-suc-le-zero}
 use Rattle.fields.specs.Facts.{All}
-use Rattle.fields.specs.Number.{fromBe, toBe}
-use Rattle.fields.specs.Entries.{entries, joined}
-use Rattle.fields.proofs.NumberLaws.{length-toBe, fromBe-toBe}
+use Rattle.fields.specs.Entries.{entries}
+use Rattle.fields.proofs.NumberLaws.{fromBe-toBe}
 use Rattle.fields.proofs.EntriesLaws.{Wide, length-joined, entries-joined}
 use Rattle.model.specs.Protocol.{Id}
 use Rattle.model.specs.Requests.{Command}

@@ -1,28 +1,27 @@
 -- The step entry in short laws: what a refusal and a finished step give, and what a step leaves alone.
-use Prim.Native.Nat.{ℕ, _+_, _≤_, _<_}
-use mathlib.Core.Path.{_≡_, refl, sym, ap, _∙_}
+use Prim.Native.Nat.{ℕ, _<_}
+use mathlib.Core.Path.{_≡_, refl}
 use mathlib.Core.Bool.{Bool, true, false, cond}
 use mathlib.Core.List.{List, [], _∷_}
 use mathlib.Core.Option.{Option, none, some}
 use lib.ListN.{length, take}
 use lib.Dec.{eqb}
 use native.Mathlib.Omega.{arith}
-use native.Mathlib.Nat.{zero-add}
-use borrow.Author.Tests.{eq-eqb, ne-eqb}
+use borrow.Author.Tests.{ne-eqb}
 use Rattle.fields.specs.Overwrite.{overwritten}
 use Rattle.fields.proofs.OverwriteLaws.{read-back}
 use Rattle.model.specs.Protocol.{Id, headerType}
 use Rattle.model.specs.Settings as settings
 use Rattle.model.specs.Settings.{Settings}
-use Rattle.model.specs.State.{Mode, isMode, syncing, seeking, SendClock, State}
+use Rattle.model.specs.State.{isMode, syncing, seeking, SendClock, State}
 use Rattle.model.specs.Peers.{firstOf, selectPeer, sendSyncInfo, resetSends}
-use Rattle.model.specs.Requests.{Act, Command}
+use Rattle.model.specs.Requests.{Act}
 use Rattle.model.specs.Events.{Outcome, Continue, Synced, BehindPeer, SyncPeerGone, Stalled, EndOfStream, tipOutcome, raisedTip, continuation}
 use Rattle.model.specs.Steps
 use Rattle.model.specs.Steps.{Step, Args, Plan, unmarked, withoutPeer, sent, continues, leaves, advances, advancesAndRequests, entersSyncing, picks, isAtTip, answers, hearsSyncInfo, hearsAnnounced, askOrphans, loses, ticksSyncing, ticksSynced, progresses, checks, evicts, planOf, plan, after, commands}
-use Rattle.model.specs.Image.{areaSize, decode, encode}
+use Rattle.model.specs.Image.{decode, encode}
 use Rattle.model.specs.Commands.{commandsIn}
-use Rattle.model.specs.Calls.{Call, Result, refused, argsOf, stepBytes, stepAnswer, stepRefusal, step}
+use Rattle.model.specs.Calls.{Call, refused, argsOf, stepBytes, stepAnswer, stepRefusal, step}
 use Rattle.model.specs.Demand3.{InWidth}
 use Rattle.model.proofs.Well.{Well}
 use Rattle.model.proofs.FinishedLaws.{PassedAreas, passed-areas}

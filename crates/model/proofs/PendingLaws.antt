@@ -1,9 +1,8 @@
 -- Pending requests through a step: each stays within its widths and limits, and their ids rise.
-use Prim.Native.Nat.{ℕ, zero, suc, _+_, _-_, _≤_, _<_, _^_, max}
-use mathlib.Core.Path.{_≡_, refl, sym, ap, _∙_}
-use mathlib.Core.Bool.{Bool, true, false, not, cond, _&&_, _||_}
-use mathlib.Core.List.{List, [], _∷_, _++_, map}
-use lib.ListN.{length}
+use Prim.Native.Nat.{ℕ, suc, _≤_, _<_, max}
+use mathlib.Core.Path.{_≡_, refl, ap, _∙_}
+use mathlib.Core.Bool.{Bool, true, false, not, cond}
+use mathlib.Core.List.{List, [], _∷_, map}
 use lib.Dec.{eqb, leb}
 use native.Mathlib.Omega.{arith}
 use borrow.Author.Tests.{leb-false}
@@ -12,7 +11,7 @@ use Rattle.fields.specs.Order.{before, same}
 use Rattle.fields.specs.Filter.{consIf, kept}
 use Rattle.fields.specs.Sort.{inserted}
 use Rattle.fields.proofs.AllLaws.{all-map, all-kept, all-weaker, either}
-use Rattle.fields.proofs.SortLaws.{all-inserted, all-sorted}
+use Rattle.fields.proofs.SortLaws.{all-inserted}
 use Rattle.fields.proofs.OrderLaws.{before-transitive, before-or-same, same-sym, neither}
 use Rattle.model.specs.Protocol.{Id, isAmong, isTransaction}
 use Rattle.model.specs.Settings.{Settings, expired, givenUp, mostRequests}

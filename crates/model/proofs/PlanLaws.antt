@@ -1,11 +1,11 @@
 -- What a step comes to is within its widths: every list it asks for, and the rest of the state.
 use Prim.Native.Nat.{ℕ, zero, suc, _+_, _-_, _%_, _≤_, _<_, _^_, max, min}
-use mathlib.Core.Path.{_≡_, refl, sym, ap, _∙_}
+use mathlib.Core.Path.{_≡_, refl, sym}
 use mathlib.Core.Bool.{Bool, true, false, not, cond, _&&_, _||_, false≢true}
 use mathlib.Core.List.{List, [], _∷_, _++_, map}
 use mathlib.Core.Option.{Option, none, some}
 use lib.ListN.{length}
-use lib.Dec.{eqb, leb, ltb}
+use lib.Dec.{eqb, ltb}
 use native.Mathlib.Omega.{arith}
 use native.Mathlib.Nat.{mod-lt}
 use borrow.Author.Tests.{eqb-false, ne-eqb, not-true}
@@ -20,11 +20,10 @@ use Rattle.model.specs.Settings as settings
 use Rattle.model.specs.Settings.{Settings, throttled}
 use Rattle.model.specs.Delivery.{Request, orphansOf, evictedAfterEviction}
 use Rattle.model.specs.State.{Mode, new, seeking, syncing, synced, ended, isMode, hasSyncPeer, SendClock, Sync, State}
-use Rattle.model.specs.State.{withDownloaded, withLastProgress, withSendClock, withKnownTip, withStalledPeers, withEvicted, withSyncPeer}
 use Rattle.model.specs.Peers.{isListed, firstOf, orElse, firstUnstalled, selectPeer, stalledAfterSelect, joinStalled, sendSyncInfo, resetSends, isSome}
-use Rattle.model.specs.Requests.{Pair, Act, ask, send, syncInfoTo}
+use Rattle.model.specs.Requests.{Act, ask, send, syncInfoTo}
 use Rattle.model.specs.Requests as requests
-use Rattle.model.specs.Sections.{Section, Header, absent, present, View, allStored, Advance, past, advanceWithin, advanceDownloadedHeight, Item, itemBelow, Batch, join, adjacent, batchesOf, Window, missing, widen, windowWithin, Sections, requestSectionsFrom, requestNextSections}
+use Rattle.model.specs.Sections.{Section, Header, absent, present, View, allStored, Advance, past, advanceWithin, advanceDownloadedHeight, Item, itemBelow, Batch, join, adjacent, batchesOf, Window, missing, widen, windowWithin, requestSectionsFrom, requestNextSections}
 use Rattle.model.specs.Check.{askFresh}
 use Rattle.model.specs.Events.{Outcome, Continue, Synced, BehindPeer, SyncPeerGone, Stalled, EndOfStream, tipOutcome, raisedTip, notAbove, announce, continuation}
 use Rattle.model.specs.Steps
@@ -246,7 +245,7 @@ module _ (st : State) (a : Args) (old : WellSync (st .mode) (st .lastClock) (st 
   keeps : (mode : Mode) (height tip : ℕ) (clock : SendClock) (peers : List ℕ) (ids : List Id) → (hasSyncPeer mode ≡ false → s .syncPeer ≡ 0) → (isMode mode syncing ≡ false → s .progressUsed ≡ false)
       → WellHeight height → WellHeight tip → WellSendClock (a .clock) clock → WellStalled peers → length peers ≤ stalledLimit → All WellId ids
       → WellSync mode (a .clock)
-          (record { syncPeer = s .syncPeer; downloaded = height; lastProgress = s .lastProgress; sendClock = clock; knownTip = tip; stalledPeers = peers; evicted = ids; progressUsed = s .progressUsed; entrySent = false })
+      (record { syncPeer = s .syncPeer; downloaded = height; lastProgress = s .lastProgress; sendClock = clock; knownTip = tip; stalledPeers = peers; evicted = ids; progressUsed = s .progressUsed; entrySent = false })
   keeps mode height tip clock peers ids alone used h t c p few w =
       let l = old .lastProgress in
       record {
@@ -269,7 +268,7 @@ module _ (st : State) (a : Args) (old : WellSync (st .mode) (st .lastClock) (st 
   takes : (mode : Mode) (peer progress tip : ℕ) (clock : SendClock) (peers : List ℕ) (used entered : Bool) → WellPeer peer → (hasSyncPeer mode ≡ false → peer ≡ 0)
       → (isMode mode syncing ≡ false → used ≡ false) → (isMode mode syncing ≡ false → entered ≡ false) → progress ≤ a .clock → WellHeight tip → WellSendClock (a .clock) clock → WellStalled peers → length peers ≤ stalledLimit
       → WellSync mode (a .clock)
-          (record { syncPeer = peer; downloaded = s .downloaded; lastProgress = progress; sendClock = clock; knownTip = tip; stalledPeers = peers; evicted = s .evicted; progressUsed = used; entrySent = entered })
+      (record { syncPeer = peer; downloaded = s .downloaded; lastProgress = progress; sendClock = clock; knownTip = tip; stalledPeers = peers; evicted = s .evicted; progressUsed = used; entrySent = entered })
   takes mode peer progress tip clock peers used entered w alone u n l t c p few =
       record {
         syncPeer = w;
@@ -324,7 +323,7 @@ module _ (st : State) (a : Args) (old : WellSync (st .mode) (st .lastClock) (st 
 
   enters-well : (outcome : Outcome) (peer : ℕ) (acts : List Act) (progress tip : ℕ) (clock : SendClock) (peers : List ℕ) → WellPeer peer → All WellAct acts → progress ≤ a .clock → WellHeight tip → WellSendClock (a .clock) clock → WellStalled peers → length peers ≤ stalledLimit
       → WellPlan (a .clock) (entersSyncing st a outcome peer acts
-          (record { syncPeer = s .syncPeer; downloaded = s .downloaded; lastProgress = progress; sendClock = clock; knownTip = tip; stalledPeers = peers; evicted = s .evicted; progressUsed = s .progressUsed; entrySent = false }))
+      (record { syncPeer = s .syncPeer; downloaded = s .downloaded; lastProgress = progress; sendClock = clock; knownTip = tip; stalledPeers = peers; evicted = s .evicted; progressUsed = s .progressUsed; entrySent = false }))
   unfolding entersSyncing
   enters-well outcome peer acts progress tip clock peers w h l t c p few =
       record {

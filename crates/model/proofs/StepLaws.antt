@@ -1,7 +1,7 @@
 -- The invariant holds of an opened core, and every finished step keeps it.
-use Prim.Native.Nat.{ℕ, _+_, _≤_, _<_, _^_}
-use mathlib.Core.Path.{_≡_, refl, sym}
-use mathlib.Core.Bool.{Bool, true, false, not, cond, _&&_}
+use Prim.Native.Nat.{_+_, _≤_}
+use mathlib.Core.Path.{_≡_, refl}
+use mathlib.Core.Bool.{true, not, _&&_}
 use mathlib.Core.List.{List, []}
 use lib.ListN.{length}
 use lib.Dec.{eqb, leb}
@@ -9,8 +9,8 @@ use native.Mathlib.Omega.{arith}
 use Rattle.fields.specs.Facts.{All}
 use Rattle.fields.proofs.AllLaws.{all-kept, either}
 use Rattle.fields.proofs.OrderLaws.{and-right}
-use Rattle.model.specs.Protocol.{Id, isAmong, trackedLimit, stalledLimit}
-use Rattle.model.specs.Delivery.{Request, idsOf, markReceived, pendingAfterEviction, purgePeer, purgeAll, checkTimeouts}
+use Rattle.model.specs.Protocol.{isAmong, trackedLimit, stalledLimit}
+use Rattle.model.specs.Delivery.{Request, idsOf, markReceived, pendingAfterEviction, purgePeer, purgeAll}
 use Rattle.model.specs.State.{isMode, syncing, State, opened}
 use Rattle.model.specs.Check.{retries, markAllRetried}
 use Rattle.model.specs.Steps
@@ -18,7 +18,7 @@ use Rattle.model.specs.Steps.{Step, Args, ofMode, isCheck, plan, remaini
 use Rattle.model.specs.Image.{noneTwice}
 use Rattle.model.specs.Calls.{Call, Opening, stepOf, argsOf, isFlag, callFits, callRefusal}
 use Rattle.model.specs.Demand3.{InWidth, OpeningInWidth}
-use Rattle.model.proofs.Well.{Well, WellRequest, WellSync, WellSettings, RisingIds}
+use Rattle.model.proofs.Well.{Well, WellRequest, RisingIds}
 use Rattle.model.proofs.Widths.{WellItem, WellArgs}
 use Rattle.model.proofs.FinishedLaws.{Passed, passed}
 use Rattle.model.proofs.ArgumentLaws.{arguments-well}

@@ -1,8 +1,7 @@
 -- What holds of a step's arguments once they are read, and of all that the rules work out from them: every number is within its
 -- width, every id is 32 bytes, and lists are as short as their limits say.
-use Prim.Native.Nat.{ℕ, _+_, _≤_, _<_, _^_}
-use mathlib.Core.Bool.{Bool, true, false}
-use mathlib.Core.List.{List, [], _∷_}
+use Prim.Native.Nat.{ℕ, _≤_, _<_, _^_}
+use mathlib.Core.List.{List}
 use mathlib.Core.Option.{Option, none, some}
 use lib.ListN.{length}
 use Rattle.fields.specs.Facts.{All}
