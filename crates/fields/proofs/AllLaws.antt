@@ -1,14 +1,17 @@
 -- A fact of every element of a list.
-use Prim.Native.Nat.{ℕ, zero, suc, _+_, _<_}
+use Prim.Native.Nat.{ℕ, zero, suc, _+_, _*_, _≤_, _<_}
 use mathlib.Core.Path.{_≡_, refl}
-use mathlib.Core.Bool.{Bool, true, false}
-use mathlib.Core.List.{List, [], _∷_, _++_}
+use mathlib.Core.Bool.{Bool, true, false, cond}
+use mathlib.Core.List.{List, [], _∷_, _++_, map}
 use native.Mathlib.Nat.{not-suc-le-zero, le-of-suc-le-suc}
-use lib.ListN.{length, take, drop, getD, set, take-append-drop}
+use native.Mathlib.Omega.{arith}
+use lib.ListN.{length, take, drop, getD, set, take-append-drop, length-drop}
+use lib.Seq.{length-take-le}
 use lib.Dec.{eqb}
-use Rattle.fields.specs.Facts.{All}
-use Rattle.fields.specs.Entries.{insertedAt, removedAt}
+use Rattle.fields.specs.Facts.{All, Bytes}
+use Rattle.fields.specs.Entries.{entries, insertedAt, removedAt}
 use Rattle.fields.specs.Filter.{consIf, kept, marked}
+use Rattle.fields.proofs.NumberLaws.{bytes-take, bytes-drop}
 
 module _ {ℓ κ} {A : Type ℓ} (P : A → Type κ) where
   pub all-append : (xs ys : List A) → All P xs → All P ys → All P (xs ++ ys)
@@ -76,3 +79,24 @@ module _ {A : Type 0} (P : A → Type 0) where
   pub all-removedAt : (i : ℕ) (xs : List A) → All P xs → All P (removedAt i xs)
   unfolding removedAt
   all-removedAt i xs q = all-append P (take i xs) (drop (i + 1) xs) (all-take P i xs q) (all-drop P (i + 1) xs q)
+pub all-map {ℓ κ ν} : {A : Type ℓ} {B : Type κ} (P : A → Type ν) (Q : B → Type ν) (f : A → B) → ((x : A) → P x → Q (f x)) → (xs : List A) → All P xs → All Q (map f xs)
+all-map P Q f g [] p = tt
+all-map P Q f g (x ∷ xs) p = (g x (p .0), all-map P Q f g xs (p .1))
+
+pub map-all {ℓ κ μ} : {A : Type ℓ} {B : Type κ} (P : B → Type μ) (f : A → B) (xs : List A) → All P (map f xs) → All (λ x. P (f x)) xs
+map-all P f [] p = tt
+map-all P f (x ∷ xs) p = (p .0, map-all P f xs (p .1))
+
+module _ {ℓ κ} {A : Type ℓ} (P : A → Type κ) where
+  -- a choice that is good either way
+  pub either : (t : Bool) (x y : A) → P x → P y → P (cond t x y)
+  either true x y p q = p
+  either false x y p q = q
+
+-- every entry is as long as it should be, and of bytes
+pub entries-all : (width n : ℕ) (bytes : List ℕ) → n * width ≤ length bytes → Bytes bytes
+    → All (λ (e : List ℕ). (length e ≡ width) × Bytes e) (entries width n bytes)
+entries-all width zero bytes h b = tt
+entries-all width (suc n) bytes h b =
+    let k : n * width + width ≤ length bytes = omega arith in
+    ((length-take-le width bytes (omega arith), bytes-take width bytes b), entries-all width n (drop width bytes) (simp length-drop (omega arith)) (bytes-drop width bytes b))

@@ -7,3 +7,5 @@ pub mod EntriesLaws
 pub mod FilterLaws
 pub mod RisingLaws
 pub mod SortLaws
+pub mod PartLaws
+pub mod TotalLaws
