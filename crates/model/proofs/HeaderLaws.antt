@@ -6,7 +6,7 @@ use mathlib.Core.List.{List, [], _∷_, _++_}
 use native.Mathlib.Nat.{lt-irrefl}
 use native.Mathlib.Omega.{arith}
 use lib.Dec.{eqb}
-use lib.ListN.{length}
+use lib.ListN.{length, drop}
 use Rattle.fields.specs.Facts.{Bytes}
 use Rattle.fields.proofs.NumberLaws.{bytes-nil, bytes-cons}
 use Rattle.fields.proofs.PartLaws.{Cell, written, Fit, Holds}
@@ -66,7 +66,14 @@ pub record Header (st : State) (area : List ℕ) : Type 0 where
 
 module _ (st : State) (area : List ℕ) where
   pub header-holds : Header st area → Holds 3 (headerCells st) area
-  header-holds h = search
+  header-holds h =
+      let from48 : Holds 48 (drop 11 (headerCells st)) area =
+      (h .syncPeer, (h .sends, (h .downloaded, (h .knownTip, (h .stalledCount, (h .pendingCount, (h .evictedCount, tt)))))))
+      in
+      let from16 : Holds 16 (drop 5 (headerCells st)) area =
+      (h .timeout, (h .maxChecks, (h .minSendInterval, (h .stallTimeout, (h .lastProgress, (h .lastSend, from48))))))
+      in
+      (h .version, (h .mode, (h .progressUsed, (h .entrySent, (h .lastClock, from16)))))
 
   pub holds-header : Holds 3 (headerCells st) area → Header st area
   holds-header h =
