@@ -2,7 +2,7 @@
 use Prim.Native.Nat.{ℕ, zero, suc, _<_}
 use mathlib.Core.Path.{_≡_, refl}
 use mathlib.Core.Bool.{Bool, true, false}
-use mathlib.Core.List.{List, [], _∷_, _++_, map}
+use mathlib.Core.List.{List, [], _∷_, _++_}
 use native.Mathlib.Nat.{not-suc-le-zero, le-of-suc-le-suc}
 use lib.ListN.{length, getD}
 use Rattle.fields.specs.Facts.{All}
@@ -37,11 +37,3 @@ all-pass test (x ∷ xs) = go (test x) refl (all-pass test xs)
 pub all-weaker {ℓ κ} : {A : Type ℓ} (P Q : A → Type κ) → ((x : A) → P x → Q x) → (xs : List A) → All P xs → All Q xs
 all-weaker P Q f [] p = tt
 all-weaker P Q f (x ∷ xs) p = (f x (p .0), all-weaker P Q f xs (p .1))
-
-pub all-map {ℓ κ μ} : {A : Type ℓ} {B : Type κ} (P : B → Type μ) (f : A → B) (xs : List A) → All (λ x. P (f x)) xs → All P (map f xs)
-all-map P f [] p = tt
-all-map P f (x ∷ xs) p = (p .0, all-map P f xs (p .1))
-
-pub map-back {ℓ κ} : {A : Type ℓ} {B : Type κ} (f : A → B) (g : B → A) (xs : List A) → All (λ x. g (f x) ≡ x) xs → map g (map f xs) ≡ xs
-map-back f g [] p = refl
-map-back f g (x ∷ xs) p = rw (p .0, map-back f g xs (p .1))
