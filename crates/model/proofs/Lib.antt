@@ -13,3 +13,4 @@ pub mod CommandLaws
 pub mod SendingLaws
 pub mod BoundLaws
 pub mod EntryLaws
+pub mod QuestionLaws
