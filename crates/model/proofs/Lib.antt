@@ -30,3 +30,4 @@ pub mod EnteringLaws
 pub mod AgreementLaws
 pub mod BalanceLaws
 pub mod Demand3
+pub mod QuestionLaws
