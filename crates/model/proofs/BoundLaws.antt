@@ -1,5 +1,5 @@
 -- The command area is large enough: every finished step writes at most 49,152 bytes, three quarters of 65,536.
-use Prim.Native.Nat.{ℕ, zero, suc, _+_, _-_, _*_, _≤_, min}
+use Prim.Native.Nat.{ℕ, _+_, _-_, _*_, _≤_, min}
 use mathlib.Core.Path.{_≡_, refl}
 use mathlib.Core.Bool.{Bool, true, false, not, cond, _&&_}
 use mathlib.Core.List.{List, [], _∷_, _++_, map}
@@ -8,7 +8,6 @@ use lib.ListN.{length, length-append, length-map}
 use lib.Dec.{eqb, ltb}
 use native.Mathlib.Omega.{arith}
 use Rattle.fields.specs.Facts.{All}
-use Rattle.fields.specs.Filter.{consIf}
 use Rattle.fields.proofs.AllLaws.{all-append, either}
 use Rattle.fields.proofs.FilterLaws.{length-kept}
 use Rattle.fields.proofs.TotalLaws.{total, total-append}
@@ -21,7 +20,7 @@ use Rattle.model.specs.State.{isMode, syncing, seeking, SendClock, Sync,
 use Rattle.model.specs.Peers.{firstOf, selectPeer}
 use Rattle.model.specs.Requests.{Pair, Sending, Act, ask, send, syncInfoTo}
 use Rattle.model.specs.Requests as requests
-use Rattle.model.specs.Sections.{Section, Header, absent, present, View, Item, Batch, batchesOf, Window, missing, widen, windowWithin, requestSectionsFrom, requestNextSections}
+use Rattle.model.specs.Sections.{View, Item, Batch, batchesOf, windowWithin, requestSectionsFrom, requestNextSections}
 use Rattle.model.specs.Check.{retryOf, retries, markAllRetried, retrySendings, askFresh}
 use Rattle.model.specs.Events.{Outcome, Continue, Synced, BehindPeer, SyncPeerGone, Stalled, EndOfStream, tipOutcome, raisedTip, notAbove, announce, continuation}
 use Rattle.model.specs.Steps
@@ -30,8 +29,9 @@ use Rattle.model.specs.Commands.{commandsIn}
 use Rattle.model.specs.Calls.{Call, argsOf, stepBytes, callRefusal}
 use Rattle.model.specs.Demand3.{InWidth}
 use Rattle.model.proofs.Well.{Well}
-use Rattle.model.proofs.Widths.{IfSome, WellSending, WellCommand, WellHeader, WellView, WellStep, WellArgs}
+use Rattle.model.proofs.Widths.{WellSending, WellCommand, WellView, WellStep, WellArgs}
 use Rattle.model.proofs.FinishedLaws.{Passed, passed}
+use Rattle.model.proofs.SectionLaws.{window-few}
 use Rattle.model.proofs.PlanLaws.{WellPlan, plan-well}
 use Rattle.model.proofs.StepLaws.{retried-items-well, args-well, of-mode}
 use Rattle.model.proofs.CommandLaws.{commands-read-back}
@@ -40,30 +40,7 @@ use Rattle.model.proofs.SendingLaws.{weight, actWeight, performed-sends
 abbrev pub mostBytes : ℕ
 mostBytes = 49152
 
--- ---- rule 4: at most three places a height
-
-missing-few : (peer : ℕ) (sections : List Section) → length (missing peer sections) ≤ length sections
-missing-few peer [] = omega arith
-missing-few peer (s ∷ sections) = go (not (s .isStored)) (missing-few peer sections)
-  where
-    go : (t : Bool) → length (missing peer sections) ≤ length sections → length (consIf t (record { id = s .id; typeId = s .typeId; peer = peer }) (missing peer sections)) ≤ suc (length sections)
-    go true h = omega arith
-    go false h = omega arith
-
-widen-few : (header : Option Header) (peer : ℕ) (further : Window) → IfSome WellHeader header → length (widen header peer further .items) ≤ 3 + length (further .items)
-widen-few none peer further w = omega arith
-widen-few (some absent) peer further w = omega arith
-widen-few (some (present sections)) peer further w =
-    let a = missing-few peer sections in
-    let b = w .1 in
-    rw (length-append (missing peer sections) (further .items)) (omega arith)
-
-pub window-few : (n : ℕ) (view : View) (peer height : ℕ) → WellView view → length (windowWithin n view peer height .items) ≤ 3 * n
-window-few zero view peer height v = omega arith
-window-few (suc n) view peer height v =
-    let a = widen-few (view (suc height)) peer (windowWithin n view peer (suc height)) (v (suc height)) in
-    let b = window-few n view peer (suc height) v in
-    omega arith
+-- ---- the plans
 
 sections-weight : (view : View) (chainHeight height : ℕ) (peer : Option ℕ) → WellView view → total actWeight (requestSectionsFrom view chainHeight height peer .acts) ≤ 48 * (3 * windowSize)
 unfolding requestSectionsFrom
@@ -75,8 +52,6 @@ sections-weight view chainHeight height (some peer) v =
     let size : n ≤ windowSize = omega arith in
     let e : total actWeight (map (λ (b : Batch). ask (b .typeId) (b .peer) [] (b .ids)) (batchesOf items)) ≡ 48 * length items = batches-weight (λ (b : Batch). ask (b .typeId) (b .peer) [] (b .ids)) (λ b. refl) items in
     omega arith
-
--- ---- the plans
 
 say-weight : (settings : Settings) (clock : ℕ) (s : SendClock) (peer : ℕ) → total actWeight (syncInfoTo settings clock s peer) ≤ 32
 unfolding syncInfoTo

@@ -10,6 +10,10 @@ pub mod Widths
 pub mod FinishedLaws
 pub mod ArgumentLaws
 pub mod PendingLaws
+pub mod BatchLaws
+pub mod PeerLaws
+pub mod SectionLaws
+pub mod SyncLaws
 pub mod PlanLaws
 pub mod StepLaws
 pub mod CommandLaws

@@ -1,29 +1,26 @@
 -- What a step sends: every command is within its widths, and how many bytes they come to.
 use Prim.Native.Nat.{ℕ, zero, suc, _+_, _*_, _^_, _≤_, _<_}
 use mathlib.Core.Path.{_≡_, refl, ap, _∙_}
-use mathlib.Core.Bool.{Bool, true, false, not, cond, _&&_}
+use mathlib.Core.Bool.{Bool, true, false, not}
 use mathlib.Core.List.{List, [], _∷_, _++_, map}
 use lib.ListN.{length, take, drop, length-append, length-take, length-drop, length-map}
-use lib.Dec.{eqb}
 use native.Mathlib.Omega.{arith}
 use Rattle.fields.specs.Facts.{All}
 use Rattle.fields.specs.Filter.{kept}
-use Rattle.fields.specs.Sort.{sorted}
 use Rattle.fields.proofs.AllLaws.{all-append, all-map, all-take, all-drop}
 use Rattle.fields.proofs.FilterLaws.{length-kept}
-use Rattle.fields.proofs.SortLaws.{length-sorted}
 use Rattle.fields.proofs.TotalLaws.{total, total-append, total-map}
 use Rattle.model.specs.Protocol.{Id, headerType, requestSize}
 use Rattle.model.specs.Delivery.{Request, isPending}
 use Rattle.model.specs.Requests.{Pair, isStored, Sending, request, announcement, syncInfo, Command, runsWithin, runs, commandsOf, commandsFrom, Act, ask, send, wanted, requestOf, perform, performAll}
-use Rattle.model.specs.Sections.{Item, itemBelow, Batch, join, adjacent, batchesOf}
+use Rattle.model.specs.Sections.{Item, Batch, batchesOf}
 use Rattle.model.specs.Check.{retrySendings}
 use Rattle.model.specs.Image.{idSize}
 use Rattle.model.specs.Commands.{commandHeader, commandBytes, allCommandBytes}
 use Rattle.model.proofs.Well.{WellId}
 use Rattle.model.proofs.Widths.{WellItem, WellList, WellBatch, WellSending, WellAct, WellCommand}
 use Rattle.model.proofs.PendingLaws.{wanted-well}
-use Rattle.model.proofs.PlanLaws.{batches-well}
+use Rattle.model.proofs.BatchLaws.{batches-well, idCount, batches-ids, batches-count}
 use Rattle.model.proofs.CommandLaws.{length-command}
 
 -- ---- sendings within their widths
@@ -172,45 +169,6 @@ performed-count gate clock (act ∷ acts) rs =
     let a = act-count gate clock act rs in
     let b = performed-count gate clock acts (perform gate clock act rs .pending) in
     rw (length-append (perform gate clock act rs .sendings) (performAll gate clock acts (perform gate clock act rs .pending) .sendings)) (omega arith)
-
--- ---- batches: no id is lost or added, and none is empty
-
-abbrev pub idCount : Batch → ℕ
-idCount b = length (b .ids)
-
-join-ids : (i : Item) (bs : List Batch) → total idCount (join i bs) ≡ suc (total idCount bs)
-join-ids i [] = refl
-join-ids i (b ∷ bs) = go (eqb (i .typeId) (b .typeId) && eqb (i .peer) (b .peer))
-  where
-    go : (t : Bool) → total idCount (cond t (record { typeId = b .typeId; peer = b .peer; ids = i .id ∷ b .ids } ∷ bs) (record { typeId = i .typeId; peer = i .peer; ids = i .id ∷ [] } ∷ (b ∷ bs)))
-        ≡ suc (total idCount (b ∷ bs))
-    go true = omega arith
-    go false = omega arith
-
-join-count : (i : Item) (bs : List Batch) → length (join i bs) ≤ suc (length bs)
-join-count i [] = omega arith
-join-count i (b ∷ bs) = go (eqb (i .typeId) (b .typeId) && eqb (i .peer) (b .peer))
-  where
-    go : (t : Bool) → length (cond t (record { typeId = b .typeId; peer = b .peer; ids = i .id ∷ b .ids } ∷ bs) (record { typeId = i .typeId; peer = i .peer; ids = i .id ∷ [] } ∷ (b ∷ bs)))
-        ≤ suc (length (b ∷ bs))
-    go true = omega arith
-    go false = omega arith
-
-adjacent-ids : (items : List Item) → total idCount (adjacent items) ≡ length items
-adjacent-ids [] = refl
-adjacent-ids (i ∷ items) = join-ids i (adjacent items) ∙ ap suc (adjacent-ids items)
-
-adjacent-count : (items : List Item) → length (adjacent items) ≤ length items
-adjacent-count [] = omega arith
-adjacent-count (i ∷ items) = let a = join-count i (adjacent items) in let b = adjacent-count items in omega arith
-
-pub batches-ids : (items : List Item) → total idCount (batchesOf items) ≡ length items
-unfolding batchesOf
-batches-ids items = adjacent-ids (sorted itemBelow items) ∙ length-sorted itemBelow items
-
-pub batches-count : (items : List Item) → length (batchesOf items) ≤ length items
-unfolding batchesOf
-batches-count items = let a = adjacent-count (sorted itemBelow items) in let b = length-sorted itemBelow items in omega arith
 
 -- a list asked for batch by batch
 pub batches-weight : (f : Batch → Act) → ((b : Batch) → actWeight (f b) ≡ 48 * idCount b) → (items : List Item) → total actWeight (map f (batchesOf items)) ≡ 48 * length items
