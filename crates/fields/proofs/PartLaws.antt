@@ -1,5 +1,5 @@
 -- Bytes in parts that follow one another: what stands where, the whole from its parts, and parts that are numbers.
-use Prim.Native.Nat.{ℕ, zero, suc, _+_, _-_, _*_, _^_, _≤_, _<_}
+use Prim.Native.Nat.{ℕ, _+_, _-_, _*_, _^_, _≤_, _<_}
 use mathlib.Core.Path.{_≡_, refl, sym, ap, _∙_}
 use mathlib.Core.Bool.{Bool, true, false}
 use mathlib.Core.List.{List, [], _∷_, _++_, map, append-assoc}
@@ -77,9 +77,10 @@ pub written-holds : (cs : List Cell) (at : ℕ) (rest bytes : List ℕ) → Fit 
 written-holds [] at rest bytes f e = tt
 written-holds (c ∷ cs) at rest bytes f e =
     let l : length (toBe (c .width) (c .number)) ≡ c .width = length-toBe (c .width) (c .number) in
-    let e′ : drop at bytes ≡ toBe (c .width) (c .number) ++ (written cs ++ rest) = e ∙ append-assoc (toBe (c .width) (c .number)) (written cs) rest in
-    (ap fromBe (part-at at (c .width) (toBe (c .width) (c .number)) (written cs ++ rest) bytes l e′) ∙ fromBe-toBe (c .width) (c .number) (f .0),
-     written-holds cs (at + c .width) rest bytes (f .1) (part-behind at (c .width) (toBe (c .width) (c .number)) (written cs ++ rest) bytes l e′))
+    let e′ : drop at bytes ≡ toBe (c .width) (c .number) ++ (written cs ++ rest) = e ∙ append-assoc (toBe (c .width) (c .number)) (written cs) rest in (
+      ap fromBe (part-at at (c .width) (toBe (c .width) (c .number)) (written cs ++ rest) bytes l e′) ∙ fromBe-toBe (c .width) (c .number) (f .0),
+      written-holds cs (at + c .width) rest bytes (f .1) (part-behind at (c .width) (toBe (c .width) (c .number)) (written cs ++ rest) bytes l e′),
+    )
 
 pub holds-written : (cs : List Cell) (at : ℕ) (bytes : List ℕ) → Bytes bytes → at + extent cs ≤ length bytes → Holds at cs bytes → take (extent cs) (drop at bytes) ≡ written cs
 holds-written [] at bytes f h p = refl
@@ -141,10 +142,10 @@ module _ (width : ℕ) (old new : List (List ℕ)) (free : ℕ) (rest : List ℕ
       let s : length new * width ≡ length (joined old) + k = omega arith in
       let e : free - k ≡ length old * width + free - length new * width = omega arith in
       let d : drop (length new * width) (joined old ++ (zeros free ++ rest)) ≡ zeros (length old * width + free - length new * width) ++ rest =
-          ap (λ (n : ℕ). drop n (joined old ++ (zeros free ++ rest))) s
-          ∙ drop-append-add (joined old) (zeros free ++ rest) k
-          ∙ drop-append-le k (zeros free) rest (rw (length-zeros free) (omega arith))
-          ∙ rw (drop-zeros free k, e)
+      ap (λ (n : ℕ). drop n (joined old ++ (zeros free ++ rest))) s
+      ∙ drop-append-add (joined old) (zeros free ++ rest) k
+      ∙ drop-append-le k (zeros free) rest (rw (length-zeros free) (omega arith))
+      ∙ rw (drop-zeros free k, e)
       in
       replaced-more width (length old) new (joined old ++ (zeros free ++ rest)) h ∙ rw d
 

@@ -1,21 +1,21 @@
 -- What changes in the area when one part of the state changes.
-use Prim.Native.Nat.{ℕ, zero, suc, _+_, _-_, _*_, _≤_, _<_}
-use mathlib.Core.Path.{_≡_, refl, sym, ap, _∙_}
-use mathlib.Core.List.{List, [], _∷_, _++_, map, append-assoc}
+use Prim.Native.Nat.{ℕ, _+_, _-_, _*_}
+use mathlib.Core.Path.{_≡_, sym, ap, _∙_}
+use mathlib.Core.List.{List, _++_, map, append-assoc}
 use native.Mathlib.Nat.{zero-add}
 use native.Mathlib.Omega.{arith}
-use lib.ListN.{length, take, drop, length-map}
+use lib.ListN.{length, drop, length-map}
 use Rattle.fields.specs.Number.{toBe}
 use Rattle.fields.specs.Zero.{zeros}
 use Rattle.fields.specs.Overwrite.{overwritten}
 use Rattle.fields.specs.Entries.{joined, replaced}
 use Rattle.fields.proofs.EntriesLaws.{Wide}
 use Rattle.fields.proofs.PartLaws.{written, numbers-wide, replaced-in-room}
-use Rattle.model.specs.Protocol.{Id, stalledLimit, trackedLimit}
+use Rattle.model.specs.Protocol.{Id}
 use Rattle.model.specs.State.{State}
-use Rattle.model.specs.Image.{areaSize, idSize, peerSize, recordSize, stalledAt, regionAt, headerBytes, requestBytes, encode}
+use Rattle.model.specs.Image.{peerSize, recordSize, stalledAt, regionAt, headerBytes, requestBytes, encode}
 use Rattle.model.proofs.HeaderLaws.{mark, headerCells, header-written}
-use Rattle.model.proofs.ImageLaws.{Sized, headerFree, stalledFree, regionFree, evictedBytes, stalledBytes, pendingBytes, fromPending, fromStalled, fromHeaderRest, encode-parts, length-header, drop-header, drop-to-stalled, drop-to-region}
+use Rattle.model.proofs.ImageLaws.{Sized, headerFree, stalledFree, regionFree, evictedBytes, stalledBytes, pendingBytes, fromPending, fromHeaderRest, encode-parts, length-header, drop-header, drop-to-stalled, drop-to-region}
 
 table-changed : (width count : ℕ) (old new : List (List ℕ)) (free left : ℕ) (rest now then : List ℕ) → Wide width old → Wide width new → length old ≡ count
     → length new * width + left ≡ length old * width + free → now ≡ joined old ++ (zeros free ++ rest) → then ≡ joined new ++ (zeros left ++ rest)

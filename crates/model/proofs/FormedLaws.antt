@@ -1,10 +1,10 @@
 -- The test of an image, line by line.
-use Prim.Native.Nat.{ℕ, zero, suc, _+_, _-_, _*_, _^_, _≤_, _<_}
-use mathlib.Core.Path.{_≡_, refl, sym, ap, _∙_}
+use Prim.Native.Nat.{ℕ, _+_, _-_, _*_, _≤_}
+use mathlib.Core.Path.{_≡_, refl, sym, _∙_}
 use mathlib.Core.Bool.{Bool, true, false, _&&_, _||_, false≢true}
-use mathlib.Core.List.{List, [], _∷_, _++_, map}
-use lib.Dec.{eqb, leb, ltb}
-use lib.ListN.{length, take, drop, getD}
+use mathlib.Core.List.{List, [], _∷_}
+use lib.Dec.{eqb, leb}
+use lib.ListN.{take, drop, getD}
 use borrow.Author.Tests.{eqb-true, eq-eqb, leb-true, le-leb}
 use Rattle.fields.specs.Facts.{All}
 use Rattle.fields.specs.Zero.{allZero}
@@ -135,16 +135,20 @@ module _ (area : List ℕ) where
   pub well-formed : Formed area → wellFormed area ≡ true
   well-formed f =
       let m : All (λ (b : Bool). b ≡ true) marks =
-          (le-leb (getD area 6 0) (bit (isMode (modeIn area) syncing)) (f .progressUsed), (le-leb (getD area 7 0) (bit (isMode (modeIn area) syncing)) (f .entrySent), tt))
+      (le-leb (getD area 6 0) (bit (isMode (modeIn area) syncing)) (f .progressUsed), (le-leb (getD area 7 0) (bit (isMode (modeIn area) syncing)) (f .entrySent), tt))
       in
       let n : All (λ (b : Bool). b ≡ true) counts =
-          (le-leb (stalledCount area) stalledLimit (f .stalledFew), (le-leb (pendingCount area + evictedCount area) trackedLimit (f .tracked), tt))
+      (le-leb (stalledCount area) stalledLimit (f .stalledFew), (le-leb (pendingCount area + evictedCount area) trackedLimit (f .tracked), tt))
       in
       let c : All (λ (b : Bool). b ≡ true) clocks = (le-leb (field 32 8 area) (lastClockOf area) (f .lastProgress), (le-leb (field 40 8 area) (lastClockOf area) (f .lastSend), tt)) in
       let u : All (λ (b : Bool). b ≡ true) unused =
-          (right-or (hasSyncPeer (modeIn area)) (eqb (field 48 8 area) 0) (λ e. eq-eqb (field 48 8 area) 0 (f .noPeer e)), (f .headerRest, (f .stalledRest, (f .narrow, (f .between, tt)))))
+      (right-or (hasSyncPeer (modeIn area)) (eqb (field 48 8 area) 0) (λ e. eq-eqb (field 48 8 area) 0 (f .noPeer e)), (f .headerRest, (f .stalledRest, (f .narrow, (f .between, tt)))))
       in
-      tests-are
-      ∙ true-each tests
-        (eq-same (take 3 area) mark (f .start), (eq-eqb (field 3 2 area) 1 (f .version), (le-leb (modeByte area) 4 (f .mode), (true-each marks m, (true-each counts n,
-         (f .idsRise, (f .stalledOnce, (true-each clocks c, (f .requestsFit, (true-each unused u, tt))))))))))
+      let s : same (take 3 area) mark ≡ true = eq-same (take 3 area) mark (f .start) in
+      let v : eqb (field 3 2 area) 1 ≡ true = eq-eqb (field 3 2 area) 1 (f .version) in
+      let o : leb (modeByte area) 4 ≡ true = le-leb (modeByte area) 4 (f .mode) in
+      let first : allTrue marks ≡ true = true-each marks m in
+      let second : allTrue counts ≡ true = true-each counts n in
+      let third : allTrue clocks ≡ true = true-each clocks c in
+      let last : allTrue unused ≡ true = true-each unused u in
+      tests-are ∙ true-each tests (s, (v, (o, (first, (second, (f .idsRise, (f .stalledOnce, (third, (f .requestsFit, (last, tt))))))))))

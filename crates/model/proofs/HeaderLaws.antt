@@ -1,17 +1,16 @@
 -- The header's numbers, each where the layout has it.
-use Prim.Native.Nat.{ℕ, zero, suc, _+_, _-_, _*_, _%_, _^_, _≤_, _<_}
-use mathlib.Core.Path.{_≡_, refl, sym, ap, _∙_}
+use Prim.Native.Nat.{ℕ, zero, suc, _%_, _^_, _≤_, _<_}
+use mathlib.Core.Path.{_≡_, refl}
 use mathlib.Core.Bool.{Bool, true, false}
 use mathlib.Core.List.{List, [], _∷_, _++_}
 use native.Mathlib.Nat.{lt-irrefl}
 use native.Mathlib.Omega.{arith}
-use lib.Dec.{eqb, leb}
-use lib.ListN.{length, take, drop, getD}
-use borrow.Author.Tests.{eqb-true, eq-eqb, leb-true}
+use lib.Dec.{eqb}
+use lib.ListN.{length, drop}
 use Rattle.fields.specs.Facts.{Bytes}
 use Rattle.fields.proofs.NumberLaws.{bytes-nil, bytes-cons}
-use Rattle.fields.proofs.PartLaws.{Cell, written, extent, Fit, Holds}
-use Rattle.model.specs.State.{Mode, new, seeking, syncing, synced, ended, modeNumber, isMode, State}
+use Rattle.fields.proofs.PartLaws.{Cell, written, Fit, Holds}
+use Rattle.model.specs.State.{Mode, new, seeking, syncing, synced, ended, modeNumber, State}
 use Rattle.model.specs.Image.{modeOf, bit, field, headerBytes}
 use Rattle.model.proofs.Well.{Well, WellSettings, WellSync}
 
@@ -68,8 +67,13 @@ pub record Header (st : State) (area : List ℕ) : Type 0 where
 module _ (st : State) (area : List ℕ) where
   pub header-holds : Header st area → Holds 3 (headerCells st) area
   header-holds h =
-      (h .version, (h .mode, (h .progressUsed, (h .entrySent, (h .lastClock, (h .timeout, (h .maxChecks, (h .minSendInterval, (h .stallTimeout,
-       (h .lastProgress, (h .lastSend, (h .syncPeer, (h .sends, (h .downloaded, (h .knownTip, (h .stalledCount, (h .pendingCount, (h .evictedCount, tt))))))))))))))))))
+      let from48 : Holds 48 (drop 11 (headerCells st)) area =
+      (h .syncPeer, (h .sends, (h .downloaded, (h .knownTip, (h .stalledCount, (h .pendingCount, (h .evictedCount, tt)))))))
+      in
+      let from16 : Holds 16 (drop 5 (headerCells st)) area =
+      (h .timeout, (h .maxChecks, (h .minSendInterval, (h .stallTimeout, (h .lastProgress, (h .lastSend, from48))))))
+      in
+      (h .version, (h .mode, (h .progressUsed, (h .entrySent, (h .lastClock, from16)))))
 
   pub holds-header : Holds 3 (headerCells st) area → Header st area
   holds-header h =
@@ -153,6 +157,4 @@ header-fit st w =
     let y : WellSync (st .mode) (st .lastClock) (st .sync) = w .sync in
     let p : st .sync .lastProgress ≤ st .lastClock = y .lastProgress in
     let l : st .sync .sendClock .lastSend ≤ st .lastClock = y .lastSend in
-    (omega arith, (omega (arith, mode-narrow (st .mode)), (omega (arith, bit-narrow (st .sync .progressUsed)), (omega (arith, bit-narrow (st .sync .entrySent)),
-     (c, (s .timeout, (s .maxChecks, (s .minSendInterval, (s .stallTimeout, (omega arith, (omega arith, (y .syncPeer, (y .sends, (y .downloaded, (y .knownTip,
-      (omega (arith, y .stalledFew), (omega (arith, w .tracked), (omega (arith, w .tracked), tt))))))))))))))))))
+    omega (arith, mode-narrow (st .mode), bit-narrow (st .sync .progressUsed), bit-narrow (st .sync .entrySent), s .timeout, s .maxChecks, s .minSendInterval, s .stallTimeout, y .syncPeer, y .sends, y .downloaded, y .knownTip, y .stalledFew, w .tracked)

@@ -1,24 +1,23 @@
 -- The state area in its parts: what stands where, and the area from its parts.
-use Prim.Native.Nat.{ℕ, zero, suc, _+_, _-_, _*_, _^_, _≤_, _<_}
+use Prim.Native.Nat.{ℕ, _+_, _-_, _*_, _≤_}
 use mathlib.Core.Path.{_≡_, refl, sym, ap, _∙_, subst}
-use mathlib.Core.Bool.{Bool, true, false}
 use mathlib.Core.List.{List, [], _∷_, _++_, map, append-assoc, append-nil}
 use native.Mathlib.Omega.{arith}
 use lib.ListN.{length, take, drop, length-append, length-drop, length-map}
 use lib.Seq.{take-all}
 use Rattle.fields.specs.Facts.{All, Bytes}
-use Rattle.fields.specs.Number.{fromBe, toBe}
+use Rattle.fields.specs.Number.{toBe}
 use Rattle.fields.specs.Zero.{zeros}
 use Rattle.fields.specs.Entries.{entries, joined}
 use Rattle.fields.proofs.NumberLaws.{bytes-append}
 use Rattle.fields.proofs.AllLaws.{all-weaker}
 use Rattle.fields.proofs.ZeroLaws.{length-zeros, zeros-bytes}
 use Rattle.fields.proofs.EntriesLaws.{Wide, length-joined, joined-bytes, entries-joined, joined-entries}
-use Rattle.fields.proofs.PartLaws.{written, extent, Fit, Holds, length-written, written-bytes, written-holds, holds-written, part-at, part-behind, part-joined, numbers-wide, numbers-bytes}
+use Rattle.fields.proofs.PartLaws.{written, Fit, written-bytes, written-holds, holds-written, part-at, part-behind, part-joined, numbers-wide, numbers-bytes}
 use Rattle.model.specs.Protocol.{Id, stalledLimit, trackedLimit}
 use Rattle.model.specs.State.{State}
 use Rattle.model.specs.Image.{areaSize, idSize, peerSize, recordSize, stalledAt, regionAt, padded, headerBytes, requestBytes, encode}
-use Rattle.model.proofs.Well.{Well, WellId, WellSync}
+use Rattle.model.proofs.Well.{Well, WellId}
 use Rattle.model.proofs.RecordLaws.{Recorded, well-recorded, records-wide, records-bytes}
 use Rattle.model.proofs.HeaderLaws.{mark, mark-bytes, headerCells, Header, header-holds, holds-header, header-written, header-fit}
 
@@ -157,8 +156,8 @@ encode-parts st z =
     let few : length (st .sync .stalledPeers) ≤ stalledLimit = z .stalledFew in
     padded-split (headerBytes st) (stalledBytes st) (pendingBytes st) (evictedBytes st) stalledAt regionAt areaSize (omega arith) (omega arith)
     ∙ same-parts (headerBytes st) mark (written (headerCells st)) (stalledBytes st) (pendingBytes st) (evictedBytes st)
-      (stalledAt - length (headerBytes st)) (regionAt - (stalledAt + length (stalledBytes st))) (areaSize - length (evictedBytes st) - (regionAt + length (pendingBytes st)))
-      headerFree (stalledFree st) (regionFree st) (header-written st) (omega arith) (omega arith) (omega arith)
+    (stalledAt - length (headerBytes st)) (regionAt - (stalledAt + length (stalledBytes st))) (areaSize - length (evictedBytes st) - (regionAt + length (pendingBytes st)))
+    headerFree (stalledFree st) (regionFree st) (header-written st) (omega arith) (omega arith) (omega arith)
 
 -- where parts end
 module _ (st : State) (z : Sized st) where
@@ -181,27 +180,27 @@ module _ (st : State) (z : Sized st) where
 pub laid-encode : (st : State) (area : List ℕ) → Sized st → length area ≡ areaSize → Bytes area → Laid st area → area ≡ encode st
 laid-encode st area z l f laid =
     let d₇ : drop (evictedAt st) area ≡ evictedBytes st =
-        sym (take-all (length (st .sync .evicted) * idSize) (drop (evictedAt st) area) (rw (length-drop (evictedAt st) area) (omega (arith, evicted-end st z))))
-        ∙ sym (joined-entries idSize (length (st .sync .evicted)) (drop (evictedAt st) area)) ∙ ap joined (laid .evicted)
+    sym (take-all (length (st .sync .evicted) * idSize) (drop (evictedAt st) area) (rw (length-drop (evictedAt st) area) (omega (arith, evicted-end st z))))
+    ∙ sym (joined-entries idSize (length (st .sync .evicted)) (drop (evictedAt st) area)) ∙ ap joined (laid .evicted)
     in
     let d₆ : drop (pendingEnd st) area ≡ fromBetween st =
-        part-joined (pendingEnd st) (regionFree st) (zeros (regionFree st)) (evictedBytes st) area (laid .between) (rw (pending-end st z) d₇)
+    part-joined (pendingEnd st) (regionFree st) (zeros (regionFree st)) (evictedBytes st) area (laid .between) (rw (pending-end st z) d₇)
     in
     let d₅ : drop regionAt area ≡ fromPending st =
-        part-joined regionAt (length (st .pending) * recordSize) (pendingBytes st) (fromBetween st) area
-        (sym (joined-entries recordSize (length (st .pending)) (drop regionAt area)) ∙ ap joined (laid .pending)) d₆
+    part-joined regionAt (length (st .pending) * recordSize) (pendingBytes st) (fromBetween st) area
+    (sym (joined-entries recordSize (length (st .pending)) (drop regionAt area)) ∙ ap joined (laid .pending)) d₆
     in
     let d₄ : drop (stalledEnd st) area ≡ fromStalledRest st =
-        part-joined (stalledEnd st) (stalledFree st) (zeros (stalledFree st)) (fromPending st) area (laid .stalledRest) (rw (stalled-end st z) d₅)
+    part-joined (stalledEnd st) (stalledFree st) (zeros (stalledFree st)) (fromPending st) area (laid .stalledRest) (rw (stalled-end st z) d₅)
     in
     let d₃ : drop stalledAt area ≡ fromStalled st =
-        part-joined stalledAt (length (st .sync .stalledPeers) * peerSize) (stalledBytes st) (fromStalledRest st) area
-        (sym (joined-entries peerSize (length (st .sync .stalledPeers)) (drop stalledAt area)) ∙ ap joined (laid .stalled)) d₄
+    part-joined stalledAt (length (st .sync .stalledPeers) * peerSize) (stalledBytes st) (fromStalledRest st) area
+    (sym (joined-entries peerSize (length (st .sync .stalledPeers)) (drop stalledAt area)) ∙ ap joined (laid .stalled)) d₄
     in
     let d₂ : drop 74 area ≡ fromHeaderRest st = part-joined 74 headerFree (zeros headerFree) (fromStalled st) area (laid .headerRest) d₃ in
     let d₁ : drop 3 area ≡ written (headerCells st) ++ (fromHeaderRest st) =
-        part-joined 3 71 (written (headerCells st)) (fromHeaderRest st) area
-        (holds-written (headerCells st) 3 area f (omega arith) (header-holds st area (laid .header))) d₂
+    part-joined 3 71 (written (headerCells st)) (fromHeaderRest st) area
+    (holds-written (headerCells st) 3 area f (omega arith) (header-holds st area (laid .header))) d₂
     in
     part-joined 0 3 mark (written (headerCells st) ++ (fromHeaderRest st)) area (laid .start) d₁ ∙ sym (encode-parts st z)
 
@@ -285,7 +284,7 @@ sized-length st z =
     let b : length (evictedBytes st) ≡ length (st .sync .evicted) * idSize = length-evicted st z in
     ap length (encode-parts st z)
     ∙ parts-length mark (written (headerCells st)) (zeros headerFree) (stalledBytes st) (zeros (stalledFree st)) (pendingBytes st) (zeros (regionFree st)) (evictedBytes st) areaSize
-      (omega (arith, stalled-end st z, pending-end st z, evicted-end st z))
+    (omega (arith, stalled-end st z, pending-end st z, evicted-end st z))
 
 pub encode-length : (st : State) → Well st → length (encode st) ≡ areaSize
 encode-length st w = sized-length st (well-sized st w)
@@ -294,7 +293,7 @@ pub encode-bytes : (st : State) → Well st → Bytes (encode st)
 encode-bytes st w =
     subst Bytes (sym (encode-parts st (well-sized st w)))
     (parts-bytes mark (written (headerCells st)) (zeros headerFree) (stalledBytes st) (zeros (stalledFree st)) (pendingBytes st) (zeros (regionFree st)) (evictedBytes st)
-     mark-bytes (written-bytes (headerCells st)) (zeros-bytes headerFree)
-     (joined-bytes (map (toBe peerSize) (st .sync .stalledPeers)) (numbers-bytes peerSize (st .sync .stalledPeers))) (zeros-bytes (stalledFree st))
-     (joined-bytes (map requestBytes (st .pending)) (records-bytes (st .pending) (well-requests st w))) (zeros-bytes (regionFree st))
-     (joined-bytes (st .sync .evicted) (ids-bytes (st .sync .evicted) (w .sync .evicted))))
+    mark-bytes (written-bytes (headerCells st)) (zeros-bytes headerFree)
+    (joined-bytes (map (toBe peerSize) (st .sync .stalledPeers)) (numbers-bytes peerSize (st .sync .stalledPeers))) (zeros-bytes (stalledFree st))
+    (joined-bytes (map requestBytes (st .pending)) (records-bytes (st .pending) (well-requests st w))) (zeros-bytes (regionFree st))
+    (joined-bytes (st .sync .evicted) (ids-bytes (st .sync .evicted) (w .sync .evicted))))

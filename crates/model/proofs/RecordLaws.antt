@@ -1,25 +1,24 @@
 -- A pending record: its bytes and the request that they say, there and back.
-use Prim.Native.Nat.{ℕ, zero, suc, _+_, _-_, _*_, _^_, _≤_, _<_, max}
-use mathlib.Core.Path.{_≡_, refl, sym, ap, _∙_}
-use mathlib.Core.Bool.{Bool, true, false, _&&_, cond}
+use Prim.Native.Nat.{ℕ, _+_, _*_, _^_, _≤_, _<_, max}
+use mathlib.Core.Path.{_≡_, refl, sym, _∙_}
+use mathlib.Core.Bool.{Bool, true, false, cond}
 use mathlib.Core.List.{List, [], _∷_, _++_, map}
 use native.Mathlib.Omega.{arith}
 use lib.Dec.{eqb, leb, ltb}
 use lib.ListN.{length, take, drop, getD, length-append, length-drop}
-use lib.Seq.{take-at, drop-at, getD-take, getD-drop, take-all}
+use lib.Seq.{take-at, drop-at, take-all}
 use borrow.Author.Tests.{eqb-true, eq-eqb, leb-true, le-leb, ltb-true, lt-ltb}
 use Rattle.fields.specs.Facts.{All, Bytes}
-use Rattle.fields.specs.Number.{fromBe, toBe}
 use Rattle.fields.specs.Order.{before}
 use Rattle.fields.proofs.NumberLaws.{bytes-append, bytes-take, fromBe-split, fromBe-one}
 use Rattle.fields.proofs.OrderLaws.{and-left, and-right}
 use Rattle.fields.proofs.EntriesLaws.{Wide}
 use Rattle.fields.proofs.RisingLaws.{KeyBefore, Ascending}
-use Rattle.fields.proofs.PartLaws.{Cell, written, extent, Fit, Holds, length-written, written-bytes, written-holds, holds-written, part-joined, part-below, length-part}
+use Rattle.fields.proofs.PartLaws.{Cell, written, Fit, Holds, length-written, written-bytes, written-holds, holds-written, part-joined, part-below, length-part}
 use Rattle.model.specs.Protocol.{Id, isTransaction}
 use Rattle.model.specs.Settings.{Settings, mostRequests}
 use Rattle.model.specs.Delivery.{Request, idsOf}
-use Rattle.model.specs.Image.{idSize, recordSize, field, requestBytes, requestOf, requestFits, allFit, typesNarrow}
+use Rattle.model.specs.Image.{idSize, recordSize, requestBytes, requestOf, requestFits, allFit, typesNarrow}
 use Rattle.model.proofs.Well.{WellId, WellRequest, RisingIds}
 
 -- what follows the id
@@ -154,11 +153,12 @@ types-narrow settings lastClock (r ∷ rs) v w =
 pub records-well : (settings : Settings) (lastClock : ℕ) (es : List (List ℕ)) → Wide recordSize es → All Bytes es → typesNarrow es ≡ true
     → allFit settings lastClock (map requestOf es) ≡ true → All (WellRequest settings lastClock) (map requestOf es)
 records-well settings lastClock [] l f t h = tt
-records-well settings lastClock (e ∷ es) l f t h =
-    (record-well settings lastClock e (l .0) (f .0) (and-left (eqb (getD e 40 0) 0) (typesNarrow es) t)
-     (and-left (requestFits settings lastClock (requestOf e)) (allFit settings lastClock (map requestOf es)) h),
-     records-well settings lastClock es (l .1) (f .1) (and-right (eqb (getD e 40 0) 0) (typesNarrow es) t)
-     (and-right (requestFits settings lastClock (requestOf e)) (allFit settings lastClock (map requestOf es)) h))
+records-well settings lastClock (e ∷ es) l f t h = (
+  record-well settings lastClock e (l .0) (f .0) (and-left (eqb (getD e 40 0) 0) (typesNarrow es) t)
+      (and-left (requestFits settings lastClock (requestOf e)) (allFit settings lastClock (map requestOf es)) h),
+  records-well settings lastClock es (l .1) (f .1) (and-right (eqb (getD e 40 0) 0) (typesNarrow es) t)
+      (and-right (requestFits settings lastClock (requestOf e)) (allFit settings lastClock (map requestOf es)) h),
+)
 
 -- ---- ids rise in the requests and in their records alike
 

@@ -1,13 +1,13 @@
 -- A state and the image of it: encoding and decoding undo one another, and exactly the well-formed images encode a state.
-use Prim.Native.Nat.{ℕ, zero, suc, _+_, _-_, _*_, _^_, _≤_, _<_}
-use mathlib.Core.Path.{_≡_, refl, sym, ap, _∙_, subst}
+use Prim.Native.Nat.{ℕ, _+_, _-_, _*_, _^_, _≤_, _<_}
+use mathlib.Core.Path.{_≡_, refl, sym, _∙_}
 use mathlib.Core.Bool.{Bool, true, false}
-use mathlib.Core.List.{List, [], _∷_, _++_, map}
+use mathlib.Core.List.{List, [], _∷_, map}
 use native.Mathlib.Nat.{lt-irrefl}
 use native.Mathlib.Omega.{arith}
-use lib.Dec.{eqb, leb}
+use lib.Dec.{eqb}
 use lib.ListN.{length, take, drop, getD, length-map, length-drop}
-use borrow.Author.Tests.{eqb-true, eq-eqb, leb-true, le-leb, ne-eqb}
+use borrow.Author.Tests.{ne-eqb}
 use Rattle.fields.specs.Facts.{All, Bytes}
 use Rattle.fields.specs.Number.{fromBe, toBe}
 use Rattle.fields.specs.Zero.{zeros, allZero}
@@ -18,15 +18,14 @@ use Rattle.fields.proofs.EntriesLaws.{Wide, length-entries, entries-wide, entri
 use Rattle.fields.proofs.RisingLaws.{rising-ascending, ascending-rising}
 use Rattle.fields.proofs.PartLaws.{part-below, zero-part, numbers-read, numbers-back, numbers-below}
 use Rattle.model.specs.Protocol.{Id, trackedLimit, stalledLimit}
-use Rattle.model.specs.Settings.{Settings}
-use Rattle.model.specs.Delivery.{Request, idsOf}
-use Rattle.model.specs.State.{Mode, syncing, modeNumber, isMode, hasSyncPeer, State}
-use Rattle.model.specs.Image.{areaSize, idSize, peerSize, recordSize, stalledAt, regionAt, modeOf, bit, field, requestBytes, requestOf, modeByte, lastClockOf, stalledCount, pendingCount, evictedCount, settingsOf, stalledOf, pendingOf, evictedOf, decode, encode, noneTwice, allFit, typesNarrow, wellFormed}
-use Rattle.model.proofs.Well.{Well, WellId, WellRequest, WellSettings, WellSync, RisingIds}
+use Rattle.model.specs.Delivery.{idsOf}
+use Rattle.model.specs.State.{syncing, modeNumber, isMode, State}
+use Rattle.model.specs.Image.{areaSize, idSize, peerSize, recordSize, stalledAt, regionAt, bit, requestBytes, requestOf, lastClockOf, stalledCount, pendingCount, evictedCount, settingsOf, stalledOf, pendingOf, evictedOf, decode, encode, wellFormed}
+use Rattle.model.proofs.Well.{Well, WellId, WellRequest, WellSettings, RisingIds}
 use Rattle.model.proofs.RecordLaws.{Recorded, requests-of-records, records-of-requests, all-fit, types-narrow, records-well, records-rise, ids-rise}
-use Rattle.model.proofs.HeaderLaws.{mark, Header, mode-narrow, mode-of-number, number-of-mode, bit-of, of-bit}
+use Rattle.model.proofs.HeaderLaws.{Header, mode-narrow, mode-of-number, number-of-mode, bit-of, of-bit}
 use Rattle.model.proofs.FormedLaws.{Formed, formed, well-formed, modeIn, recordsIn, stalledFreeIn, regionFreeIn}
-use Rattle.model.proofs.ImageLaws.{headerFree, stalledEnd, stalledFree, pendingEnd, regionFree, evictedAt, Laid, Sized, well-sized, well-requests, laid-encode, well-laid, encode-length, encode-bytes}
+use Rattle.model.proofs.ImageLaws.{headerFree, stalledEnd, stalledFree, pendingEnd, regionFree, Laid, well-sized, well-requests, laid-encode, well-laid, encode-length}
 
 -- ---- what an area that holds a state decodes to
 
