@@ -18,11 +18,11 @@ use Rattle.fields.proofs.AllLaws.{all-map, all-at, all-weaker, either, entries-
 use Rattle.fields.proofs.OrderLaws.{and-left, and-right}
 use Rattle.model.specs.Sections.{absent, present}
 use Rattle.model.specs.Image.{idSize, peerSize}
-use Rattle.model.specs.Lists.{listFits, idsIn, peersIn, entriesOf, idsFit, continuationFits, pairsFit, viewFits, rowSize, placeSize, sectionOf, headerOf, usedPlaces, rowFits, rowsFit, firstHeight, rowCount, viewOf}
+use Rattle.model.specs.Lists.{listFits, idsIn, peersIn, pairSize, pairOf, pairsIn, entriesOf, idsFit, continuationFits, pairsFit, viewFits, rowSize, placeSize, sectionOf, headerOf, usedPlaces, rowFits, rowsFit, firstHeight, rowCount, viewOf}
 use Rattle.model.specs.Calls.{Call, stepOf, argsOf, listsFit}
 use Rattle.model.specs.Demand3.{InWidth}
 use Rattle.model.proofs.Well.{WellId}
-use Rattle.model.proofs.Widths.{IfSome, WellPeer, WellHeight, WellSection, WellHeader, WellView, WellStep, WellArgs}
+use Rattle.model.proofs.Widths.{IfSome, WellPeer, WellHeight, WellPair, WellSection, WellHeader, WellView, WellStep, WellArgs}
 
 -- ---- lists
 
@@ -46,6 +46,18 @@ unfolding peersIn
 peers-well bytes b =
     let h : length bytes / peerSize * peerSize ≤ length bytes = omega arith in
     all-map (λ (e : List ℕ). (length e ≡ peerSize) × Bytes e) WellPeer fromBe peer-well (entriesOf peerSize bytes) (entries-all peerSize (length bytes / peerSize) bytes h b)
+
+pair-well : (e : List ℕ) → (length e ≡ pairSize) × Bytes e → WellPair (pairOf e)
+unfolding pairOf
+pair-well e p =
+    let l : length e ≡ pairSize = p .0 in
+    record { typeId = p .1 0; id = record { long = simp length-drop (omega arith); bytes = bytes-drop 1 e (p .1) } }
+
+pub pairs-well : (bytes : List ℕ) → Bytes bytes → All WellPair (pairsIn bytes)
+unfolding pairsIn
+pairs-well bytes b =
+    let h : length bytes / pairSize * pairSize ≤ length bytes = omega arith in
+    all-map (λ (e : List ℕ). (length e ≡ pairSize) × Bytes e) WellPair pairOf pair-well (entriesOf pairSize bytes) (entries-all pairSize (length bytes / pairSize) bytes h b)
 
 -- ---- the view
 
@@ -161,6 +173,7 @@ module _ (call : Call) (width : InWidth call) (fits : listsFit call ≡ true) wh
         clock = width .clock;
         chainHeight = width .height;
         peers = peers-well (call .peers) (width .peers);
+        stored = pairs-well (call .stored) (width .stored);
         view = view-well (call .view) (width .view) view;
         step = step-of-well;
       }

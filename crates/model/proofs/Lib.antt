@@ -20,6 +20,7 @@ pub mod CommandLaws
 pub mod SendingLaws
 pub mod BoundLaws
 pub mod EntryLaws
+pub mod QuestionLaws
 pub mod IdLaws
 pub mod RequestedLaws
 pub mod FateLaws

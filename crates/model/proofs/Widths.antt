@@ -6,7 +6,7 @@ use mathlib.Core.Option.{Option, none, some}
 use lib.ListN.{length}
 use Rattle.fields.specs.Facts.{All}
 use Rattle.model.specs.Protocol.{Id, headerType}
-use Rattle.model.specs.Requests.{Sending, Act, Command}
+use Rattle.model.specs.Requests.{Pair, Sending, Act, Command}
 use Rattle.model.specs.Requests as requests
 use Rattle.model.specs.Sections.{Section, Header, absent, present, View, Item, Batch}
 use Rattle.model.specs.Steps
@@ -58,6 +58,10 @@ pub record WellCommand (c : Command) : Type 0 where
   pub count : length (c .ids) < 2 ^ 32
   pub ids : All WellId (c .ids)
 
+pub record WellPair (p : Pair) : Type 0 where
+  pub typeId : p .typeId < 2 ^ 8
+  pub id : WellId (p .id)
+
 pub record WellSection (s : Section) : Type 0 where
   pub typeId : s .typeId < 2 ^ 8
   pub id : WellId (s .id)
@@ -91,5 +95,6 @@ pub record WellArgs (a : Args) : Type 0 where
   pub clock : a .clock < 2 ^ 64
   pub chainHeight : WellHeight (a .chainHeight)
   pub peers : All WellPeer (a .peers)
+  pub stored : All WellPair (a .stored)
   pub view : WellView (a .view)
   pub step : WellStep (a .step)
