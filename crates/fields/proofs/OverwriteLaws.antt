@@ -19,6 +19,11 @@ pub overwritten-all : (new s : List ℕ) → length new ≡ length s → overwri
 unfolding overwritten
 overwritten-all new s e = rw (drop-of-length-le s {i = 0 + length new} (omega arith), append-nil)
 
+-- what is written at the front is read back, however much there is behind it
+pub front-read-back : (new s : List ℕ) → take (length new) (overwritten 0 new s) ≡ new
+unfolding overwritten
+front-read-back new s = take-at new (drop (0 + length new) s) (length new) refl
+
 pub overwritten-one : (at b : ℕ) (s : List ℕ) → at < length s → set s at b ≡ overwritten at (b ∷ []) s
 unfolding overwritten
 overwritten-one at b s h = rw (set-split s at b h, add-one)

@@ -1,16 +1,16 @@
 -- Demand 3, proved: core and book agree after any list of raw calls, and every stay is fair.
-use Prim.Native.Nat.{ℕ, _+_}
+use Prim.Native.Nat.{ℕ}
 use mathlib.Core.Path.{_≡_, refl, ap, _∙_}
 use mathlib.Core.Bool.{Bool, true, false}
 use mathlib.Core.List.{List, [], _∷_}
 use native.Mathlib.Omega.{arith}
-use lib.ListN.{length, take, drop, length-map}
-use lib.Seq.{take-at}
+use lib.ListN.{length, take, length-map}
 use lib.Dec.{eqb}
 use borrow.Author.Tests.{eqb-true, eq-eqb}
 use Rattle.fields.specs.Facts.{All}
 use Rattle.fields.specs.Overwrite.{overwritten}
 use Rattle.fields.proofs.AllLaws.{all-weaker}
+use Rattle.fields.proofs.OverwriteLaws.{front-read-back}
 use Rattle.model.specs.Delivery.{idsOf}
 use Rattle.model.specs.State.{State, opened}
 use Rattle.model.specs.Events.{outcomeNumber}
@@ -41,10 +41,6 @@ record InService (core : Core) : Type 0 where
   settings : st .settings ≡ core .path .opening .settings
   agreement : Agreement st (bookOf (core .path))
   report : lastReport (core .path .finished) ≡ length (bookOf (core .path) .open')
-
-written-back : (bytes area : List ℕ) → take (length bytes) (overwritten 0 bytes area) ≡ bytes
-unfolding overwritten
-written-back bytes area = take-at bytes (drop (0 + length bytes) area) (length bytes) refl
 
 -- what a finished step adds to the path
 finishedAs : State → Lent → Finished
@@ -96,7 +92,7 @@ unfolding finishedAs bookOf bookAlong stepAnswer after
 served-in-service core l h w e =
     let a : Args = argsOf (l .call) in
     let bytes : List ℕ = take (length (stepBytes (h .st) a)) (overwritten 0 (stepBytes (h .st) a) (l .commands)) in
-    let reads : commandsIn bytes ≡ commands (h .st) a = rw (written-back (stepBytes (h .st) a) (l .commands)) (step-read-back (h .st) (l .call) (h .well) w e) in
+    let reads : commandsIn bytes ≡ commands (h .st) a = rw (front-read-back (stepBytes (h .st) a) (l .commands)) (step-read-back (h .st) (l .call) (h .well) w e) in
     let agrees : Agreement (after (h .st) a) (bookAfter (bookOf (core .path)) (l .call) (outcomeNumber (plan (h .st) a .outcome)) bytes) =
     step-agrees (h .st) (l .call) (bookOf (core .path)) (h .agreement) (passed (h .st) (l .call) e) (acts-well (h .st) (l .call) (h .well) w e) bytes reads
     in

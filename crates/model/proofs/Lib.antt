@@ -20,6 +20,7 @@ pub mod CommandLaws
 pub mod SendingLaws
 pub mod BoundLaws
 pub mod EntryLaws
+pub mod QuestionLaws
 pub mod IdLaws
 pub mod RequestedLaws
 pub mod FateLaws
@@ -30,4 +31,3 @@ pub mod EnteringLaws
 pub mod AgreementLaws
 pub mod BalanceLaws
 pub mod Demand3
-pub mod QuestionLaws
