@@ -2,17 +2,18 @@
 
 use crate::delivery::{DeliveryControl, DeliveryData};
 use crate::parked::Parked;
+use crate::quiet;
 use crate::scene::{self, Scene, Stop};
 use crate::standins::{Chain, Store, Transport, Validator};
 use crate::state::{probe, HeaderSync, SyncConfig};
-use crate::{Observed, Verdict};
+use crate::{Observed, Reason, Verdict};
 use enr_p2p::protocol::messages::ProtocolMessage;
 use enr_p2p::protocol::peer::ProtocolEvent;
 use enr_p2p::types::PeerId;
 use keeper_values::numbers::{kinds, limits, outcomes, types};
 use keeper_values::{Call, Id, Mode, Settings, State};
 use std::collections::BTreeMap;
-use std::panic::{catch_unwind, AssertUnwindSafe};
+use std::panic::AssertUnwindSafe;
 use std::task::Poll;
 use tokio::sync::mpsc::{unbounded_channel, Sender};
 use tokio::time::Duration;
@@ -161,27 +162,30 @@ impl Oracle {
     /// Runs one step. A refused one leaves the machine as it was; after a step out of the domain it has to be put anew.
     pub fn step(&mut self, call: &Call) -> Verdict {
         if call.kind == kinds::END_OF_STREAM && self.stop == Some(Stop::Pick) {
-            return Verdict::OutOfDomain("end of stream in seeking without a fruitless pick");
+            return Verdict::OutOfDomain(Reason::EndWithoutPick);
         }
         let before = self.state.clone();
         self.lay_out(call);
         let counts = self.check_counts(call.kind);
-        let polled = catch_unwind(AssertUnwindSafe(|| self.parked.poll()));
+        let polled = quiet::quietly(AssertUnwindSafe(|| self.parked.poll()));
         let Ok(polled) = polled else {
-            return Verdict::OutOfDomain("the Rust panics");
+            return Verdict::OutOfDomain(Reason::Panic);
         };
         let scene = scene::with(std::mem::take);
-        if scene.surprise.is_some() || tokio::driver::armed().is_some() || scene.event.is_some() {
-            return Verdict::OutOfDomain("the driver lost the Rust");
+        if let Some(surprise) = scene.surprise {
+            return Verdict::Lost(surprise);
+        }
+        if tokio::driver::armed().is_some() || scene.event.is_some() {
+            return Verdict::Lost("the wake was not taken");
         }
         self.stop = scene.stop;
-        if !self.settle(call, &before, polled) {
-            return Verdict::OutOfDomain("the driver lost the Rust");
+        if let Err(surprise) = self.settle(call, &before, polled) {
+            return Verdict::Lost(surprise);
         }
         if let Some(number) = self.refusal(&scene) {
             match Self::put(&before) {
                 Some(again) => *self = again,
-                None => return Verdict::OutOfDomain("no such parking place"),
+                None => return Verdict::OutOfDomain(Reason::NoSuchPlace),
             }
             return Verdict::Refused(number);
         }
@@ -295,8 +299,13 @@ impl Oracle {
         parked.read(|machine| probe::read(machine, state));
     }
 
-    /// Reads the machine off; false if it stands where the driver did not expect it.
-    fn settle(&mut self, call: &Call, before: &State, polled: Poll<()>) -> bool {
+    /// Reads the machine off, if it stands where the driver expects it.
+    fn settle(
+        &mut self,
+        call: &Call,
+        before: &State,
+        polled: Poll<()>,
+    ) -> Result<(), &'static str> {
         self.read();
         self.state.last_clock = call.clock;
         self.state.entry_mark = self.stop == Some(Stop::EntrySend);
@@ -308,9 +317,7 @@ impl Oracle {
             (_, None, Some(SYNCED_SECTIONS)) => Some(Mode::Synced),
             _ => None,
         };
-        let Some(mode) = place else {
-            return false;
-        };
+        let mode = place.ok_or("the Rust waits at an unknown place")?;
         self.state.mode = mode;
         let entered = tracing::noted("starting header sync")
             || tracing::noted("peer is ahead, resuming sync");
@@ -318,13 +325,13 @@ impl Oracle {
         let sends = tracing::noted("second batch SyncInfo");
         let syncing_progress = call.kind == kinds::PROGRESS && before.mode == Mode::Syncing;
         if sends != (syncing_progress && !before.progress_mark) {
-            return false;
+            return Err("the progress mark is not what the driver holds it for");
         }
         self.state.progress_mark = mode == Mode::Syncing
             && !entered
             && call.kind != kinds::SCHEDULED_TICK
             && (before.progress_mark || syncing_progress);
-        true
+        Ok(())
     }
 
     fn refusal(&self, scene: &Scene) -> Option<u32> {

@@ -5,7 +5,7 @@
 
 mod verdict;
 
-pub use verdict::{Observed, Sent, Verdict};
+pub use verdict::{Observed, Reason, Sent, Verdict};
 
 #[cfg(oracle)]
 include!(concat!(env!("OUT_DIR"), "/modules.rs"));
@@ -14,6 +14,8 @@ include!(concat!(env!("OUT_DIR"), "/modules.rs"));
 mod driver;
 #[cfg(oracle)]
 mod parked;
+#[cfg(oracle)]
+mod quiet;
 #[cfg(oracle)]
 mod scene;
 #[cfg(oracle)]

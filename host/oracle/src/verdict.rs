@@ -27,5 +27,18 @@ pub enum Verdict {
     /// 9, 10 or 11, from what the Rust read and from what it would hold.
     Refused(u32),
     /// The Rust can't judge this step; the reason.
-    OutOfDomain(&'static str),
+    OutOfDomain(Reason),
+    /// The Rust did something that the driver does not know: an error in the oracle.
+    Lost(&'static str),
+}
+
+/// Why a step is outside the oracle's domain (docs/DIFFERENCES.md).
+#[derive(Debug, Clone, Copy, PartialEq, Eq)]
+pub enum Reason {
+    /// D-1: the Rust sees the end of the stream in seeking only after a fruitless pick.
+    EndWithoutPick,
+    /// A sum overflows.
+    Panic,
+    /// Both marks at once: the Rust has no such place.
+    NoSuchPlace,
 }
