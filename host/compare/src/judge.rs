@@ -123,7 +123,9 @@ impl<'k> Trial<'k> {
             Verdict::Refused(number) => same("refusal", &Answer::refused(number), &answer)?,
             Verdict::Lost(surprise) => return Err(format!("the oracle is lost: {surprise}")),
             Verdict::OutOfDomain(reason) => {
-                if reason == Reason::Panic && !overflows(&before, &self.state, call, answer.number != 0) {
+                if reason == Reason::Panic
+                    && !overflows(&before, &self.state, call, answer.number != 0)
+                {
                     return Err("the Rust panics, and no sum overflows".to_string());
                 }
                 report.out_of_domain(reason);

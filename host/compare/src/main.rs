@@ -23,9 +23,9 @@ fn random_stream(seed: u64, report: &mut Report) -> Result<(), String> {
             break;
         }
         let call = random.next(&trial.state);
-        trial
-            .step(&call, report)
-            .map_err(|difference| format!("seed {seed}, step {step}, kind {}: {difference}", call.kind))?;
+        trial.step(&call, report).map_err(|difference| {
+            format!("seed {seed}, step {step}, kind {}: {difference}", call.kind)
+        })?;
         if step % 16 == 7 {
             trial.question(report)?;
         }
@@ -35,8 +35,14 @@ fn random_stream(seed: u64, report: &mut Report) -> Result<(), String> {
 
 fn main() {
     let mut report = Report::default();
-    let first: u64 = std::env::args().nth(1).and_then(|a| a.parse().ok()).unwrap_or(1);
-    let count: u64 = std::env::args().nth(2).and_then(|a| a.parse().ok()).unwrap_or(2_000);
+    let first: u64 = std::env::args()
+        .nth(1)
+        .and_then(|a| a.parse().ok())
+        .unwrap_or(1);
+    let count: u64 = std::env::args()
+        .nth(2)
+        .and_then(|a| a.parse().ok())
+        .unwrap_or(2_000);
     for seed in first..first + count {
         if let Err(e) = random_stream(seed, &mut report) {
             report.differences += 1;

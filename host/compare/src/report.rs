@@ -61,7 +61,10 @@ impl Display for Report {
         let [end, panic, place] = self.out_of_domain;
         writeln!(out, "\n| outside the oracle's domain | steps |")?;
         writeln!(out, "|---|---|")?;
-        writeln!(out, "| end of stream in seeking without a fruitless pick (D-1) | {end} |")?;
+        writeln!(
+            out,
+            "| end of stream in seeking without a fruitless pick (D-1) | {end} |"
+        )?;
         writeln!(out, "| a sum of the Rust overflows | {panic} |")?;
         writeln!(out, "| no such place in the Rust | {place} |")?;
         writeln!(

@@ -188,7 +188,11 @@ impl SyncChain for Chain {
         1024
     }
 
-    async fn compute_expected_parameters(&self, _: u32, _: &[u8]) -> Result<Parameters, ChainError> {
+    async fn compute_expected_parameters(
+        &self,
+        _: u32,
+        _: &[u8],
+    ) -> Result<Parameters, ChainError> {
         Err(ChainError)
     }
 

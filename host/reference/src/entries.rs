@@ -79,7 +79,10 @@ pub fn arguments_fit(rules: &Rules, state: &State, call: &Arguments) -> Result<(
         (5, (rules.flags_fit_call)(call)),
         (5, (rules.failure_fits)(state, call.kind)),
         (6, (rules.ids_fit)(&call.ids)),
-        (6, call.kind != kinds::NEEDED || (rules.needed_fits)(&call.ids)),
+        (
+            6,
+            call.kind != kinds::NEEDED || (rules.needed_fits)(&call.ids),
+        ),
         (6, (rules.continuation_fits)(&call.continuation)),
         (6, (rules.stored_fits)(&call.stored)),
         (7, (rules.peers_fit)(&call.peers)),
@@ -103,7 +106,11 @@ pub fn result_fits(state: &State) -> Result<(), Refusal> {
 }
 
 /// The step on values: what it leaves, writes and answers.
-fn finish(rules: &Rules, state: State, call: &Arguments) -> Result<(State, Vec<u8>, Answer), Refusal> {
+fn finish(
+    rules: &Rules,
+    state: State,
+    call: &Arguments,
+) -> Result<(State, Vec<u8>, Answer), Refusal> {
     let mut run = Run {
         rules,
         inputs: Inputs::read(call),
@@ -151,11 +158,16 @@ pub fn pairs(state: &State, flag: u8) -> BTreeSet<(u8, Id)> {
         return BTreeSet::new();
     };
     if flag == 0 {
-        return state.evicted.iter().map(|id| (types::HEADER, *id)).collect();
+        return state
+            .evicted
+            .iter()
+            .map(|id| (types::HEADER, *id))
+            .collect();
     }
-    let owed = state.pending.iter().filter(|(_, request)| {
-        request.peer == sync_peer && request.type_id != types::TRANSACTION
-    });
+    let owed = state
+        .pending
+        .iter()
+        .filter(|(_, request)| request.peer == sync_peer && request.type_id != types::TRANSACTION);
     owed.map(|(id, request)| (request.type_id, *id)).collect()
 }
 

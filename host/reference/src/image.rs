@@ -132,7 +132,8 @@ pub fn checks_fit(area: &[u8]) -> bool {
 
 /// Zero: the sync peer where there is none, what is kept for later, places beyond a count, types' high bytes.
 pub fn unused_zero(area: &[u8]) -> bool {
-    let sync_peer = Mode::from_number(area[5]).is_some_and(Mode::has_sync_peer) || zero(&area[48..56]);
+    let sync_peer =
+        Mode::from_number(area[5]).is_some_and(Mode::has_sync_peer) || zero(&area[48..56]);
     let region = REGION + RECORD * pending_count(area)..STATE_BYTES - ID * evicted_count(area);
     sync_peer
         && zero(&area[74..STALLED])

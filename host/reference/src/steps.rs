@@ -44,16 +44,18 @@ pub fn step(run: &mut Run) -> Outcome {
     }
 }
 
-fn sync_peer(run: &Run) -> u64 {
+/// The sync peer; the steps that ask have one.
+pub fn sync_peer(run: &Run) -> u64 {
     run.state.sync_peer.unwrap_or(0)
 }
 
-fn is_sync_peer(run: &Run) -> bool {
+/// Whether the peer of this call is the sync peer.
+pub fn is_sync_peer(run: &Run) -> bool {
     run.state.sync_peer == Some(run.inputs.peer)
 }
 
 /// Leaves syncing or synced: no sync peer, no marks.
-fn seek(run: &mut Run) {
+pub fn seek(run: &mut Run) {
     run.state.mode = Mode::Seeking;
     run.state.sync_peer = None;
     run.state.progress_mark = false;

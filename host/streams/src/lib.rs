@@ -1,6 +1,7 @@
 //! Streams of calls: random ones from a seed, directed ones at each limit, short ones exhaustively, damaged copies, and
 //! the text form in which the repository keeps a fixed list.
 
+pub mod build;
 pub mod damage;
 pub mod directed;
 pub mod exhaustive;
