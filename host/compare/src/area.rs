@@ -5,7 +5,7 @@ use keeper_streams::Opening;
 use keeper_values::{Answer, Arguments, Keeper, State, COMMAND_BYTES, STATE_BYTES};
 
 /// Lies in the command area before each call, so that a byte written too much shows.
-const FILL: u8 = 0xa5;
+pub const FILL: u8 = 0xa5;
 
 pub struct Areas {
     pub state: Vec<u8>,

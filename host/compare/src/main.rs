@@ -1,56 +1,39 @@
-//! Commands that hold oracle, reference and variants against each other.
+//! Commands that hold oracle, reference and variants against each other; without one they are listed.
 
-mod area;
-mod judge;
-mod report;
+mod commands;
 
-use judge::Trial;
-use keeper_reference::Reference;
-use keeper_streams::random::Random;
-use report::Report;
+use std::process::ExitCode;
 
-fn random_stream(seed: u64, report: &mut Report) -> Result<(), String> {
-    let reference = Reference::plain();
-    let mut random = Random::new(seed);
-    let Some(mut trial) = Trial::new(&reference, random.opening())? else {
-        return Err("no oracle".to_string());
-    };
-    report.streams += 1;
-    let mut after_end = 0;
-    for step in 0..random.length {
-        after_end += u32::from(trial.state.mode == keeper_values::Mode::Ended);
-        if after_end > 3 {
-            break;
-        }
-        let call = random.next(&trial.state);
-        trial.step(&call, report).map_err(|difference| {
-            format!("seed {seed}, step {step}, kind {}: {difference}", call.kind)
-        })?;
-        if step % 16 == 7 {
-            trial.question(report)?;
-        }
-    }
-    Ok(())
+const USAGE: &str = "\
+usage: keeper_compare COMMAND
+  quick [SEED]         oracle against reference, fixed list, hostile bytes, variants; under a minute
+  run STEPS [SEED]     oracle against reference, at least so many steps; prints the report
+  variants             the table of faulty variants and what tells them apart
+  hostile STEPS [SEED] damaged calls on the reference
+  make-list            the fixed list, on standard output
+  wrap                 sends counted at 2^32 - 1; for a build without overflow checks";
+
+fn number(word: Option<&String>) -> Option<u64> {
+    word.and_then(|word| word.replace('_', "").parse().ok())
 }
 
-fn main() {
-    let mut report = Report::default();
-    let first: u64 = std::env::args()
-        .nth(1)
-        .and_then(|a| a.parse().ok())
-        .unwrap_or(1);
-    let count: u64 = std::env::args()
-        .nth(2)
-        .and_then(|a| a.parse().ok())
-        .unwrap_or(2_000);
-    for seed in first..first + count {
-        if let Err(e) = random_stream(seed, &mut report) {
-            report.differences += 1;
-            println!("{e}");
-            if report.differences > 4 {
-                break;
-            }
+fn main() -> ExitCode {
+    let words: Vec<String> = std::env::args().skip(1).collect();
+    let command = words.first().map(String::as_str).unwrap_or_default();
+    let done = match (command, number(words.get(1)), number(words.get(2))) {
+        ("quick", seed, _) => commands::quick(seed),
+        ("run", Some(steps), seed) => commands::run(steps, seed),
+        ("variants", _, _) => commands::variants(),
+        ("hostile", Some(steps), seed) => commands::hostile(steps, seed),
+        ("make-list", _, _) => commands::make_list(),
+        ("wrap", _, _) => commands::wrap(),
+        _ => Err(USAGE.to_string()),
+    };
+    match done {
+        Ok(()) => ExitCode::SUCCESS,
+        Err(fault) => {
+            eprintln!("{fault}");
+            ExitCode::FAILURE
         }
     }
-    println!("{report}");
 }

@@ -197,8 +197,8 @@ fn view(rng: &mut Rng, view: &mut Vec<u8>) {
             view.pop();
         }
         // The last row at height 2^32 - 1, or one past it.
-        3 => {
-            let first = u32::MAX - rows as u32 + rng.below(3) as u32;
+        3 if view.len() >= 4 => {
+            let first = (u32::MAX - rows as u32).saturating_add(rng.below(3) as u32);
             view[..4].copy_from_slice(&first.to_be_bytes());
         }
         _ if rows == 0 => view.extend([9; 103]),

@@ -5,6 +5,7 @@ pub mod build;
 pub mod damage;
 pub mod directed;
 pub mod exhaustive;
+pub mod hostile;
 pub mod random;
 pub mod rng;
 pub mod text;
