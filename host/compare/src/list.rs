@@ -8,7 +8,7 @@ use keeper_reference::Reference;
 use keeper_streams::text::Line;
 use keeper_streams::{directed, hostile};
 use keeper_variants::Variant;
-use std::collections::BTreeSet;
+use std::collections::{BTreeMap, BTreeSet};
 
 /// Reads a list; the number of a line that is none is the error.
 pub fn read(text: &str) -> Result<Vec<Line>, usize> {
@@ -23,6 +23,15 @@ pub fn write(lines: &[Line]) -> String {
     lines.iter().map(|line| line.write() + "\n").collect()
 }
 
+/// Streams longer than this are taken only for what no shorter one tells.
+const SHORT: usize = 12_000;
+
+/// Streams longer than this are not taken.
+const LONGEST: usize = 140_000;
+
+/// Keys below this are variants.
+const VARIANTS: u64 = 1_000;
+
 struct Candidate {
     lines: Vec<Line>,
     size: usize,
@@ -30,7 +39,7 @@ struct Candidate {
     keys: BTreeSet<u64>,
 }
 
-/// Kind, mode, number and outcome of each step, so that the list shows all there are.
+/// Kind, mode and outcome of each finished step, number and mode of each refused one, so that the list shows all.
 fn shown(lines: &[Line]) -> BTreeSet<u64> {
     let mut keys = BTreeSet::new();
     let mut mode = 0;
@@ -39,7 +48,11 @@ fn shown(lines: &[Line]) -> BTreeSet<u64> {
             [Line::Step(call, _), Line::Answer(numbers)] => {
                 let kind = u64::from(call.kind.min(17));
                 let (number, outcome) = (u64::from(numbers[0]), u64::from(numbers[1]));
-                keys.insert(1_000 + kind + 100 * mode + 1_000 * outcome + 10_000 * number);
+                keys.insert(if number == 0 {
+                    VARIANTS + kind + 100 * mode + 1_000 * outcome
+                } else {
+                    10_000 + 100 * number + mode
+                });
             }
             [_, Line::State(state) | Line::Put(state)] | [Line::Put(state), _] => {
                 mode = u64::from(state.mode.number());
@@ -87,27 +100,35 @@ fn candidates(variants: &[Variant], seeds: u64) -> Result<Vec<Candidate>, String
     Ok(all)
 }
 
-/// Makes the list: the stream that tells most for its size, then the next, until all is told twice or can't be.
+/// How often each key has been shown.
+type Seen = BTreeMap<u64, u32>;
+
+/// What a candidate adds: keys not yet shown and, if it is short, variants told once so far.
+fn worth(seen: &Seen, candidate: &Candidate) -> u64 {
+    let short = candidate.size <= SHORT;
+    let new = |key: &&u64| match seen.get(key) {
+        None => **key < VARIANTS || short,
+        Some(1) => **key < VARIANTS && short,
+        Some(_) => false,
+    };
+    candidate.keys.iter().filter(new).count() as u64
+}
+
+/// Makes the list: the stream that adds most for its size, then the next, until none adds anything.
 pub fn make(variants: &[Variant], seeds: u64) -> Result<Vec<Line>, String> {
     let candidates = candidates(variants, seeds)?;
     let mut left: Vec<&Candidate> = candidates.iter().collect();
-    let mut seen = std::collections::BTreeMap::<u64, u32>::new();
+    left.retain(|candidate| candidate.size <= LONGEST);
+    let mut seen = Seen::new();
     let mut lines = Vec::new();
-    let worth = |seen: &std::collections::BTreeMap<u64, u32>, candidate: &Candidate| -> u64 {
-        let wanted = |key: &u64| if *key < 1_000 { 2 } else { 1 };
-        let new = |key: &&u64| seen.get(key).copied().unwrap_or(0) < wanted(key);
-        candidate.keys.iter().filter(new).count() as u64
-    };
     loop {
-        let rate = |candidate: &&Candidate| {
+        let rate = |candidate: &Candidate| {
             worth(&seen, candidate) * 1_000_000_000 / (candidate.size as u64 + 400)
         };
-        let Some(best) = (0..left.len()).max_by_key(|index| rate(&left[*index])) else {
+        let best = (0..left.len()).max_by_key(|index| rate(left[*index]));
+        let Some(best) = best.filter(|index| worth(&seen, left[*index]) > 0) else {
             break;
         };
-        if worth(&seen, left[best]) == 0 {
-            break;
-        }
         let chosen = left.swap_remove(best);
         for key in &chosen.keys {
             *seen.entry(*key).or_default() += 1;

@@ -31,7 +31,7 @@ impl Random {
             1..=9 => rng.range(80, 200),
             _ => rng.range(5, 50),
         } as usize;
-        let opening = if rng.once_in(5) {
+        let opening = if world.crowded || rng.once_in(5) {
             Opening::Put(Box::new(put_state(&mut rng, &world, clock, height)))
         } else {
             Opening::Open {
@@ -57,7 +57,10 @@ impl Random {
         let rng = &mut self.rng;
         let world = &mut self.world;
         world.drift(rng);
-        let kind = kind(rng, state);
+        let mut kind = kind(rng, state);
+        if world.crowded && state.mode == Mode::Syncing && rng.once_in(2) {
+            kind = kinds::SCHEDULED_TICK;
+        }
         if rng.once_in(4) || world.chain_height < state.downloaded {
             world.chain_height = chain_height(rng, world.solid, state.downloaded);
         }
@@ -280,7 +283,7 @@ fn put_state(rng: &mut Rng, world: &World, clock: u64, height: u32) -> State {
     } else {
         rng.below(5).min(room)
     };
-    let stalled = if world.peers.len() > 256 && rng.once_in(2) {
+    let stalled = if world.crowded {
         rng.range(250, 256) as usize
     } else {
         rng.below(4) as usize

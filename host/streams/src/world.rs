@@ -22,6 +22,8 @@ pub struct World {
     pub agreeing: bool,
     /// All headers present, all sections missing: whole windows are seen.
     pub solid: bool,
+    /// Many peers, nearly all of them stalled.
+    pub crowded: bool,
     pub chain_height: u32,
     /// Changes with each reorg, so that heights get other sections.
     pub branch: u64,
@@ -67,7 +69,8 @@ impl World {
             _ => rng.range(3, 16) as usize,
         };
         let mut peers = vec![0, 1, 7, u64::MAX];
-        let more = if rng.once_in(20) { 300 } else { rng.below(4) };
+        let crowded = rng.once_in(40);
+        let more = if crowded { 300 } else { rng.below(4) };
         peers.extend((0..more).map(|_| rng.next()));
         let settings = Settings {
             timeout: rng.pick(&[0, 1, 5, 10, 10, 100, 10_000, u32::MAX]),
@@ -84,6 +87,7 @@ impl World {
             stored: BTreeSet::new(),
             agreeing: !rng.once_in(4),
             solid,
+            crowded,
             chain_height: start.saturating_add(rng.below(4) as u32),
             branch: rng.next(),
             listed,

@@ -259,6 +259,12 @@ fn runs(scripts: &mut Vec<Script>) {
             );
         }
     }
+    // One id over and over: sent as often, entered once.
+    scripts.push(
+        Build::begun("runs of one id 401 times", CASES, 4)
+            .announce(6, 102, vec![id(1); 401])
+            .done(),
+    );
     // Two targets and two types, each batch of more than one run.
     let mut mixed = pending(1, 401, request(4, 102, 0, 0));
     mixed.extend(pending(500, 401, request(5, 101, 0, 0)));

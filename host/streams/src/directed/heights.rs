@@ -84,6 +84,33 @@ fn windows(scripts: &mut Vec<Script>) {
     }
 }
 
+/// A window of which only the first and the last heights lack a section; where rule 5 runs, it passes height 1 first.
+fn window_edge(scripts: &mut Vec<Script>) {
+    let mut view = View {
+        first: 1,
+        rows: vec![Row::Present(vec![]); 194],
+    };
+    for height in [2, 191, 192, 193, 194] {
+        view.rows[height - 1] = Row::Present(vec![place(102, height as u16, false)]);
+    }
+    for kind in RUNS_RULE_4 {
+        scripts.push(
+            Build::put(
+                &format!("window's edge, kind {kind}"),
+                from(0, mode_of(kind)),
+            )
+            .call(kind, |c| {
+                c.type_id = 101;
+                c.fork = 7;
+                c.height = 300;
+                c.peers = vec![6];
+                c.view = view.clone();
+            })
+            .done(),
+        );
+    }
+}
+
 /// Rule 5 over rows that are passed, and the kinds of row that stop it.
 fn advances(scripts: &mut Vec<Script>) {
     let passed = [
@@ -229,6 +256,7 @@ fn top(scripts: &mut Vec<Script>) {
 pub fn scripts() -> Vec<Script> {
     let mut scripts = Vec::new();
     windows(&mut scripts);
+    window_edge(&mut scripts);
     advances(&mut scripts);
     reorgs(&mut scripts);
     top(&mut scripts);
