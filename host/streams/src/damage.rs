@@ -68,7 +68,7 @@ fn number(bytes: &[u8], at: usize) -> usize {
 
 /// A broken or at least changed field of the image.
 fn poke(rng: &mut Rng, image: &[u8]) -> (usize, Vec<u8>) {
-    let byte = rng.next() as u8;
+    let byte = rng.draw() as u8;
     let pending = number(image, 70);
     let evicted = number(image, 72);
     let record = 2_560 + 54 * rng.index(pending.max(1));
@@ -129,12 +129,12 @@ fn count(rng: &mut Rng, now: usize, edges: &[usize]) -> Vec<u8> {
 
 fn numbers(rng: &mut Rng, call: &mut Arguments) {
     match rng.below(6) {
-        0 => call.kind = rng.next() as u8,
+        0 => call.kind = rng.draw() as u8,
         1 => call.kind = rng.below(18) as u8,
         2 => call.clock = call.clock.saturating_sub(rng.below(1 << 20)),
-        3 => call.gate = rng.next() as u8,
-        4 => call.parsed = rng.next() as u8,
-        _ => call.has_tip = rng.next() as u8,
+        3 => call.gate = rng.draw() as u8,
+        4 => call.parsed = rng.draw() as u8,
+        _ => call.has_tip = rng.draw() as u8,
     }
 }
 
@@ -204,7 +204,7 @@ fn view(rng: &mut Rng, view: &mut Vec<u8>) {
         _ if rows == 0 => view.extend([9; 103]),
         4 => view[row] = rng.pick(&[0, 1, 2, 3, 4, 5, 254, 255]),
         5 => view[row + 34 * rng.range(1, 3) as usize] = rng.below(3) as u8,
-        6 => view[row + 1 + rng.index(102)] = rng.next() as u8,
-        _ => view[row] = rng.next() as u8,
+        6 => view[row + 1 + rng.index(102)] = rng.draw() as u8,
+        _ => view[row] = rng.draw() as u8,
     }
 }

@@ -22,7 +22,7 @@ impl Random {
         let height = match rng.below(12) {
             0 => u32::MAX - rng.below(400) as u32,
             1 => u32::MAX - rng.below(4) as u32,
-            2 => rng.next() as u32,
+            2 => rng.draw() as u32,
             _ => rng.below(6) as u32,
         };
         let world = World::new(&mut rng, height);
@@ -65,13 +65,13 @@ impl Random {
             world.chain_height = chain_height(rng, world.solid, state.downloaded);
         }
         let fork = match rng.below(6) {
-            0 => rng.next() as u32,
+            0 => rng.draw() as u32,
             1 => state.downloaded.saturating_add(1),
             _ => state.downloaded.saturating_sub(rng.below(5) as u32),
         };
         let mut first = state.downloaded.saturating_add(1);
         if kind == kinds::REORG {
-            world.branch = rng.next();
+            world.branch = rng.draw();
             first = first.min(fork.saturating_add(1));
         }
         Call {
@@ -176,7 +176,7 @@ fn clock(rng: &mut Rng, state: &State) -> u64 {
 
 fn tip(rng: &mut Rng, height: u32) -> u32 {
     match rng.below(10) {
-        0 => rng.next() as u32,
+        0 => rng.draw() as u32,
         1 => u32::MAX,
         2 => 0,
         _ => height

@@ -32,7 +32,7 @@ pub struct World {
 }
 
 fn pool(rng: &mut Rng, size: usize) -> Vec<Id> {
-    let base: Id = std::array::from_fn(|_| rng.next() as u8);
+    let base: Id = std::array::from_fn(|_| rng.draw() as u8);
     let style = rng.below(4);
     let mut ids: Vec<Id> = (0..size)
         .map(|index| {
@@ -41,7 +41,7 @@ fn pool(rng: &mut Rng, size: usize) -> Vec<Id> {
             match style {
                 0 => id[0] = bytes[1],
                 1 => id[31] = bytes[1],
-                2 => id = std::array::from_fn(|_| rng.next() as u8),
+                2 => id = std::array::from_fn(|_| rng.draw() as u8),
                 _ => id[15..17].copy_from_slice(&bytes),
             }
             if style < 2 {
@@ -71,7 +71,7 @@ impl World {
         let mut peers = vec![0, 1, 7, u64::MAX];
         let crowded = rng.once_in(40);
         let more = if crowded { 300 } else { rng.below(4) };
-        peers.extend((0..more).map(|_| rng.next()));
+        peers.extend((0..more).map(|_| rng.draw()));
         let settings = Settings {
             timeout: rng.pick(&[0, 1, 5, 10, 10, 100, 10_000, u32::MAX]),
             max_checks: rng.pick(&[0, 1, 2, 2, 3, 3, 5, 100, u32::MAX]),
@@ -89,7 +89,7 @@ impl World {
             solid,
             crowded,
             chain_height: start.saturating_add(rng.below(4) as u32),
-            branch: rng.next(),
+            branch: rng.draw(),
             listed,
         }
     }
@@ -104,7 +104,7 @@ impl World {
 
     pub fn type_id(&self, rng: &mut Rng) -> u8 {
         match rng.below(12) {
-            0 => rng.next() as u8,
+            0 => rng.draw() as u8,
             1 => rng.pick(&[0, 1, 3, 100, 103, 105, 107, 109, 255]),
             _ => rng.pick(&KNOWN),
         }

@@ -1,9 +1,16 @@
 //! Faulty variants of the reference. Each replaces one rule; the streams have to tell each from the plain rules.
 
+mod areas;
+mod calls;
+mod checks;
 mod delivery;
-mod refusals;
-mod steps;
-mod sync;
+mod heights;
+mod losses;
+mod messages;
+mod requests;
+mod results;
+mod sessions;
+mod ticks;
 
 use keeper_reference::{Reference, Rules};
 
@@ -25,11 +32,20 @@ fn variant(place: &'static str, fault: &'static str, rules: Rules) -> Variant {
     }
 }
 
-/// All variants.
+/// All variants, in document 01's order.
 pub fn all() -> Vec<Variant> {
-    let mut all = delivery::variants();
-    all.extend(sync::variants());
-    all.extend(steps::variants());
-    all.extend(refusals::variants());
-    all
+    [
+        delivery::variants(),
+        requests::variants(),
+        heights::variants(),
+        checks::variants(),
+        messages::variants(),
+        sessions::variants(),
+        losses::variants(),
+        ticks::variants(),
+        areas::variants(),
+        calls::variants(),
+        results::variants(),
+    ]
+    .concat()
 }
