@@ -1,7 +1,7 @@
 //! The commands.
 
 use keeper_compare::report::Report;
-use keeper_compare::{cases, hostile as hostiles, list, play, tell};
+use keeper_compare::{cases, differences, hostile as hostiles, list, play, tell};
 use keeper_oracle::SOURCE_FOUND;
 use keeper_reference::Reference;
 use keeper_streams::text::Line;
@@ -66,6 +66,8 @@ pub fn quick(seed: Option<u64>) -> Done {
     let seed = seed.unwrap_or_else(fresh_seed);
     if SOURCE_FOUND {
         oracle_quick(seed).map_err(|fault| format!("oracle, seed {seed}: {fault}"))?;
+        differences::shown(&Reference::plain())?;
+        println!("differences: D-1 and three overflows are as docs/DIFFERENCES.md says");
     } else {
         println!("{NO_SOURCE}");
     }
@@ -76,7 +78,7 @@ pub fn quick(seed: Option<u64>) -> Done {
         "fixed list: {} streams, {calls} calls replayed on the reference",
         list::count(&lines)
     );
-    hostile_steps(20_000, seed)?;
+    hostile_steps(10_000, seed)?;
     let table = tell::table(&keeper_variants::all(), &lines);
     let told = table.iter().filter(|told| told.streams > 0).count();
     println!(

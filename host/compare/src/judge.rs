@@ -119,7 +119,10 @@ impl<'k> Trial<'k> {
             return same("refusal", &Answer::refused(number), &answer);
         }
         match self.oracle.step(call) {
-            Verdict::Finished(observed) => self.finished(call, &answer, &written, &observed)?,
+            Verdict::Finished(observed) => {
+                self.finished(call, &answer, &written, &observed)?;
+                report.agreed(call, &self.state, &observed.sends, answer.outcome);
+            }
             Verdict::Refused(number) => same("refusal", &Answer::refused(number), &answer)?,
             Verdict::Lost(surprise) => return Err(format!("the oracle is lost: {surprise}")),
             Verdict::OutOfDomain(reason) => {

@@ -3,6 +3,7 @@
 
 pub mod area;
 pub mod cases;
+pub mod differences;
 pub mod hostile;
 pub mod judge;
 pub mod list;

@@ -1,17 +1,32 @@
 //! What was run: steps by kind and mode, refusals by number, differences.
 
-use keeper_oracle::Reason;
+use keeper_oracle::{Reason, Sent};
 use keeper_values::numbers::kinds;
-use keeper_values::Mode;
+use keeper_values::{Call, Mode, Row, State};
 use std::fmt::{self, Display, Formatter};
 
 const KINDS: usize = kinds::LAST as usize + 2;
+
+/// What finished steps are counted for besides; the texts are the report's.
+const MET: [&str; 9] = [
+    "a send fails",
+    "a batch of more than one run",
+    "two batches or more",
+    "128 peers listed",
+    "a shut gate, and ids to ask for",
+    "flags of the view that disagree with the pairs",
+    "192 heights or more in the view",
+    "1,000 or more pending and evicted",
+    "a height of 2^32 - 1",
+];
 
 #[derive(Debug, Clone, Default)]
 pub struct Report {
     finished: [[u64; 5]; KINDS],
     refused: [u64; 12],
     out_of_domain: [u64; 3],
+    outcomes: [u64; 6],
+    met: [u64; MET.len()],
     pub streams: u64,
     pub questions: u64,
     pub differences: u64,
@@ -25,6 +40,36 @@ impl Report {
                 let row = usize::from(kind).min(KINDS - 1);
                 self.finished[row][usize::from(mode.number())] += 1;
             }
+        }
+    }
+
+    /// A finished step that the Rust agrees with.
+    pub fn agreed(&mut self, call: &Call, after: &State, sends: &[Sent], outcome: u32) {
+        if let Some(count) = self.outcomes.get_mut(outcome as usize) {
+            *count += 1;
+        }
+        let last = sends
+            .last()
+            .map_or(0, |sent| usize::from(sent.command.batch));
+        let disagree = call.view.rows.iter().any(|row| match row {
+            Row::Absent => false,
+            Row::Present(places) => places
+                .iter()
+                .any(|place| place.stored != call.stored.contains(&(place.type_id, place.id))),
+        });
+        let met = [
+            sends.iter().any(|sent| sent.failed),
+            sends.len() > last + 1,
+            last > 0,
+            call.peers.len() == 128,
+            !call.gate && !call.ids.is_empty(),
+            disagree,
+            call.view.rows.len() >= 192,
+            after.pending.len() + after.evicted.len() >= 1_000,
+            call.height == u32::MAX,
+        ];
+        for (count, met) in self.met.iter_mut().zip(met) {
+            *count += u64::from(met);
         }
     }
 
@@ -50,6 +95,17 @@ impl Display for Report {
                 }
             }
             writeln!(out)?;
+        }
+        writeln!(out, "\n| outcome | steps |")?;
+        writeln!(out, "|---|---|")?;
+        let names = "Continue,Synced,BehindPeer,sync peer gone,Stalled,end of stream";
+        for (name, count) in names.split(',').zip(self.outcomes) {
+            writeln!(out, "| {name} | {count} |")?;
+        }
+        writeln!(out, "\n| finished steps with | steps |")?;
+        writeln!(out, "|---|---|")?;
+        for (name, count) in MET.iter().zip(self.met) {
+            writeln!(out, "| {name} | {count} |")?;
         }
         writeln!(out, "\n| refusal | steps |")?;
         writeln!(out, "|---|---|")?;

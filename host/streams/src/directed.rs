@@ -9,6 +9,8 @@ mod limits;
 mod messages;
 mod peers;
 
+pub use peers::d1;
+
 /// All directed streams.
 pub fn scripts() -> Vec<Script> {
     let mut scripts = delivery::scripts();
