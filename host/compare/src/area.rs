@@ -1,0 +1,70 @@
+//! A keeper's two areas and a call on them, with what every call owes whatever it answers.
+
+use keeper_reference::{image, PLAIN};
+use keeper_streams::Opening;
+use keeper_values::{Answer, Arguments, Keeper, State, COMMAND_BYTES, STATE_BYTES};
+
+/// Lies in the command area before each call, so that a byte written too much shows.
+pub const FILL: u8 = 0xa5;
+
+pub struct Areas {
+    pub state: Vec<u8>,
+    pub commands: Vec<u8>,
+}
+
+impl Areas {
+    pub fn new(keeper: &dyn Keeper, opening: &Opening) -> Result<Self, String> {
+        let mut areas = Self {
+            state: vec![FILL; STATE_BYTES],
+            commands: vec![FILL; COMMAND_BYTES],
+        };
+        match opening {
+            Opening::Open {
+                settings,
+                clock,
+                height,
+            } => {
+                let number = keeper.open(&mut areas.state, *settings, *clock, *height);
+                if number != 0 {
+                    return Err(format!("opening refused as {number}"));
+                }
+            }
+            Opening::Put(state) => areas.state = image::write(state),
+        }
+        Ok(areas)
+    }
+
+    /// What the state area says.
+    pub fn read(&self) -> Result<State, String> {
+        image::read(&PLAIN, &self.state).ok_or_else(|| "malformed state area".to_string())
+    }
+
+    /// Runs a step. A refusal has to leave both areas as they were, a finished step the bytes after its commands.
+    pub fn step(&mut self, keeper: &dyn Keeper, arguments: &Arguments) -> Result<Answer, String> {
+        let before = self.state.clone();
+        let answer = keeper.step(&mut self.state, &mut self.commands, arguments);
+        let length = answer.length as usize;
+        if answer.number != 0 {
+            if answer != Answer::refused(answer.number) {
+                return Err(format!("a refusal with more than its number: {answer:?}"));
+            }
+            if self.state != before {
+                return Err("a refusal changed the state area".to_string());
+            }
+        }
+        // No early exit: this runs over 64 KiB in each step.
+        let unwritten = self.commands.get(length..).unwrap_or_default();
+        let changed = unwritten.iter().fold(0, |any, byte| any | (byte ^ FILL));
+        if length > self.commands.len() || changed != 0 {
+            return Err(format!("wrote beyond its {length} command bytes"));
+        }
+        Ok(answer)
+    }
+
+    /// The bytes of the last step's commands, taken out of the area.
+    pub fn take_commands(&mut self, length: u32) -> Vec<u8> {
+        let written = self.commands[..length as usize].to_vec();
+        self.commands[..length as usize].fill(FILL);
+        written
+    }
+}

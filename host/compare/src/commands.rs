@@ -1,0 +1,190 @@
+//! The commands.
+
+use keeper_compare::report::Report;
+use keeper_compare::{cases, differences, hostile as hostiles, list, play, tell};
+use keeper_oracle::SOURCE_FOUND;
+use keeper_reference::Reference;
+use keeper_streams::text::Line;
+use keeper_streams::{directed, exhaustive};
+use std::time::{Duration, Instant, SystemTime, UNIX_EPOCH};
+
+type Done = Result<(), String>;
+
+const LIST: &str = include_str!("../../fixed/streams.txt");
+
+/// Time that the quick command gives to random streams under the oracle.
+const QUICK_RANDOM: Duration = Duration::from_secs(12);
+
+const NO_SOURCE: &str = "oracle: SKIPPED, the original Rust was not found when this was built (docs/src/sync/src beside \
+the project, or KEEPER_RUST_SRC)";
+
+/// A seed that differs from run to run; it is printed, so that a run can be repeated.
+fn fresh_seed() -> u64 {
+    let now = SystemTime::now().duration_since(UNIX_EPOCH);
+    now.map_or(1, |now| now.as_nanos() as u64 >> 8)
+}
+
+fn fixed_list() -> Result<Vec<Line>, String> {
+    list::read(LIST).map_err(|line| format!("fixed list: line {line} can't be read"))
+}
+
+/// Directed and exhaustive streams under the oracle.
+fn known_streams(depth: u32, report: &mut Report) -> Done {
+    let reference = Reference::plain();
+    for script in directed::scripts() {
+        cases::try_script(&reference, &script, report)?;
+    }
+    for depth in 1..=depth {
+        for script in exhaustive::scripts(depth) {
+            cases::try_script(&reference, &script, report)?;
+        }
+    }
+    Ok(())
+}
+
+fn oracle_quick(seed: u64) -> Done {
+    let start = Instant::now();
+    let mut report = Report::default();
+    known_streams(2, &mut report)?;
+    let known = report.steps();
+    let mut next = seed;
+    let random = Instant::now();
+    while random.elapsed() < QUICK_RANDOM {
+        cases::try_random(&Reference::plain(), next, &mut report)?;
+        next = next.wrapping_add(1);
+    }
+    println!(
+        "oracle: {known} directed and exhaustive steps, {} random from seed {seed}, no difference, {} s",
+        report.steps() - known,
+        start.elapsed().as_secs()
+    );
+    Ok(())
+}
+
+/// All that the gate runs.
+pub fn quick(seed: Option<u64>) -> Done {
+    let seed = seed.unwrap_or_else(fresh_seed);
+    if SOURCE_FOUND {
+        oracle_quick(seed).map_err(|fault| format!("oracle, seed {seed}: {fault}"))?;
+        differences::shown(&Reference::plain())?;
+        println!("differences: D-1 and three overflows are as docs/DIFFERENCES.md says");
+    } else {
+        println!("{NO_SOURCE}");
+    }
+    let lines = fixed_list()?;
+    let calls = play::replay(&Reference::plain(), &lines)
+        .map_err(|(line, fault)| format!("fixed list: {}: {fault}", lines[line].write()))?;
+    println!(
+        "fixed list: {} streams, {calls} calls replayed on the reference",
+        list::count(&lines)
+    );
+    hostile_steps(10_000, seed)?;
+    let table = tell::table(&keeper_variants::all(), &lines);
+    let told = table.iter().filter(|told| told.streams > 0).count();
+    println!(
+        "variants: {told} of {} told apart by the fixed list",
+        table.len()
+    );
+    if told < table.len() {
+        return Err("a variant is not told apart".to_string());
+    }
+    Ok(())
+}
+
+/// A long run, with a progress line on standard error and the report on standard output.
+pub fn run(steps: u64, seed: Option<u64>) -> Done {
+    if !SOURCE_FOUND {
+        return Err(NO_SOURCE.to_string());
+    }
+    let seed = seed.unwrap_or_else(fresh_seed);
+    let start = Instant::now();
+    let mut report = Report::default();
+    let mut fault = known_streams(3, &mut report);
+    let mut next = seed;
+    let mut shown = 0;
+    while fault.is_ok() && report.steps() < steps {
+        fault = cases::try_random(&Reference::plain(), next, &mut report);
+        next = next.wrapping_add(1);
+        if report.steps() / 100_000 > shown {
+            shown = report.steps() / 100_000;
+            eprint!(
+                "\r{} of {steps} steps, {} s",
+                report.steps(),
+                start.elapsed().as_secs()
+            );
+        }
+    }
+    eprintln!();
+    report.differences += u64::from(fault.is_err());
+    let seconds = start.elapsed().as_secs();
+    println!(
+        "seeds {seed} to {}, {seconds} s\n\n{report}",
+        next.wrapping_sub(1)
+    );
+    fault
+}
+
+/// The table, by the fixed list.
+pub fn variants() -> Done {
+    let table = tell::table(&keeper_variants::all(), &fixed_list()?);
+    println!("| place | fault | streams | first |\n|---|---|---|---|");
+    for told in &table {
+        println!(
+            "| {} | {} | {} | {} |",
+            told.variant.place,
+            told.variant.fault,
+            told.streams,
+            told.stream.as_deref().unwrap_or("none")
+        );
+    }
+    let told = table.iter().filter(|told| told.streams > 0).count();
+    println!("\n{told} of {} told apart", table.len());
+    if told < table.len() {
+        return Err("a variant is not told apart".to_string());
+    }
+    Ok(())
+}
+
+fn hostile_steps(steps: u64, seed: u64) -> Done {
+    let mut report = Report::default();
+    let reference = Reference::plain();
+    hostiles::known(&reference, &mut report).map_err(|fault| format!("hostile: {fault}"))?;
+    let known = report.steps();
+    let mut next = seed;
+    while report.steps() < steps {
+        hostiles::random(&reference, next, &mut report)
+            .map_err(|fault| format!("hostile: {fault}"))?;
+        next = next.wrapping_add(1);
+    }
+    println!(
+        "hostile: {known} calls with a known number, {} damaged from seed {seed}, on the reference",
+        report.steps() - known
+    );
+    Ok(())
+}
+
+/// Damaged calls.
+pub fn hostile(steps: u64, seed: Option<u64>) -> Done {
+    hostile_steps(steps, seed.unwrap_or_else(fresh_seed))
+}
+
+/// Makes the fixed list anew.
+pub fn make_list() -> Done {
+    if !SOURCE_FOUND {
+        return Err(NO_SOURCE.to_string());
+    }
+    let lines = list::make(&keeper_variants::all(), 600)?;
+    print!("{}", list::write(&lines));
+    Ok(())
+}
+
+/// Only a build without overflow checks lets the Rust wrap its count of sends.
+pub fn wrap() -> Done {
+    let mut report = Report::default();
+    let named = |script: &keeper_streams::Script| script.name.starts_with("sends counted");
+    for script in directed::scripts().iter().filter(|script| named(script)) {
+        cases::try_script(&Reference::plain(), script, &mut report)?;
+    }
+    println!("{report}");
+    Ok(())
+}

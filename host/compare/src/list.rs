@@ -1,0 +1,144 @@
+//! The fixed list: read, replayed, and made.
+
+use crate::cases::{random_lines, script_lines, try_random, try_script};
+use crate::play::record;
+use crate::report::Report;
+use crate::tell::{streams, told_apart};
+use keeper_reference::Reference;
+use keeper_streams::text::Line;
+use keeper_streams::{directed, hostile};
+use keeper_variants::Variant;
+use std::collections::{BTreeMap, BTreeSet};
+
+/// Reads a list; the number of a line that is none is the error.
+pub fn read(text: &str) -> Result<Vec<Line>, usize> {
+    let lines = text.lines().enumerate();
+    let meant = lines.filter(|(_, line)| !line.is_empty() && !line.starts_with('#'));
+    meant
+        .map(|(index, line)| Line::read(line).ok_or(index + 1))
+        .collect()
+}
+
+pub fn write(lines: &[Line]) -> String {
+    lines.iter().map(|line| line.write() + "\n").collect()
+}
+
+/// Streams longer than this are taken only for what no shorter one tells.
+const SHORT: usize = 12_000;
+
+/// Streams longer than this are not taken.
+const LONGEST: usize = 140_000;
+
+/// Keys below this are variants.
+const VARIANTS: u64 = 1_000;
+
+struct Candidate {
+    lines: Vec<Line>,
+    size: usize,
+    /// The variants that it tells apart, and from these on what kinds of step it shows.
+    keys: BTreeSet<u64>,
+}
+
+/// Kind, mode and outcome of each finished step, number and mode of each refused one, so that the list shows all.
+fn shown(lines: &[Line]) -> BTreeSet<u64> {
+    let mut keys = BTreeSet::new();
+    let mut mode = 0;
+    for pair in lines.windows(2) {
+        match pair {
+            [Line::Step(call, _), Line::Answer(numbers)] => {
+                let kind = u64::from(call.kind.min(17));
+                let (number, outcome) = (u64::from(numbers[0]), u64::from(numbers[1]));
+                keys.insert(if number == 0 {
+                    VARIANTS + kind + 100 * mode + 1_000 * outcome
+                } else {
+                    10_000 + 100 * number + mode
+                });
+            }
+            [_, Line::State(state) | Line::Put(state)] | [Line::Put(state), _] => {
+                mode = u64::from(state.mode.number());
+            }
+            _ => {}
+        }
+    }
+    keys
+}
+
+fn candidate(variants: &[Variant], calls: &[Line]) -> Result<Candidate, String> {
+    let lines = record(&Reference::plain(), calls)?;
+    let mut keys = shown(&lines);
+    for (index, variant) in variants.iter().enumerate() {
+        if told_apart(&variant.keeper, &lines) {
+            keys.insert(index as u64);
+        }
+    }
+    Ok(Candidate {
+        size: write(&lines).len(),
+        lines,
+        keys,
+    })
+}
+
+/// Candidates: directed streams and random ones that the oracle agrees with, and hostile ones that it can't judge.
+fn candidates(variants: &[Variant], seeds: u64) -> Result<Vec<Candidate>, String> {
+    let reference = Reference::plain();
+    let mut report = Report::default();
+    let mut all = Vec::new();
+    for script in directed::scripts() {
+        try_script(&reference, &script, &mut report)?;
+        all.push(candidate(variants, &script_lines(&script))?);
+    }
+    for case in hostile::cases() {
+        all.push(candidate(variants, &case.lines())?);
+    }
+    for seed in 1..=seeds {
+        try_random(&reference, seed, &mut report)?;
+        all.push(candidate(
+            variants,
+            &random_lines(seed, 12, seed % 3 == 0)?,
+        )?);
+    }
+    Ok(all)
+}
+
+/// How often each key has been shown.
+type Seen = BTreeMap<u64, u32>;
+
+/// What a candidate adds: keys not yet shown and, if it is short, variants told once so far.
+fn worth(seen: &Seen, candidate: &Candidate) -> u64 {
+    let short = candidate.size <= SHORT;
+    let new = |key: &&u64| match seen.get(key) {
+        None => **key < VARIANTS || short,
+        Some(1) => **key < VARIANTS && short,
+        Some(_) => false,
+    };
+    candidate.keys.iter().filter(new).count() as u64
+}
+
+/// Makes the list: the stream that adds most for its size, then the next, until none adds anything.
+pub fn make(variants: &[Variant], seeds: u64) -> Result<Vec<Line>, String> {
+    let candidates = candidates(variants, seeds)?;
+    let mut left: Vec<&Candidate> = candidates.iter().collect();
+    left.retain(|candidate| candidate.size <= LONGEST);
+    let mut seen = Seen::new();
+    let mut lines = Vec::new();
+    loop {
+        let rate = |candidate: &Candidate| {
+            worth(&seen, candidate) * 1_000_000_000 / (candidate.size as u64 + 400)
+        };
+        let best = (0..left.len()).max_by_key(|index| rate(left[*index]));
+        let Some(best) = best.filter(|index| worth(&seen, left[*index]) > 0) else {
+            break;
+        };
+        let chosen = left.swap_remove(best);
+        for key in &chosen.keys {
+            *seen.entry(*key).or_default() += 1;
+        }
+        lines.extend(chosen.lines.iter().cloned());
+    }
+    Ok(lines)
+}
+
+/// How many streams a list has.
+pub fn count(lines: &[Line]) -> usize {
+    streams(lines).len()
+}

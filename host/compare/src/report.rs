@@ -1,0 +1,135 @@
+//! What was run: steps by kind and mode, refusals by number, differences.
+
+use keeper_oracle::{Reason, Sent};
+use keeper_values::numbers::kinds;
+use keeper_values::{Call, Mode, Row, State};
+use std::fmt::{self, Display, Formatter};
+
+const KINDS: usize = kinds::LAST as usize + 2;
+
+/// What finished steps are counted for besides; the texts are the report's.
+const MET: [&str; 9] = [
+    "a send fails",
+    "a batch of more than one run",
+    "two batches or more",
+    "128 peers listed",
+    "a shut gate, and ids to ask for",
+    "flags of the view that disagree with the pairs",
+    "192 heights or more in the view",
+    "1,000 or more pending and evicted",
+    "a height of 2^32 - 1",
+];
+
+#[derive(Debug, Clone, Default)]
+pub struct Report {
+    finished: [[u64; 5]; KINDS],
+    refused: [u64; 12],
+    out_of_domain: [u64; 3],
+    outcomes: [u64; 6],
+    met: [u64; MET.len()],
+    pub streams: u64,
+    pub questions: u64,
+    pub differences: u64,
+}
+
+impl Report {
+    pub fn step(&mut self, mode: Mode, kind: u8, number: u32) {
+        match self.refused.get_mut(number as usize) {
+            Some(count) if number != 0 => *count += 1,
+            _ => {
+                let row = usize::from(kind).min(KINDS - 1);
+                self.finished[row][usize::from(mode.number())] += 1;
+            }
+        }
+    }
+
+    /// A finished step that the Rust agrees with.
+    pub fn agreed(&mut self, call: &Call, after: &State, sends: &[Sent], outcome: u32) {
+        if let Some(count) = self.outcomes.get_mut(outcome as usize) {
+            *count += 1;
+        }
+        let last = sends
+            .last()
+            .map_or(0, |sent| usize::from(sent.command.batch));
+        let disagree = call.view.rows.iter().any(|row| match row {
+            Row::Absent => false,
+            Row::Present(places) => places
+                .iter()
+                .any(|place| place.stored != call.stored.contains(&(place.type_id, place.id))),
+        });
+        let met = [
+            sends.iter().any(|sent| sent.failed),
+            sends.len() > last + 1,
+            last > 0,
+            call.peers.len() == 128,
+            !call.gate && !call.ids.is_empty(),
+            disagree,
+            call.view.rows.len() >= 192,
+            after.pending.len() + after.evicted.len() >= 1_000,
+            call.height == u32::MAX,
+        ];
+        for (count, met) in self.met.iter_mut().zip(met) {
+            *count += u64::from(met);
+        }
+    }
+
+    pub fn out_of_domain(&mut self, reason: Reason) {
+        self.out_of_domain[reason as usize] += 1;
+    }
+
+    pub fn steps(&self) -> u64 {
+        self.finished.iter().flatten().sum::<u64>() + self.refused.iter().sum::<u64>()
+    }
+}
+
+impl Display for Report {
+    fn fmt(&self, out: &mut Formatter<'_>) -> fmt::Result {
+        writeln!(out, "| step | new | seeking | syncing | synced |")?;
+        writeln!(out, "|---|---|---|---|---|")?;
+        for kind in 1..=kinds::LAST {
+            write!(out, "| {} {} |", kind, kinds::name(kind))?;
+            for mode in &Mode::ALL[..4] {
+                match self.finished[usize::from(kind)][usize::from(mode.number())] {
+                    0 => write!(out, " |")?,
+                    count => write!(out, " {count} |")?,
+                }
+            }
+            writeln!(out)?;
+        }
+        writeln!(out, "\n| outcome | steps |")?;
+        writeln!(out, "|---|---|")?;
+        let names = "Continue,Synced,BehindPeer,sync peer gone,Stalled,end of stream";
+        for (name, count) in names.split(',').zip(self.outcomes) {
+            writeln!(out, "| {name} | {count} |")?;
+        }
+        writeln!(out, "\n| finished steps with | steps |")?;
+        writeln!(out, "|---|---|")?;
+        for (name, count) in MET.iter().zip(self.met) {
+            writeln!(out, "| {name} | {count} |")?;
+        }
+        writeln!(out, "\n| refusal | steps |")?;
+        writeln!(out, "|---|---|")?;
+        for (number, count) in self.refused.iter().enumerate().skip(1) {
+            if *count > 0 {
+                writeln!(out, "| {number} | {count} |")?;
+            }
+        }
+        let [end, panic, place] = self.out_of_domain;
+        writeln!(out, "\n| outside the oracle's domain | steps |")?;
+        writeln!(out, "|---|---|")?;
+        writeln!(
+            out,
+            "| end of stream in seeking without a fruitless pick (D-1) | {end} |"
+        )?;
+        writeln!(out, "| a sum of the Rust overflows | {panic} |")?;
+        writeln!(out, "| no such place in the Rust | {place} |")?;
+        writeln!(
+            out,
+            "\n{} streams, {} steps, {} questions, {} differences",
+            self.streams,
+            self.steps(),
+            self.questions,
+            self.differences
+        )
+    }
+}

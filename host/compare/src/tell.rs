@@ -1,0 +1,62 @@
+//! Which streams tell a faulty variant from the plain rules.
+
+use crate::play::replay;
+use keeper_streams::text::Line;
+use keeper_values::Keeper;
+use keeper_variants::Variant;
+use std::panic::{catch_unwind, set_hook, take_hook, AssertUnwindSafe};
+
+/// Whether a keeper departs from the recorded answers. A panic is a departure: the plain rules never panic.
+pub fn told_apart(keeper: &dyn Keeper, lines: &[Line]) -> bool {
+    let printing = take_hook();
+    set_hook(Box::new(|_| {}));
+    let outcome = catch_unwind(AssertUnwindSafe(|| replay(keeper, lines)));
+    set_hook(printing);
+    !matches!(outcome, Ok(Ok(_)))
+}
+
+/// A variant and the first recorded stream that tells it.
+pub struct Told {
+    pub variant: Variant,
+    pub stream: Option<String>,
+    /// How many of the streams tell it.
+    pub streams: usize,
+}
+
+/// Cuts recorded lines into streams.
+pub fn streams(lines: &[Line]) -> Vec<(&str, &[Line])> {
+    let mut starts: Vec<usize> = Vec::new();
+    for (index, line) in lines.iter().enumerate() {
+        if matches!(line, Line::Stream(_)) {
+            starts.push(index);
+        }
+    }
+    starts.push(lines.len());
+    let part = |pair: &[usize]| {
+        let part = &lines[pair[0]..pair[1]];
+        let name = match &part[0] {
+            Line::Stream(name) => name.as_str(),
+            _ => "",
+        };
+        (name, part)
+    };
+    starts.windows(2).map(part).collect()
+}
+
+/// Every variant against every recorded stream.
+pub fn table(variants: &[Variant], lines: &[Line]) -> Vec<Told> {
+    let streams = streams(lines);
+    let told = |variant: &Variant| {
+        let telling: Vec<&str> = streams
+            .iter()
+            .filter(|(_, part)| told_apart(&variant.keeper, part))
+            .map(|(name, _)| *name)
+            .collect();
+        Told {
+            variant: *variant,
+            stream: telling.first().map(|name| name.to_string()),
+            streams: telling.len(),
+        }
+    };
+    variants.iter().map(told).collect()
+}

@@ -1,0 +1,92 @@
+use crate::Settings;
+
+/// Length of the state area.
+pub const STATE_BYTES: usize = 65_536;
+
+/// Least length of the command area.
+pub const COMMAND_BYTES: usize = 65_536;
+
+/// A step's arguments as they cross the boundary, other than the areas (docs/LAYOUT.md, `request_keeper_step`).
+#[derive(Debug, Clone, PartialEq, Eq, Default)]
+pub struct Arguments {
+    pub kind: u8,
+    pub clock: u64,
+    pub gate: u8,
+    pub height: u32,
+    pub peer: u64,
+    pub type_id: u8,
+    pub fork: u32,
+    pub parsed: u8,
+    pub has_tip: u8,
+    pub tip: u32,
+    pub ids: Vec<u8>,
+    pub continuation: Vec<u8>,
+    pub stored: Vec<u8>,
+    pub peers: Vec<u8>,
+    pub view: Vec<u8>,
+}
+
+/// A step's answer.
+#[derive(Debug, Clone, Copy, PartialEq, Eq, Default)]
+pub struct Answer {
+    pub number: u32,
+    pub outcome: u32,
+    pub retried: u32,
+    pub fresh: u32,
+    pub abandoned: u32,
+    pub forgotten: u32,
+    pub pending: u32,
+    pub evicted: u32,
+    pub length: u32,
+}
+
+impl Answer {
+    pub fn refused(number: u32) -> Self {
+        Self {
+            number,
+            ..Self::default()
+        }
+    }
+
+    /// The nine numbers in the order of docs/LAYOUT.md.
+    pub fn numbers(self) -> [u32; 9] {
+        [
+            self.number,
+            self.outcome,
+            self.retried,
+            self.fresh,
+            self.abandoned,
+            self.forgotten,
+            self.pending,
+            self.evicted,
+            self.length,
+        ]
+    }
+
+    pub fn from_numbers(numbers: [u32; 9]) -> Self {
+        let [number, outcome, retried, fresh, abandoned, forgotten, pending, evicted, length] =
+            numbers;
+        Self {
+            number,
+            outcome,
+            retried,
+            fresh,
+            abandoned,
+            forgotten,
+            pending,
+            evicted,
+            length,
+        }
+    }
+}
+
+/// The three entries on areas of any length and content. The reference, its faulty variants and any core that is to be
+/// held against them are keepers.
+pub trait Keeper {
+    fn open(&self, state: &mut [u8], settings: Settings, clock: u64, height: u32) -> u32;
+
+    fn step(&self, state: &mut [u8], commands: &mut [u8], arguments: &Arguments) -> Answer;
+
+    /// The number and the length.
+    fn question(&self, state: &[u8], commands: &mut [u8], flag: u8) -> (u32, u32);
+}

@@ -1,0 +1,51 @@
+//! Faulty variants of the reference. Each replaces one rule; the streams have to tell each from the plain rules.
+
+mod areas;
+mod calls;
+mod checks;
+mod delivery;
+mod heights;
+mod losses;
+mod messages;
+mod requests;
+mod results;
+mod sessions;
+mod ticks;
+
+use keeper_reference::{Reference, Rules};
+
+/// A keeper with one fault.
+#[derive(Clone, Copy)]
+pub struct Variant {
+    /// Where document 01 states what is broken.
+    pub place: &'static str,
+    /// What it does instead.
+    pub fault: &'static str,
+    pub keeper: Reference,
+}
+
+fn variant(place: &'static str, fault: &'static str, rules: Rules) -> Variant {
+    Variant {
+        place,
+        fault,
+        keeper: Reference { rules },
+    }
+}
+
+/// All variants, in document 01's order.
+pub fn all() -> Vec<Variant> {
+    [
+        delivery::variants(),
+        requests::variants(),
+        heights::variants(),
+        checks::variants(),
+        messages::variants(),
+        sessions::variants(),
+        losses::variants(),
+        ticks::variants(),
+        areas::variants(),
+        calls::variants(),
+        results::variants(),
+    ]
+    .concat()
+}
