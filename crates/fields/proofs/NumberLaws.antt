@@ -1,11 +1,11 @@
 -- Numbers in bytes: their width, there and back, and a number of m + n bytes in two.
 use Prim.Native.Nat.{ℕ, zero, suc, _+_, _-_, _*_, _/_, _%_, _^_, _≤_, _<_}
-use mathlib.Core.Path.{_≡_, refl, sym, ap, _∙_}
+use mathlib.Core.Path.{_≡_, refl, sym, _∙_}
 use mathlib.Core.List.{List, [], _∷_, _++_, append-assoc, append-nil}
 use native.Mathlib.Nat.{add-zero, zero-add, add-mul, mul-assoc, pow-succ', pow-le-pow-right, mul-le-mul-right, mod-lt, div-div-eq-div-mul}
 use native.Mathlib.Numerals.{add-one}
 use native.Mathlib.Omega.{arith}
-use lib.ListN.{length, take, drop, getD, length-append, length-drop, drop-of-length-le, List·getD-append}
+use lib.ListN.{length, take, drop, getD, length-append, length-drop, drop-of-length-le}
 use lib.Seq.{drop-cons, drop-drop, take-add, length-take-le, getD-take, getD-drop}
 use Rattle.fields.specs.Number.{fromBe, fromBeAfter, toBe}
 

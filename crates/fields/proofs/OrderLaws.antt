@@ -1,14 +1,14 @@
 -- The order of byte lists: strict, total with `same`, and that of the numbers that the bytes are, word by word.
-use Prim.Native.Nat.{ℕ, zero, suc, _+_, _-_, _*_, _^_, _≤_, _<_}
+use Prim.Native.Nat.{ℕ, _+_, _-_, _*_, _^_, _≤_, _<_}
 use mathlib.Core.Path.{_≡_, refl, sym, ap, _∙_}
 use mathlib.Core.Bool.{Bool, true, false, _&&_, _||_, false≢true}
-use mathlib.Core.Logic.{_⊎_, inl, inr, ⊎-elim}
+use mathlib.Core.Logic.{_⊎_, inl, inr}
 use mathlib.Core.List.{List, [], _∷_, _++_}
-use native.Mathlib.Nat.{add-mul, mul-le-mul-right, lt-irrefl, zero-add}
+use native.Mathlib.Nat.{add-mul, mul-le-mul-right, lt-irrefl}
 use native.Mathlib.Omega.{arith}
 use lib.Dec.{ltb, eqb}
-use lib.ListN.{length, take, drop, getD, length-drop, take-append-drop}
-use lib.Seq.{take-add, drop-drop, drop-cons, length-take-le, take-take}
+use lib.ListN.{length, take, drop, length-drop}
+use lib.Seq.{take-add, drop-drop, length-take-le}
 use borrow.Author.Tests.{ltb-true, ltb-false, eqb-true, eqb-false, lt-ltb, le-ltb, eq-eqb, ne-eqb}
 use Rattle.fields.specs.Number.{fromBe}
 use Rattle.fields.specs.Order.{before, same}
@@ -252,7 +252,7 @@ same-number (x ∷ xs) (y ∷ ys) l f g =
 
 -- ---- word by word
 
-or-false : (t : Bool) → t || false ≡ t
+pub or-false : (t : Bool) → t || false ≡ t
 or-false true = refl
 or-false false = refl
 

@@ -6,18 +6,21 @@ ghost use Prim.Native.Nat.{_+_, _≤_};
 ghost use lib.ListN.{length, take, drop};
 ghost use Rattle.fields.specs.Order.{before, same};
 
+pub mod equal;
+pub mod order;
+
 // Whether the `size` bytes of s from p on come before those of t from q on.
 pub fn run_before(s: &[u8], p: usize, t: &[u8], q: usize, size: usize) -> bool
     requires { ⌜ (p + size ≤ length (now s)) × (q + size ≤ length (now t)) ⌝ }
     ensures { λ r. ⌜ r ≡ before (take size (drop p (now (s .entry)))) (take size (drop q (now (t .entry)))) ⌝ }
 {
     if size == 32 {
-        return before_32(s, p, t, q);
+        return order::before_32(s, p, t, q);
     }
     if size < 8 {
-        return before_bytes(s, p, t, q, size);
+        return order::before_bytes(s, p, t, q, size);
     }
-    before_words(s, p, t, q, size)
+    order::before_words(s, p, t, q, size)
 }
 
 // Whether they are the same.
@@ -26,112 +29,10 @@ pub fn run_same(s: &[u8], p: usize, t: &[u8], q: usize, size: usize) -> bool
     ensures { λ r. ⌜ r ≡ same (take size (drop p (now (s .entry)))) (take size (drop q (now (t .entry)))) ⌝ }
 {
     if size == 32 {
-        return same_32(s, p, t, q);
+        return equal::same_32(s, p, t, q);
     }
     if size < 8 {
-        return same_bytes(s, p, t, q, size);
+        return equal::same_bytes(s, p, t, q, size);
     }
-    same_words(s, p, t, q, size)
-}
-
-// Straight through, with no branch to guess: the usual size of an id.
-fn before_32(s: &[u8], p: usize, t: &[u8], q: usize) -> bool
-    requires { ⌜ (p + 32 ≤ length (now s)) × (q + 32 ≤ length (now t)) ⌝ }
-    ensures { λ r. ⌜ r ≡ before (take 32 (drop p (now (s .entry)))) (take 32 (drop q (now (t .entry)))) ⌝ }
-{
-    let a = fields::read_u64(s, p);
-    let b = fields::read_u64(t, q);
-    let c = fields::read_u64(s, p + 8);
-    let d = fields::read_u64(t, q + 8);
-    let e = fields::read_u64(s, p + 16);
-    let f = fields::read_u64(t, q + 16);
-    let g = fields::read_u64(s, p + 24);
-    let h = fields::read_u64(t, q + 24);
-    (a < b) | ((a == b) & ((c < d) | ((c == d) & ((e < f) | ((e == f) & (g < h))))))
-}
-
-fn same_32(s: &[u8], p: usize, t: &[u8], q: usize) -> bool
-    requires { ⌜ (p + 32 ≤ length (now s)) × (q + 32 ≤ length (now t)) ⌝ }
-    ensures { λ r. ⌜ r ≡ same (take 32 (drop p (now (s .entry)))) (take 32 (drop q (now (t .entry)))) ⌝ }
-{
-    let a = fields::read_u64(s, p);
-    let b = fields::read_u64(t, q);
-    let c = fields::read_u64(s, p + 8);
-    let d = fields::read_u64(t, q + 8);
-    let e = fields::read_u64(s, p + 16);
-    let f = fields::read_u64(t, q + 16);
-    let g = fields::read_u64(s, p + 24);
-    let h = fields::read_u64(t, q + 24);
-    (a == b) & ((c == d) & ((e == f) & (g == h)))
-}
-
-// Word by word. The last word overlaps the one before it: what it reads again is the same in both.
-fn before_words(s: &[u8], p: usize, t: &[u8], q: usize, size: usize) -> bool
-    requires { ⌜ (8 ≤ size) × ((p + size ≤ length (now s)) × (q + size ≤ length (now t))) ⌝ }
-    ensures { λ r. ⌜ r ≡ before (take size (drop p (now (s .entry)))) (take size (drop q (now (t .entry)))) ⌝ }
-{
-    let last = size - 8;
-    let mut i = 0;
-    while i < last {
-        let a = fields::read_u64(s, p + i);
-        let b = fields::read_u64(t, q + i);
-        if a != b {
-            return a < b;
-        }
-        i += 8;
-    }
-    let a = fields::read_u64(s, p + last);
-    let b = fields::read_u64(t, q + last);
-    a < b
-}
-
-fn same_words(s: &[u8], p: usize, t: &[u8], q: usize, size: usize) -> bool
-    requires { ⌜ (8 ≤ size) × ((p + size ≤ length (now s)) × (q + size ≤ length (now t))) ⌝ }
-    ensures { λ r. ⌜ r ≡ same (take size (drop p (now (s .entry)))) (take size (drop q (now (t .entry)))) ⌝ }
-{
-    let last = size - 8;
-    let mut i = 0;
-    while i < last {
-        let a = fields::read_u64(s, p + i);
-        let b = fields::read_u64(t, q + i);
-        if a != b {
-            return false;
-        }
-        i += 8;
-    }
-    let a = fields::read_u64(s, p + last);
-    let b = fields::read_u64(t, q + last);
-    a == b
-}
-
-fn before_bytes(s: &[u8], p: usize, t: &[u8], q: usize, size: usize) -> bool
-    requires { ⌜ (p + size ≤ length (now s)) × (q + size ≤ length (now t)) ⌝ }
-    ensures { λ r. ⌜ r ≡ before (take size (drop p (now (s .entry)))) (take size (drop q (now (t .entry)))) ⌝ }
-{
-    let mut i = 0;
-    while i < size {
-        let a = s[p + i];
-        let b = t[q + i];
-        if a != b {
-            return a < b;
-        }
-        i += 1;
-    }
-    false
-}
-
-fn same_bytes(s: &[u8], p: usize, t: &[u8], q: usize, size: usize) -> bool
-    requires { ⌜ (p + size ≤ length (now s)) × (q + size ≤ length (now t)) ⌝ }
-    ensures { λ r. ⌜ r ≡ same (take size (drop p (now (s .entry)))) (take size (drop q (now (t .entry)))) ⌝ }
-{
-    let mut i = 0;
-    while i < size {
-        let a = s[p + i];
-        let b = t[q + i];
-        if a != b {
-            return false;
-        }
-        i += 1;
-    }
-    true
+    equal::same_words(s, p, t, q, size)
 }

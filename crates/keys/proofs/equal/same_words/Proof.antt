@@ -7,8 +7,8 @@ use lib.ListN.{take, drop}
 use lib.Seq.{take-take}
 use Rattle.fields.proofs.NumberLaws.{Bytes}
 use Rattle.fields.proofs.OrderLaws.{differ-same, equal-next, last-same}
-use Rattle.keys.proofs.same_words.Statement.{statement}
-use Rattle.keys.proofs.same_words.Tie as tie
+use Rattle.keys.proofs.equal.same_words.Statement.{statement}
+use Rattle.keys.proofs.equal.same_words.Tie as tie
 
 abbrev Inv-loop : tie.InvT-loop
 Inv-loop s p t q size last i₀ i = (i < last + 8) × (take i (drop p s) ≡ take i (drop q t))

@@ -6,8 +6,8 @@ use mathlib.Core.Path.{_≡_, refl, sym}
 use lib.ListN.{take, drop, getD}
 use Rattle.fields.proofs.NumberLaws.{Bytes, fromBe-one}
 use Rattle.fields.proofs.OrderLaws.{differ-before, equal-next, before-irreflexive}
-use Rattle.keys.proofs.before_bytes.Statement.{statement}
-use Rattle.keys.proofs.before_bytes.Tie as tie
+use Rattle.keys.proofs.order.before_bytes.Statement.{statement}
+use Rattle.keys.proofs.order.before_bytes.Tie as tie
 
 abbrev Inv-loop : tie.InvT-loop
 Inv-loop s p t q size i₀ i = (i ≤ size) × (take i (drop p s) ≡ take i (drop q t))
