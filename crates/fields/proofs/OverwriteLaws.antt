@@ -6,7 +6,7 @@ use native.Mathlib.Nat.{add-zero, zero-add, suc-add}
 use native.Mathlib.Numerals.{add-one}
 use native.Mathlib.Omega.{arith}
 use lib.ListN.{length, take, drop, getD, set, length-append, length-drop, take-append-drop, drop-of-length-le}
-use lib.Seq.{take-append-le, take-at, drop-at, getD-at, set-at, drop-drop, take-take, take-suc, drop-cons, length-take-le, getD-take, drop-append-add, take-nil, take-all, set-split}
+use lib.Seq.{take-append-le, drop-append-le, take-at, drop-at, getD-at, set-at, drop-drop, take-take, take-add, take-suc, drop-cons, length-take-le, getD-take, drop-append-add, take-nil, take-all, set-split}
 use Rattle.fields.specs.Number.{fromBe, toBe}
 use Rattle.fields.specs.Overwrite.{overwritten}
 use Rattle.fields.proofs.NumberLaws.{length-toBe, fromBe-toBe}
