@@ -12,9 +12,10 @@ use lib.Seq.{take-append-le, drop-append-le, take-at, drop-at, drop-drop, take-t
 use Rattle.fields.specs.Zero.{zeros}
 use Rattle.fields.specs.Overwrite.{overwritten}
 use Rattle.fields.specs.Entries.{entries, entry, joined, insertedAt, removedAt, replaced}
-use Rattle.fields.proofs.EachLaws.{Each}
 use Rattle.fields.proofs.ZeroLaws.{length-zeros, zeros-append, drop-zeros}
 use Rattle.fields.proofs.OverwriteLaws.{drop-take, length-overwritten, overwritten-within}
+use Rattle.fields.specs.Facts.{All, Bytes}
+use Rattle.fields.proofs.NumberLaws.{bytes-nil, bytes-append, bytes-take, bytes-drop}
 
 module _ (width : ℕ) where
   pub length-entries : (n : ℕ) (bytes : List ℕ) → length (entries width n bytes) ≡ n
@@ -82,7 +83,15 @@ entry-front width i size bytes h = take-take size width (drop (i * width) bytes)
 
 -- each entry is `width` bytes long
 abbrev pub Wide : ℕ → List (List ℕ) → Type 0
-Wide width = Each (λ (e : List ℕ). length e ≡ width)
+Wide width = All (λ (e : List ℕ). length e ≡ width)
+
+pub joined-bytes : (es : List (List ℕ)) → All Bytes es → Bytes (joined es)
+joined-bytes [] f = bytes-nil
+joined-bytes (e ∷ es) f = bytes-append e (joined es) (f .0) (joined-bytes es (f .1))
+
+pub entries-bytes : (width n : ℕ) (bytes : List ℕ) → Bytes bytes → All Bytes (entries width n bytes)
+entries-bytes width zero bytes f = tt
+entries-bytes width (suc n) bytes f = (bytes-take width bytes f, entries-bytes width n (drop width bytes) (bytes-drop width bytes f))
 
 pub joined-append : (es fs : List (List ℕ)) → joined (es ++ fs) ≡ joined es ++ joined fs
 joined-append [] fs = refl

@@ -10,7 +10,6 @@ use lib.Dec.{eqb}
 use lib.ListN.{length, drop, getD}
 use lib.Seq.{drop-cons}
 use Rattle.fields.specs.Filter.{consIf, kept, marked}
-use Rattle.fields.proofs.EachLaws.{Each}
 
 module _ {ℓ} {A : Type ℓ} where
   length-consIf : (t : Bool) (x : A) (xs : List A) → length (consIf t x xs) ≤ suc (length xs)
@@ -60,27 +59,3 @@ module _ {ℓ} {A : Type ℓ} where
   pub marked-end : (marks : List ℕ) → _≡_ {A = List A} (marked marks []) []
   marked-end [] = refl
   marked-end (m ∷ marks) = refl
-
--- a property of each element is one of each that is left
-module _ {A : Type 0} (P : A → Type 0) where
-  each-consIf : (t : Bool) (x : A) (xs : List A) → P x → Each P xs → Each P (consIf t x xs)
-  each-consIf true x xs p q = (p, q)
-  each-consIf false x xs p q = q
-
-  pub each-kept : (test : A → Bool) (xs : List A) → Each P xs → Each P (kept test xs)
-  each-kept test [] p = tt
-  each-kept test (x ∷ xs) p = each-consIf (test x) x (kept test xs) (p .0) (each-kept test xs (p .1))
-
-  pub each-marked : (marks : List ℕ) (xs : List A) → Each P xs → Each P (marked marks xs)
-  each-marked [] xs p = tt
-  each-marked (m ∷ marks) [] p = tt
-  each-marked (m ∷ marks) (x ∷ xs) p = each-consIf (eqb m 1) x (marked marks xs) (p .0) (each-marked marks xs (p .1))
-
--- each element that is kept passes the test
-pub each-passes : {A : Type 0} (test : A → Bool) (xs : List A) → Each (λ (x : A). test x ≡ true) (kept test xs)
-each-passes test [] = tt
-each-passes test (x ∷ xs) = one (test x) refl (each-passes test xs)
-  where
-    one : (t : Bool) → test x ≡ t → Each (λ y. test y ≡ true) (kept test xs) → Each (λ y. test y ≡ true) (consIf t x (kept test xs))
-    one true e p = (e, p)
-    one false e p = p

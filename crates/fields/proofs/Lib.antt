@@ -2,7 +2,10 @@ pub mod NumberLaws
 pub mod OverwriteLaws
 pub mod ZeroLaws
 pub mod OrderLaws
-pub mod EachLaws
+pub mod AllLaws
 pub mod EntriesLaws
 pub mod FilterLaws
 pub mod RisingLaws
+pub mod SortLaws
+pub mod PartLaws
+pub mod TotalLaws

@@ -7,12 +7,10 @@ use native.Mathlib.Numerals.{add-one}
 use native.Mathlib.Omega.{arith}
 use lib.ListN.{length, take, drop, getD, length-append, length-drop, drop-of-length-le}
 use lib.Seq.{drop-cons, drop-drop, take-add, length-take-le, getD-take, getD-drop}
+use Rattle.fields.specs.Facts.{Bytes}
 use Rattle.fields.specs.Number.{fromBe, fromBeAfter, toBe}
 
 -- ---- every byte is below 256
-
-abbrev pub Bytes : List ℕ → Type 0
-Bytes bs = (i : ℕ) → getD bs i 0 < 256
 
 pub bytes-nil : Bytes []
 bytes-nil i = omega arith

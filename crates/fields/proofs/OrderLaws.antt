@@ -12,7 +12,8 @@ use lib.Seq.{take-add, drop-drop, length-take-le}
 use borrow.Author.Tests.{ltb-true, ltb-false, eqb-true, eqb-false, lt-ltb, le-ltb, eq-eqb, ne-eqb}
 use Rattle.fields.specs.Number.{fromBe}
 use Rattle.fields.specs.Order.{before, same}
-use Rattle.fields.proofs.NumberLaws.{Bytes, bytes-tail, bytes-take, bytes-drop, fromBe-cons, fromBe-below, fromBe-injective}
+use Rattle.fields.specs.Facts.{Bytes}
+use Rattle.fields.proofs.NumberLaws.{bytes-tail, bytes-take, bytes-drop, fromBe-cons, fromBe-below, fromBe-injective}
 
 -- ---- tests
 
@@ -23,6 +24,22 @@ and-left false b e = e
 pub and-right : (a b : Bool) → a && b ≡ true → b ≡ true
 and-right true b e = e
 and-right false b e = absurd (false≢true e)
+
+pub neither : (a b : Bool) → a || b ≡ false → (a ≡ false) × (b ≡ false)
+neither true b e = absurd (false≢true (sym e))
+neither false b e = (refl, e)
+
+pub or-left : (a b : Bool) → a ≡ true → a || b ≡ true
+or-left a b e = rw e
+
+pub or-right : (a b : Bool) → b ≡ true → a || b ≡ true
+or-right true b e = refl
+or-right false b e = e
+
+pub or-swap : (a b c : Bool) → a || (b || c) ≡ b || (a || c)
+or-swap true true c = refl
+or-swap true false c = refl
+or-swap false b c = refl
 
 pub not-both : (a : Bool) → a ≡ true → a ≡ false → ⊥
 not-both a p q = false≢true (sym q ∙ p)

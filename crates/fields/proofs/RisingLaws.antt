@@ -12,10 +12,10 @@ use Rattle.fields.specs.Order.{before}
 use Rattle.fields.specs.Entries.{entries, rising, insertedAt, removedAt}
 use Rattle.fields.specs.Filter.{consIf, kept, marked}
 use Rattle.fields.proofs.OrderLaws.{and-left, and-right, before-transitive}
-use Rattle.fields.proofs.EachLaws.{Each, each-at, each-map, each-inserted, each-removed}
 use Rattle.fields.proofs.EntriesLaws.{length-entries, entries-at, entry-front}
-use Rattle.fields.proofs.FilterLaws.{each-kept, each-marked}
 use lib.Dec.{eqb}
+use Rattle.fields.specs.Facts.{All}
+use Rattle.fields.proofs.AllLaws.{all-at, all-insertedAt, all-kept, all-marked, all-removedAt, all-weaker}
 
 -- e's key comes before f's
 abbrev pub KeyBefore : ℕ → List ℕ → List ℕ → Type 0
@@ -24,12 +24,12 @@ KeyBefore size e f = before (take size e) (take size f) ≡ true
 -- each key comes before all that follow it
 abbrev pub Ascending : ℕ → List (List ℕ) → Type 0
 Ascending size [] = Unit {0}
-Ascending size (e ∷ es) = Each (KeyBefore size e) es × Ascending size es
+Ascending size (e ∷ es) = All (KeyBefore size e) es × Ascending size es
 
 module _ (size : ℕ) where
-  rising-first : (e f : List ℕ) (es : List (List ℕ)) → KeyBefore size e f → Each (KeyBefore size f) es → Each (KeyBefore size e) (f ∷ es)
+  rising-first : (e f : List ℕ) (es : List (List ℕ)) → KeyBefore size e f → All (KeyBefore size f) es → All (KeyBefore size e) (f ∷ es)
   rising-first e f es h p =
-      (h, each-map (KeyBefore size f) (KeyBefore size e) (λ g q. before-transitive (take size e) (take size f) (take size g) h q) es p)
+      (h, all-weaker (KeyBefore size f) (KeyBefore size e) (λ g q. before-transitive (take size e) (take size f) (take size g) h q) es p)
 
   pub rising-ascending : (es : List (List ℕ)) → rising size es ≡ true → Ascending size es
   unfolding rising
@@ -48,7 +48,7 @@ module _ (size : ℕ) where
   ascending-at : (es : List (List ℕ)) → Ascending size es → (i j : ℕ) → i < j → j < length es → KeyBefore size (getD es i []) (getD es j [])
   ascending-at [] p i j h l = absurd (not-suc-le-zero l)
   ascending-at (e ∷ es) p zero zero h l = absurd (not-suc-le-zero h)
-  ascending-at (e ∷ es) p zero (suc j) h l = each-at (KeyBefore size e) es j [] (le-of-suc-le-suc l) (p .0)
+  ascending-at (e ∷ es) p zero (suc j) h l = all-at (KeyBefore size e) es j [] (le-of-suc-le-suc l) (p .0)
   ascending-at (e ∷ es) p (suc i) zero h l = absurd (not-suc-le-zero h)
   ascending-at (e ∷ es) p (suc i) (suc j) h l = ascending-at es (p .1) i j (le-of-suc-le-suc h) (le-of-suc-le-suc l)
 
@@ -87,20 +87,20 @@ module _ (size : ℕ) where
   ascending-removed (suc i) [] p = tt
   ascending-removed zero (e ∷ es) p = p .1
   ascending-removed (suc i) (e ∷ es) p =
-      let q : Each (KeyBefore size e) (take i es ++ drop (suc i) es) = rw add-one at (each-removed (KeyBefore size e) i es (p .0)) in
+      let q : All (KeyBefore size e) (take i es ++ drop (suc i) es) = rw add-one at (all-removedAt (KeyBefore size e) i es (p .0)) in
       (q, ascending-removed i es (p .1))
 
   pub rising-removed : (i : ℕ) (es : List (List ℕ)) → rising size es ≡ true → rising size (removedAt i es) ≡ true
   unfolding removedAt
   rising-removed i es h = rw add-one (ascending-rising (take i es ++ drop (suc i) es) (ascending-removed i es (rising-ascending es h)))
 
-  ascending-consIf : (t : Bool) (e : List ℕ) (es : List (List ℕ)) → Each (KeyBefore size e) es → Ascending size es → Ascending size (consIf t e es)
+  ascending-consIf : (t : Bool) (e : List ℕ) (es : List (List ℕ)) → All (KeyBefore size e) es → Ascending size es → Ascending size (consIf t e es)
   ascending-consIf true e es p q = (p, q)
   ascending-consIf false e es p q = q
 
   ascending-kept : (test : List ℕ → Bool) (es : List (List ℕ)) → Ascending size es → Ascending size (kept test es)
   ascending-kept test [] p = tt
-  ascending-kept test (e ∷ es) p = ascending-consIf (test e) e (kept test es) (each-kept (KeyBefore size e) test es (p .0)) (ascending-kept test es (p .1))
+  ascending-kept test (e ∷ es) p = ascending-consIf (test e) e (kept test es) (all-kept (KeyBefore size e) test es (p .0)) (ascending-kept test es (p .1))
 
   pub rising-kept : (test : List ℕ → Bool) (es : List (List ℕ)) → rising size es ≡ true → rising size (kept test es) ≡ true
   rising-kept test es h = ascending-rising (kept test es) (ascending-kept test es (rising-ascending es h))
@@ -108,7 +108,7 @@ module _ (size : ℕ) where
   ascending-marked : (marks : List ℕ) (es : List (List ℕ)) → Ascending size es → Ascending size (marked marks es)
   ascending-marked [] es p = tt
   ascending-marked (m ∷ marks) [] p = tt
-  ascending-marked (m ∷ marks) (e ∷ es) p = ascending-consIf (eqb m 1) e (marked marks es) (each-marked (KeyBefore size e) marks es (p .0)) (ascending-marked marks es (p .1))
+  ascending-marked (m ∷ marks) (e ∷ es) p = ascending-consIf (eqb m 1) e (marked marks es) (all-marked (KeyBefore size e) marks es (p .0)) (ascending-marked marks es (p .1))
 
   pub rising-marked : (marks : List ℕ) (es : List (List ℕ)) → rising size es ≡ true → rising size (marked marks es) ≡ true
   rising-marked marks es h = ascending-rising (marked marks es) (ascending-marked marks es (rising-ascending es h))
@@ -122,7 +122,7 @@ module _ (size : ℕ) where
   ascending-inserted (suc i) x [] p f g = (tt, tt)
   ascending-inserted zero x (e ∷ es) p f g = (rising-first x e es (g (omega arith)) (p .0), p)
   ascending-inserted (suc i) x (e ∷ es) p f g =
-      let q : Each (KeyBefore size e) (insertedAt i x es) = each-inserted (KeyBefore size e) i x es (f 0 (omega arith) (omega arith)) (p .0) in
+      let q : All (KeyBefore size e) (insertedAt i x es) = all-insertedAt (KeyBefore size e) i x es (f 0 (omega arith) (omega arith)) (p .0) in
       (q, ascending-inserted i x es (p .1) (λ j h l. f (suc j) (omega arith) (omega arith)) (λ h. g (omega arith)))
 
   pub rising-inserted : (i : ℕ) (x : List ℕ) (es : List (List ℕ)) → rising size es ≡ true

@@ -10,6 +10,7 @@ use lib.Dec.{eqb}
 use lib.ListN.{length, take, drop, getD, length-replicate, replicate-append-replicate, drop-of-length-le}
 use lib.Seq.{drop-cons}
 use borrow.Author.Tests.{eqb-true}
+use Rattle.fields.specs.Facts.{Bytes}
 use Rattle.fields.specs.Zero.{zeros, allZero}
 use Rattle.fields.proofs.OrderLaws.{and-left, and-right}
 
@@ -23,6 +24,9 @@ pub zeros-at : (n i : ℕ) → getD (zeros n) i 0 ≡ 0
 zeros-at zero i = refl
 zeros-at (suc n) zero = refl
 zeros-at (suc n) (suc i) = zeros-at n i
+
+pub zeros-bytes : (n : ℕ) → Bytes (zeros n)
+zeros-bytes n i = rw (zeros-at n i) (omega arith)
 
 pub take-zeros : (n i : ℕ) → i ≤ n → take i (zeros n) ≡ zeros i
 take-zeros n zero h = refl

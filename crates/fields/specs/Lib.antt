@@ -1,3 +1,4 @@
+pub mod Facts
 pub mod Number
 pub mod Overwrite
 pub mod Zero

@@ -8,7 +8,7 @@ use lib.Dec.{ltb, eqb}
 use lib.ListN.{length, take, drop}
 use Rattle.fields.specs.Number.{fromBe}
 use Rattle.fields.specs.Order.{before, same}
-use Rattle.fields.proofs.NumberLaws.{Bytes}
+use Rattle.fields.specs.Facts.{Bytes}
 use Rattle.fields.proofs.OrderLaws.{word-before, word-same, words-before, words-same}
 
 abbrev pub word : List ℕ → ℕ → ℕ

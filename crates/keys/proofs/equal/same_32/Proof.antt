@@ -2,7 +2,7 @@
 use borrow.Author.Needs.{needs}
 use native.Mathlib.Omega.{arith}
 use mathlib.Core.Path.{sym}
-use Rattle.fields.proofs.NumberLaws.{Bytes}
+use Rattle.fields.specs.Facts.{Bytes}
 use Rattle.keys.proofs.FourWordLaws.{four-same}
 use Rattle.keys.proofs.equal.same_32.Statement.{statement}
 use Rattle.keys.proofs.equal.same_32.Tie as tie

@@ -5,7 +5,7 @@ use Prim.Native.Nat.{_+_, _-_, _<_}
 use mathlib.Core.Path.{_≡_, refl, sym, ap, _∙_}
 use lib.ListN.{take, drop}
 use lib.Seq.{take-take}
-use Rattle.fields.proofs.NumberLaws.{Bytes}
+use Rattle.fields.specs.Facts.{Bytes}
 use Rattle.fields.proofs.OrderLaws.{differ-same, equal-next, last-same}
 use Rattle.keys.proofs.equal.same_words.Statement.{statement}
 use Rattle.keys.proofs.equal.same_words.Tie as tie

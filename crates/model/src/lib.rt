@@ -1,0 +1,16 @@
+// Document 01 as definitions (specs/), and demand 3 proved over them (proofs/).
+//
+// Here only the numbers that code and definitions share, under the names that the Rust gives them.
+
+pub const TRANSACTION_TYPE_ID: u8 = 2;
+
+pub const HEADER_TYPE_ID: u8 = 101;
+
+pub const BLOCK_TRANSACTIONS_TYPE_ID: u8 = 102;
+
+pub const AD_PROOFS_TYPE_ID: u8 = 104;
+
+pub const EXTENSION_TYPE_ID: u8 = 108;
+
+// Most ids one request may carry.
+pub const MAX_MODIFIER_REQUEST_IDS: usize = 400;

@@ -1,0 +1,3 @@
+pub mod MergeLaws
+pub mod KeyLaws
+pub mod LoopLaws
