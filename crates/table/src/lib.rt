@@ -5,5 +5,5 @@
 pub mod edit;
 pub mod find;
 pub mod keep;
-pub mod moves;
+mod moves;
 pub mod rising;
