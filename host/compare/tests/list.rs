@@ -1,0 +1,33 @@
+//! The fixed list: its text form, the reference's answers, and the variants.
+
+use keeper_compare::{list, play, tell};
+use keeper_reference::Reference;
+
+const LIST: &str = include_str!("../../fixed/streams.txt");
+
+#[test]
+fn under_a_megabyte() {
+    assert!(LIST.len() < 1_000_000);
+}
+
+#[test]
+fn written_as_it_is_read() {
+    let lines = list::read(LIST).expect("every line is one");
+    assert_eq!(list::write(&lines), LIST);
+}
+
+#[test]
+fn the_reference_answers_so() {
+    let lines = list::read(LIST).expect("every line is one");
+    assert!(play::replay(&Reference::plain(), &lines).is_ok());
+}
+
+#[test]
+fn every_variant_is_told_apart() {
+    let lines = list::read(LIST).expect("every line is one");
+    let variants = keeper_variants::all();
+    assert!(variants.len() >= 50);
+    for told in tell::table(&variants, &lines) {
+        assert!(told.streams > 0, "{}", told.variant.fault);
+    }
+}
