@@ -15,7 +15,8 @@ const LIST: &str = include_str!("../../fixed/streams.txt");
 /// Time that the quick command gives to random streams under the oracle.
 const QUICK_RANDOM: Duration = Duration::from_secs(12);
 
-const NO_SOURCE: &str = "oracle: SKIPPED, the original Rust was not found when this was built (docs/src/sync/src beside \
+const NO_SOURCE: &str =
+    "oracle: SKIPPED, the original Rust was not found when this was built (shared/docs/src beside \
 the project, or KEEPER_RUST_SRC)";
 
 /// A seed that differs from run to run; it is printed, so that a run can be repeated.

@@ -3,13 +3,14 @@
 mod areas;
 mod calls;
 mod checks;
+mod control;
 mod delivery;
 mod heights;
 mod losses;
 mod messages;
 mod requests;
 mod results;
-mod sessions;
+
 mod ticks;
 
 use keeper_reference::{Reference, Rules};
@@ -40,7 +41,7 @@ pub fn all() -> Vec<Variant> {
         heights::variants(),
         checks::variants(),
         messages::variants(),
-        sessions::variants(),
+        control::variants(),
         losses::variants(),
         ticks::variants(),
         areas::variants(),

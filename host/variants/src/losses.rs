@@ -47,7 +47,7 @@ pub fn variants() -> Vec<Variant> {
             },
         ),
         fault(
-            "losing any peer ends the session",
+            "losing any peer leads to seeking",
             Rules {
                 lost_peer: |run| {
                     run.state.sync_peer = Some(run.inputs.peer);
