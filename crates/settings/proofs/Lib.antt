@@ -1,0 +1,2 @@
+pub mod StalledLaws
+pub mod PeerLaws
