@@ -1,7 +1,7 @@
 -- The loop's invariant: the number read so far, with the bytes that are left, is the number of the whole part.
 use borrow.Author.Needs.{needs}
 use native.Mathlib.Omega.{arith}
-use Prim.Native.Nat.{_+_, _-_, _^_, _≤_, _<_}
+use Prim.Native.Nat.{_-_, _^_, _≤_, _<_}
 use mathlib.Core.Path.{_≡_, sym, _∙_}
 use lib.ListN.{take, drop}
 use Rattle.fields.specs.Number.{fromBe, fromBeAfter}
