@@ -9,7 +9,7 @@ ghost use Rattle.fields.specs.Number.{fromBe, toBe};
 ghost use Rattle.fields.specs.Overwrite.{overwritten};
 
 fn wide(x: u8) -> u64
-    ensures { λ r. ⌜ r ≡ x ⌝ }
+    ensures { λ r. ⌜ (r ≡ x) × (r < 256) ⌝ }
 {
     x as u64
 }
@@ -42,26 +42,37 @@ pub fn write(s: &mut [u8], at: usize, width: usize, n: u64)
     }
 }
 
-// The widths that areas use, each one load or store.
+// Two bytes. Wider numbers are sums of these: of the ways to write such a sum, the one that becomes a single load
+// wherever it is inlined.
+fn pair(s: &[u8], at: usize) -> u64
+    requires { ⌜ at + 2 ≤ length (now s) ⌝ }
+    ensures { λ r. ⌜ (r ≡ fromBe (take 2 (drop at (now (s .entry))))) × (r < 65536) ⌝ }
+{
+    wide(s[at]) * 256 + wide(s[at + 1])
+}
+
 pub fn read_u16(s: &[u8], at: usize) -> u16
     requires { ⌜ at + 2 ≤ length (now s) ⌝ }
     ensures { λ r. ⌜ r ≡ fromBe (take 2 (drop at (now (s .entry)))) ⌝ }
 {
-    read(s, at, 2) as u16
+    pair(s, at) as u16
 }
 
 pub fn read_u32(s: &[u8], at: usize) -> u32
     requires { ⌜ at + 4 ≤ length (now s) ⌝ }
     ensures { λ r. ⌜ r ≡ fromBe (take 4 (drop at (now (s .entry)))) ⌝ }
 {
-    read(s, at, 4) as u32
+    (pair(s, at) * 65536 + pair(s, at + 2)) as u32
 }
 
 pub fn read_u64(s: &[u8], at: usize) -> u64
     requires { ⌜ at + 8 ≤ length (now s) ⌝ }
     ensures { λ r. ⌜ r ≡ fromBe (take 8 (drop at (now (s .entry)))) ⌝ }
 {
-    read(s, at, 8)
+    pair(s, at) * 281474976710656
+        + pair(s, at + 2) * 4294967296
+        + pair(s, at + 4) * 65536
+        + pair(s, at + 6)
 }
 
 pub fn write_u16(s: &mut [u8], at: usize, n: u16)

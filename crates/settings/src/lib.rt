@@ -1,13 +1,14 @@
 // Settings held with their rules, the send clock, the stalled set and the first listed peer, all by value.
 //
 // Every rule that asks whether a request is expired or given up, whether a send is throttled or a peer has stalled asks
-// here. Each function equals its definition in model/specs.
+// here. All function equals its definition in model/specs.
 ghost use mathlib.Core.Path.{_≡_};
 ghost use mathlib.Core.Bool.{not};
 ghost use Prim.Native.Nat.{_≤_};
 ghost use Rattle.model.specs.Settings as model;
 ghost use Rattle.model.specs.Peers as peers;
 ghost use Rattle.settings.specs.Values.{settingsOf, sendClockOf};
+ghost use Rattle.fields.specs.Facts.{All};
 
 pub mod peers;
 pub mod stalled;

@@ -1,7 +1,7 @@
 -- The loop's invariant: the number read so far, with the bytes that are left, is the number of the whole part.
 use borrow.Author.Needs.{needs}
 use native.Mathlib.Omega.{arith}
-use Prim.Native.Nat.{_+_, _-_, _^_, _≤_, _<_}
+use Prim.Native.Nat.{_-_, _^_, _≤_, _<_}
 use mathlib.Core.Path.{_≡_, sym, _∙_}
 use lib.ListN.{take, drop}
 use Rattle.fields.specs.Number.{fromBe, fromBeAfter}
@@ -35,8 +35,7 @@ wide-requires c κs = search needs
 add-v : tie.Need-add-v Inv-loop μ-loop
 add-v c =
     let l = c .before .before .before in
-    let s = l .before .before .args in
-    omega (arith, fits-more (l .loop .i) (l .loop .v) (c .wide .result) (omega arith) (l .loop .inv .1 .1) (omega (arith, c .wide .ensures, c .before .shared-slice-known2 .given (s .at + l .loop .i))) .1)
+    omega (arith, fits-more (l .loop .i) (l .loop .v) (c .wide .result) (omega arith) (l .loop .inv .1 .1) (c .wide .ensures .1) .1)
 
 add-i : tie.Need-add-i Inv-loop μ-loop
 add-i c = search needs
@@ -50,8 +49,8 @@ loop-again c =
     let s = l .before .before .args in (
       omega arith,
       (
-        l .loop .inv .1 .0 ∙ read-turn (s .s .now) (s .at) (s .width) (omega arith) (l .loop .i) (l .loop .v) (c .wide .result) (omega arith) (c .wide .ensures),
-        fits-more (l .loop .i) (l .loop .v) (c .wide .result) (omega arith) (l .loop .inv .1 .1) (omega (arith, c .wide .ensures, c .before .shared-slice-known2 .given (s .at + l .loop .i))) .0,
+        l .loop .inv .1 .0 ∙ read-turn (s .s .now) (s .at) (s .width) (omega arith) (l .loop .i) (l .loop .v) (c .wide .result) (omega arith) (c .wide .ensures .0),
+        fits-more (l .loop .i) (l .loop .v) (c .wide .result) (omega arith) (l .loop .inv .1 .1) (c .wide .ensures .1) .0,
       ),
     )
 
