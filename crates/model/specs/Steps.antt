@@ -228,13 +228,8 @@ module _ (st : State) (a : Args) where
   ticksSynced none = leaves SyncPeerGone seeking []
   ticksSynced (some peer) =
       let advance : Advance = advanceFrom (st .sync .downloaded) in
-      record {
-        outcome = Continue;
-        mode = st .mode;
-        acts = sayTo peer;
-        sync = withDownloaded (withSendClock unmarked sent) (advance .height);
-        inView = advance .inView;
-      }
+      let sync : Sync = withDownloaded (withSendClock unmarked sent) (advance .height) in
+      record { outcome = Continue; mode = st .mode; acts = sayTo peer; sync = sync; inView = advance .inView }
 
   -- "Progress runs rule 4; in syncing it first sets last progress to the clock and empties the stalled set, and afterwards tries
   -- to send, but not again before the next entry or scheduled tick."
@@ -270,13 +265,8 @@ module _ (st : State) (a : Args) where
 
   unfoldable pub evicts : List Id → Plan
   evicts ids =
-      record {
-        outcome = Continue;
-        mode = st .mode;
-        acts = [];
-        sync = withEvicted unmarked (delivery.evictedAfterEviction ids (st .sync .evicted));
-        inView = true;
-      }
+      let sync : Sync = withEvicted unmarked (delivery.evictedAfterEviction ids (st .sync .evicted)) in
+      record { outcome = Continue; mode = st .mode; acts = []; sync = sync; inView = true }
 
   unfoldable pub planOf : Step → Plan
   planOf start = advances seeking
