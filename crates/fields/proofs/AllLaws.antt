@@ -79,6 +79,7 @@ module _ {A : Type 0} (P : A → Type 0) where
   pub all-removedAt : (i : ℕ) (xs : List A) → All P xs → All P (removedAt i xs)
   unfolding removedAt
   all-removedAt i xs q = all-append P (take i xs) (drop (i + 1) xs) (all-take P i xs q) (all-drop P (i + 1) xs q)
+
 pub all-map {ℓ κ ν} : {A : Type ℓ} {B : Type κ} (P : A → Type ν) (Q : B → Type ν) (f : A → B) → ((x : A) → P x → Q (f x)) → (xs : List A) → All P xs → All Q (map f xs)
 all-map P Q f g [] p = tt
 all-map P Q f g (x ∷ xs) p = (g x (p .0), all-map P Q f g xs (p .1))
