@@ -1,21 +1,21 @@
 -- A search of a table whose keys rise: how it goes, and what its answer means.
 use Prim.Native.Nat.{ℕ, zero, suc, _+_, _-_, _*_, _≤_, _<_}
-use mathlib.Core.Path.{_≡_, refl, _∙_}
-use mathlib.Core.Bool.{Bool, true, false, cond}
+use mathlib.Core.Path.{_≡_, refl, sym, _∙_}
+use mathlib.Core.Bool.{Bool, true, false, not, cond}
 use mathlib.Core.Logic.{⊎-elim}
 use mathlib.Core.List.{List, [], _∷_}
 use native.Mathlib.Nat.{eq-or-lt-of-le, lt-irrefl, not-suc-le-zero, le-of-suc-le-suc}
 use native.Mathlib.Numerals.{add-one}
 use native.Mathlib.Omega.{arith}
 use lib.Dec.{ltb}
-use borrow.Author.Tests.{ltb-true, ltb-false}
+use borrow.Author.Tests.{ltb-true, ltb-false, not-true, not-false}
 use lib.ListN.{length, take, drop, getD, drop-of-length-le}
 use lib.Seq.{drop-cons, take-length}
 use Rattle.fields.specs.Order.{before, same}
 use Rattle.fields.specs.Entries.{entries, entry, rising, insertedAt}
 use Rattle.fields.proofs.OrderLaws.{same-eq, same-refl, same-sym, before-irreflexive, before-transitive, before-not-same, before-or-same}
 use Rattle.fields.proofs.EntriesLaws.{entries-at, entry-front}
-use Rattle.fields.proofs.RisingLaws.{rising-at, rising-inserted}
+use Rattle.fields.proofs.RisingLaws.{rising-at, rising-inserted, rising-pair}
 use Rattle.table.specs.Find.{found}
 use Rattle.table.specs.declared.find.Found.{Found}
 use Rattle.table.specs.declared.find.Found.the-variants.{At, Gap}
@@ -61,11 +61,11 @@ module _ (key table : List ℕ) (width count i : ℕ) (h : i < count) (l : lengt
   key-at : take (length key) (getD (entries width count table) i []) ≡ take (length key) (drop (i * width) table)
   key-at = rw (entries-at width count i table h) (entry-front width i (length key) table l)
 
-  pub compared-before : (b : Bool) → before (take (length key) (drop (i * width) table)) (take (length key) key) ≡ b → Below key (entries width count table) i b
-  compared-before b e = rw key-at (rw (take-length key) at e)
+  pub compared-before : (b answer : Bool) → answer ≡ before (take (length key) (drop (i * width) table)) (take (length key) key) → answer ≡ b → Below key (entries width count table) i b
+  compared-before b answer asked e = rw key-at (rw (take-length key) at (sym asked ∙ e))
 
-  pub compared-same : (b : Bool) → same (take (length key) (drop (i * width) table)) (take (length key) key) ≡ b → Here key (entries width count table) i b
-  compared-same b e = rw key-at (rw (take-length key) at e)
+  pub compared-same : (b answer : Bool) → answer ≡ same (take (length key) (drop (i * width) table)) (take (length key) key) → answer ≡ b → Here key (entries width count table) i b
+  compared-same b answer asked e = rw key-at (rw (take-length key) at (sym asked ∙ e))
 
 -- ---- what the answer means
 
@@ -179,3 +179,14 @@ module _ (key : List ℕ) where
       (λ j m. rw k at (rising-at (length key) es r j i m l))
       (rw k (before-irreflexive key))
       (rw k (same-refl key))
+
+-- ---- whether the keys rise, by neighbours
+
+module _ (width count size i : ℕ) (table : List ℕ) (p : 0 < i) (h : i < count) (l : size ≤ width)
+    (so-far : rising size (entries width count table) ≡ rising size (drop (i - 1) (entries width count table)))
+    (answer : Bool) (asked : answer ≡ before (take size (drop ((i - 1) * width) table)) (take size (drop (i * width) table))) where
+  pub rising-breaks : not answer ≡ true → false ≡ rising size (entries width count table)
+  rising-breaks t = sym (so-far ∙ rising-pair width count size i table p h l ∙ rw (sym asked ∙ not-true answer t))
+
+  pub rising-goes-on : not answer ≡ false → rising size (entries width count table) ≡ rising size (drop i (entries width count table))
+  rising-goes-on t = so-far ∙ rising-pair width count size i table p h l ∙ rw (sym asked ∙ not-false answer t)

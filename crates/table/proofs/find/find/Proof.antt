@@ -1,7 +1,7 @@
 -- The loop: the keys below `lo` come before the key, and that of `hi` does not.
 use Prim.Native.Nat.{ℕ, suc, _+_, _-_, _/_, _≤_, _<_}
 use mathlib.Core.Bool.{true, false}
-use mathlib.Core.Path.{_≡_, sym, _∙_}
+use mathlib.Core.Path.{_≡_, sym}
 use mathlib.Core.List.{List}
 use native.Mathlib.Nat.{mul-le-mul-right, lt-irrefl}
 use native.Mathlib.Omega.{arith}
@@ -53,7 +53,7 @@ loop-again c = let l = c .before .before .before in
     let m : ℕ = l .loop .lo + (l .loop .hi - l .loop .lo) / 2 in
     let h : m < a .count = omega arith in
     let es : List (List ℕ) = entries (a .width) (a .count) (a .table .now) in
-    let b : Below (a .key .now) es m true = compared-before (a .key .now) (a .table .now) (a .width) (a .count) m h (s .pre .0 .0) true (sym (c .before .run-before .ensures) ∙ c .if1 .taken) in (
+    let b : Below (a .key .now) es m true = compared-before (a .key .now) (a .table .now) (a .width) (a .count) m h (s .pre .0 .0) true (c .before .run-before .result) (c .before .run-before .ensures) (c .if1 .taken) in (
       omega arith,
       (omega arith, (below-falls (a .key .now) es (s .pre .1) m (rw length-entries h) b, l .loop .inv .1 .1 .1)),
     )
@@ -69,7 +69,7 @@ loop-again-2 c = let l = c .before .before .before in
       omega arith,
       (
         omega arith,
-        (l .loop .inv .1 .1 .0, (λ h. compared-before (a .key .now) (a .table .now) (a .width) (a .count) m h (s .pre .0 .0) false (sym (c .before .run-before .ensures) ∙ c .if1 .left))),
+        (l .loop .inv .1 .1 .0, (λ h. compared-before (a .key .now) (a .table .now) (a .width) (a .count) m h (s .pre .0 .0) false (c .before .run-before .result) (c .before .run-before .ensures) (c .if1 .left))),
       ),
     )
 
@@ -86,7 +86,7 @@ returns c = let l = c .before .before .before .before in
     let e : l .loop .hi ≡ l .loop .lo = omega arith in
     let h : l .loop .lo < a .count = omega arith in
     sym (found-at (a .key .now) (entries (a .width) (a .count) (a .table .now)) (l .loop .lo) (rw length-entries h) (l .loop .inv .1 .1 .0) (rw e at (l .loop .inv .1 .1 .1 (omega arith)))
-    (compared-same (a .key .now) (a .table .now) (a .width) (a .count) (l .loop .lo) h (s .pre .0 .0) true (sym (c .before .run-same .ensures) ∙ c .if3 .taken)))
+    (compared-same (a .key .now) (a .table .now) (a .width) (a .count) (l .loop .lo) h (s .pre .0 .0) true (c .before .run-same .result) (c .before .run-same .ensures) (c .if3 .taken)))
 
 returns-2 : tie.Need-returns-2 Inv-loop μ-loop
 returns-2 c = let l = c .before .before .before .before in
@@ -95,7 +95,7 @@ returns-2 c = let l = c .before .before .before .before in
     let e : l .loop .hi ≡ l .loop .lo = omega arith in
     let h : l .loop .lo < a .count = omega arith in
     sym (found-gap (a .key .now) (entries (a .width) (a .count) (a .table .now)) (l .loop .lo) (rw length-entries h) (l .loop .inv .1 .1 .0) (rw e at (l .loop .inv .1 .1 .1 (omega arith)))
-    (compared-same (a .key .now) (a .table .now) (a .width) (a .count) (l .loop .lo) h (s .pre .0 .0) false (sym (c .before .run-same .ensures) ∙ c .if3 .left)))
+    (compared-same (a .key .now) (a .table .now) (a .width) (a .count) (l .loop .lo) h (s .pre .0 .0) false (c .before .run-same .result) (c .before .run-same .ensures) (c .if3 .left)))
 
 returns-3 : tie.Need-returns-3 Inv-loop μ-loop
 returns-3 c = let l = c .before .before in

@@ -4,11 +4,11 @@ use mathlib.Core.Path.{_≡_, refl, sym, _∙_}
 use native.Mathlib.Nat.{mul-le-mul-right}
 use native.Mathlib.Omega.{arith}
 use lib.ListN.{drop}
-use borrow.Author.Tests.{not-true, not-false}
 use borrow.Author.Needs.{needs}
 use Rattle.fields.specs.Entries.{entries, rising}
 use Rattle.fields.proofs.EntriesLaws.{length-entries}
-use Rattle.fields.proofs.RisingLaws.{rising-pair, rising-end}
+use Rattle.fields.proofs.RisingLaws.{rising-end}
+use Rattle.table.proofs.FindLaws.{rising-breaks, rising-goes-on}
 use Rattle.table.proofs.rising.is_rising.Statement.{statement}
 use Rattle.table.proofs.rising.is_rising.Tie as tie
 
@@ -42,7 +42,7 @@ returns : tie.Need-returns Inv-loop μ-loop
 returns c = let l = c .before .before .before in
     let s = c .before .before .before .before .before in
     let a = s .args in
-    sym (l .loop .inv .1 ∙ rising-pair (a .width) (a .count) (a .size) (l .loop .i) (a .table .now) (omega arith) (omega arith) (s .pre .0) ∙ rw (sym (c .before .run-before .ensures) ∙ not-true _ (c .if1 .taken)))
+    rising-breaks (a .width) (a .count) (a .size) (l .loop .i) (a .table .now) (omega arith) (omega arith) (s .pre .0) (l .loop .inv .1) (c .before .run-before .result) (c .before .run-before .ensures) (c .if1 .taken)
 
 add-i : tie.Need-add-i Inv-loop μ-loop
 add-i c = search needs
@@ -57,7 +57,7 @@ loop-again c = let l = c .before .before .before in
     let e : l .loop .i + 1 - 1 ≡ l .loop .i = omega arith in (
       omega arith,
       rw e
-          (l .loop .inv .1 ∙ rising-pair (a .width) (a .count) (a .size) (l .loop .i) (a .table .now) (omega arith) (omega arith) (s .pre .0) ∙ rw (sym (c .before .run-before .ensures) ∙ not-false _ (c .if1 .left))),
+          (rising-goes-on (a .width) (a .count) (a .size) (l .loop .i) (a .table .now) (omega arith) (omega arith) (s .pre .0) (l .loop .inv .1) (c .before .run-before .result) (c .before .run-before .ensures) (c .if1 .left)),
     )
 
 returns-2 : tie.Need-returns-2 Inv-loop μ-loop
