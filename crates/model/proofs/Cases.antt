@@ -22,9 +22,10 @@ test = refl
 
 each : (table : List Starred) → allAsExpected table ≡ true → All (λ (s : Starred). given (s .case) ≡ s .expected) table
 each [] t = tt
-each (s ∷ others) t =
-    (same-eq (given (s .case)) (s .expected) (and-left (same (given (s .case)) (s .expected)) (allAsExpected others) t),
-      each others (and-right (same (given (s .case)) (s .expected)) (allAsExpected others) t))
+each (s ∷ others) t = (
+  same-eq (given (s .case)) (s .expected) (and-left (same (given (s .case)) (s .expected)) (allAsExpected others) t),
+  each others (and-right (same (given (s .case)) (s .expected)) (allAsExpected others) t),
+)
 
 pub starred-cases : All (λ (s : Starred). given (s .case) ≡ s .expected) starred
 starred-cases = each starred test
