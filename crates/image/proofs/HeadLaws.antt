@@ -1,29 +1,28 @@
 -- The header: written part by part, and what it says of an area and of a state.
-use Prim.Native.Nat.{ℕ, zero, suc, _+_, _-_, _*_, _≤_, _<_}
-use mathlib.Core.Path.{_≡_, refl, sym, ap, _∙_}
-use mathlib.Core.Bool.{Bool, true, false}
-use mathlib.Core.List.{List, [], _∷_, _++_, map, append-assoc, append-nil}
-use native.Mathlib.Nat.{lt-irrefl, zero-add}
+use Prim.Native.Nat.{ℕ, _+_, _-_, _*_, _≤_}
+use mathlib.Core.Path.{_≡_, refl, sym, _∙_}
+use mathlib.Core.Bool.{true}
+use mathlib.Core.List.{List, [], _∷_, _++_, append-assoc, append-nil}
+use native.Mathlib.Nat.{lt-irrefl}
 use native.Mathlib.Omega.{arith}
-use lib.Dec.{eqb}
-use lib.ListN.{length, take, drop, getD, set, length-append, length-map, take-append-drop}
+use lib.ListN.{length, drop, getD, set, length-append, length-map, take-append-drop}
 use Rattle.fields.specs.Number.{fromBe, toBe}
 use Rattle.fields.specs.Entries.{entries}
 use Rattle.fields.specs.Zero.{zeros}
 use Rattle.fields.specs.Overwrite.{overwritten}
-use Rattle.fields.proofs.NumberLaws.{fromBe-one, length-toBe}
-use Rattle.fields.proofs.ZeroLaws.{zeros-append, drop-zeros, length-zeros}
+use Rattle.fields.proofs.NumberLaws.{fromBe-one}
+use Rattle.fields.proofs.ZeroLaws.{zeros-append, drop-zeros}
 use Rattle.fields.proofs.EntriesLaws.{length-entries}
 use Rattle.fields.proofs.OverwriteLaws.{overwritten-next}
 use Rattle.model.specs.Protocol.{Id}
 use Rattle.model.specs.Settings.{Settings}
 use Rattle.model.specs.Delivery.{Request}
 use Rattle.model.specs.State.{State, opened, modeNumber}
-use Rattle.model.specs.Image.{areaSize, bit, field, modeByte, modeOf, headerBytes, requestOf, encode, decode, settingsOf, stalledOf, pendingOf, evictedOf, stalledCount, pendingCount, evictedCount, wellFormed}
+use Rattle.model.specs.Image.{areaSize, bit, modeByte, modeOf, headerBytes, requestOf, encode, decode, settingsOf, stalledOf, pendingOf, evictedOf, stalledCount, pendingCount, evictedCount, wellFormed}
 use Rattle.model.proofs.Well.{Well}
 use Rattle.model.proofs.HeaderLaws.{bit-of, number-of-mode}
 use Rattle.model.proofs.FormedLaws.{formed}
-use Rattle.model.proofs.ImageLaws.{Sized, Laid, fromHeaderRest, length-header, take-header, drop-header, sized-length, encode-length, well-sized, well-laid}
+use Rattle.model.proofs.ImageLaws.{Sized, take-header, drop-header, encode-length, well-laid}
 use Rattle.image.specs.declared.head.Head.{Head}
 use Rattle.image.specs.Heads.{headIn, headBytes, headOf}
 

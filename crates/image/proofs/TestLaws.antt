@@ -1,7 +1,7 @@
 -- The test of an image in parts: tables entry by entry, and the parts together.
 use Prim.Native.Nat.{ℕ, zero, suc, _+_, _-_, _*_, _≤_, _<_}
 use mathlib.Core.Path.{_≡_, refl, sym, ap, _∙_}
-use mathlib.Core.Bool.{Bool, true, false, not, _&&_, _||_, cond}
+use mathlib.Core.Bool.{Bool, true, false, not, _&&_, _||_}
 use mathlib.Core.List.{List, [], _∷_, map}
 use native.Mathlib.Nat.{lt-irrefl}
 use native.Mathlib.Numerals.{add-one}
@@ -15,12 +15,12 @@ use Rattle.fields.specs.Number.{fromBe}
 use Rattle.fields.specs.Order.{same}
 use Rattle.fields.specs.Entries.{entries, entry, rising}
 use Rattle.fields.proofs.NumberLaws.{fromBe-one}
-use Rattle.fields.proofs.OrderLaws.{and-left, and-right}
+use Rattle.fields.proofs.OrderLaws.{and-left, and-right, or-false}
 use Rattle.fields.proofs.EntriesLaws.{length-entries, entries-take, entries-at, length-entry, entry-field}
 use Rattle.model.specs.Settings.{Settings, mostRequests}
-use Rattle.model.specs.State.{Mode, syncing, isMode, hasSyncPeer}
+use Rattle.model.specs.State.{syncing, isMode, hasSyncPeer}
 use Rattle.model.specs.Peers.{isListed}
-use Rattle.model.specs.Image.{field, bit, modeOf, modeByte, requestOf, requestFits, allFit, typesNarrow, noneTwice, settingsOf, lastClockOf, pendingOf, stalledOf, pendingCount, stalledCount, evictedCount, marksFit, countsFit, clocksFit, unusedZero, wellFormed}
+use Rattle.model.specs.Image.{field, modeOf, modeByte, requestOf, requestFits, allFit, typesNarrow, noneTwice, settingsOf, lastClockOf, pendingOf, stalledOf, pendingCount, stalledCount, evictedCount, marksFit, countsFit, clocksFit, unusedZero, wellFormed}
 use Rattle.settings.specs.Values as values
 use Rattle.settings.specs.Values.{elements, stalledPeers}
 use Rattle.settings.specs.declared.Settings as declared
@@ -43,6 +43,7 @@ same-three (x ∷ (y ∷ (z ∷ s))) a b c h = go (eqb x a) (eqb y b) (eqb z c)
     go true true false = refl
     go true true true = refl
 
+-- a byte above 3 is none of these
 other : (n k : ℕ) → k < 4 → eqb (suc (suc (suc (suc n)))) k ≡ false
 other n k h = ne-eqb (suc (suc (suc (suc n)))) k (λ e. lt-irrefl 0 (omega arith))
 
@@ -63,15 +64,11 @@ peer-byte (suc (suc zero)) = refl
 peer-byte (suc (suc (suc zero))) = refl
 peer-byte (suc (suc (suc (suc n)))) = rw (other n 0 (omega arith), other n 1 (omega arith), other n 2 (omega arith), other n 3 (omega arith))
 
--- ---- stalled peers
+-- ---- answers so far
 
 or-turn : (found a b : Bool) → found || (a || b) ≡ (found || a) || b
 or-turn true a b = refl
 or-turn false a b = refl
-
-or-end : (found : Bool) → found || false ≡ found
-or-end true = refl
-or-end false = refl
 
 and-turn : (ok a b : Bool) → ok && (a && b) ≡ (ok && a) && b
 and-turn true a b = refl
@@ -81,6 +78,15 @@ and-end : (ok : Bool) → ok && true ≡ ok
 and-end true = refl
 and-end false = refl
 
+both-turn : (ok a b x y : Bool) → ok && ((a && x) && (b && y)) ≡ (ok && (a && b)) && (x && y)
+both-turn false a b x y = refl
+both-turn true false b x y = refl
+both-turn true true true x y = refl
+both-turn true true false true y = refl
+both-turn true true false false y = refl
+
+-- ---- stalled peers
+
 module _ (places : List ℕ) (n i : ℕ) where
   pub listed-turn : (found : Bool) (peer : ℕ) → i < n
       → found || isListed peer (elements (n - i) i places) ≡ (found || eqb peer (getD places i 0)) || isListed peer (elements (n - (i + 1)) (i + 1) places)
@@ -88,7 +94,7 @@ module _ (places : List ℕ) (n i : ℕ) where
       rw (elements-next n i places h) (or-turn found (eqb peer (getD places i 0)) (isListed peer (elements (n - (i + 1)) (i + 1) places)))
 
   pub listed-end : (found : Bool) (peer : ℕ) → n ≤ i → found || isListed peer (elements (n - i) i places) ≡ found
-  listed-end found peer h = rw (elements-end n i places h) (or-end found)
+  listed-end found peer h = rw (elements-end n i places h) (or-false found)
 
   pub once-turn : (ok : Bool) → i < n
       → ok && noneTwice (elements (n - i) i places) ≡ (ok && not (isListed (getD places i 0) (elements (n - (i + 1)) (i + 1) places))) && noneTwice (elements (n - (i + 1)) (i + 1) places)
@@ -119,13 +125,6 @@ module _ (settings : Settings) (clock : ℕ) where
 
   abbrev pub recordsFit : List (List ℕ) → Bool
   recordsFit es = allFit settings clock (map requestOf es) && typesNarrow es
-
-both-turn : (ok a b x y : Bool) → ok && ((a && x) && (b && y)) ≡ (ok && (a && b)) && (x && y)
-both-turn false a b x y = refl
-both-turn true false b x y = refl
-both-turn true true true x y = refl
-both-turn true true false true y = refl
-both-turn true true false false y = refl
 
 module _ (settings : Settings) (clock count i : ℕ) (region : List ℕ) where
   pub fits-turn : (ok : Bool) → i < count
@@ -190,7 +189,7 @@ and-false true true true true e = refl
 
 together : (mark version mode marks rise once clocks fit peer header places narrow between : Bool)
     → ((mark && (version && mode)) && (marks && clocks)) && ((rise && (once && (fit && narrow))) && (peer && (header && (places && between))))
-    ≡ mark && (version && (mode && (marks && (true && (rise && (once && (clocks && (fit && (peer && (header && (places && (narrow && between)))))))))))) 
+    ≡ mark && (version && (mode && (marks && (true && (rise && (once && (clocks && (fit && (peer && (header && (places && (narrow && between))))))))))))
 together false version mode marks rise once clocks fit peer header places narrow between = refl
 together true false mode marks rise once clocks fit peer header places narrow between = refl
 together true true false marks rise once clocks fit peer header places narrow between = refl
@@ -237,6 +236,7 @@ module _ (area : List ℕ) where
 
   pub counts-few : countsFit area ≡ true → (stalledCount area ≤ 256) × (pendingCount area + evictedCount area ≤ 1024)
   unfolding countsFit
-  counts-few h =
-      (leb-true (stalledCount area) 256 (and-left (leb (stalledCount area) 256) (leb (pendingCount area + evictedCount area) 1024) h),
-      leb-true (pendingCount area + evictedCount area) 1024 (and-right (leb (stalledCount area) 256) (leb (pendingCount area + evictedCount area) 1024) h))
+  counts-few h = (
+    leb-true (stalledCount area) 256 (and-left (leb (stalledCount area) 256) (leb (pendingCount area + evictedCount area) 1024) h),
+    leb-true (pendingCount area + evictedCount area) 1024 (and-right (leb (stalledCount area) 256) (leb (pendingCount area + evictedCount area) 1024) h),
+  )

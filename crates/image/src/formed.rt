@@ -1,6 +1,6 @@
 // Number 2 of the refusals: whether an image is well formed, exactly.
 //
-// One function a line or two of the definition, each named after it.
+// The parts stand in the definition's order and keep its names.
 ghost use mathlib.Core.Path.{_≡_};
 ghost use mathlib.Core.Bool.{_&&_, _||_};
 ghost use mathlib.Core.List.{[], _∷_, map};
@@ -44,14 +44,6 @@ fn marks_fit(area: &[u8]) -> bool
     (area[6] <= most) & (area[7] <= most)
 }
 
-// The number of entries that the header gives a table.
-pub fn count_at(area: &[u8], at: usize) -> usize
-    requires { ⌜ at + 2 ≤ length (now area) ⌝ }
-    ensures { λ r. ⌜ r ≡ field at 2 (now (area .entry)) ⌝ }
-{
-    fields::read_u16(area, at) as usize
-}
-
 fn counts_fit(area: &[u8]) -> bool
     requires { ⌜ 74 ≤ length (now area) ⌝ }
     ensures { λ r. ⌜ r ≡ image.countsFit (now (area .entry)) ⌝ }
@@ -77,7 +69,7 @@ fn ids_rise(area: &[u8]) -> bool
     requires { ⌜ image.pendingCount (now area) ≤ 1024 ⌝ }
     ensures { λ r. ⌜ r ≡ rising 32 (entries 54 (image.pendingCount (now (area .entry))) (drop 2560 (now (area .entry)))) ⌝ }
 {
-    let pending = count_at(area, 70);
+    let pending = crate::head::count_at(area, 70);
     table::rising::is_rising(&area[2560..], 54, pending, 32)
 }
 
@@ -113,7 +105,7 @@ fn stalled_once(area: &[u8]) -> bool
     requires { ⌜ image.stalledCount (now area) ≤ 256 ⌝ }
     ensures { λ r. ⌜ r ≡ noneTwice (image.stalledOf (now (area .entry))) ⌝ }
 {
-    let count = count_at(area, 68);
+    let count = crate::head::count_at(area, 68);
     let stalled = settings::stalled::read_stalled(&area[512..2560], count);
     let peers = stalled.peers;
     is_none_twice(&peers, count)
@@ -152,7 +144,7 @@ fn pending_fits(area: &[u8]) -> bool
     ensures { λ r. ⌜ r ≡ allFit (image.settingsOf (now (area .entry))) (image.lastClockOf (now (area .entry))) (image.pendingOf (now (area .entry))) && typesNarrow (entries 54 (image.pendingCount (now (area .entry))) (drop 2560 (now (area .entry)))) ⌝ }
 {
     let clock = fields::read_u64(area, 8);
-    let pending = count_at(area, 70);
+    let pending = crate::head::count_at(area, 70);
     let settings = crate::head::read_settings(area);
     records_fit(&area[2560..], pending, settings, clock)
 }
@@ -173,9 +165,9 @@ fn room_is_zero(area: &[u8]) -> bool
     requires { ⌜ image.pendingCount (now area) + image.evictedCount (now area) ≤ 1024 ⌝ }
     ensures { λ r. ⌜ r ≡ allZero (take 438 (drop 74 (now (area .entry)))) && (allZero (take ((256 - image.stalledCount (now (area .entry))) * 8) (drop (512 + image.stalledCount (now (area .entry)) * 8) (now (area .entry)))) && allZero (take (62976 - image.pendingCount (now (area .entry)) * 54 - image.evictedCount (now (area .entry)) * 32) (drop (2560 + image.pendingCount (now (area .entry)) * 54) (now (area .entry))))) ⌝ }
 {
-    let stalled = 512 + count_at(area, 68) * 8;
-    let pending = 2560 + count_at(area, 70) * 54;
-    let evicted = 65536 - count_at(area, 72) * 32;
+    let stalled = 512 + crate::head::count_at(area, 68) * 8;
+    let pending = 2560 + crate::head::count_at(area, 70) * 54;
+    let evicted = 65536 - crate::head::count_at(area, 72) * 32;
     let header = scratch::is_zero(&area[74..512]);
     let places = scratch::is_zero(&area[stalled..2560]);
     let between = scratch::is_zero(&area[pending..evicted]);

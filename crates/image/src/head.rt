@@ -1,12 +1,12 @@
 // The header of the state area, by value.
 ghost use mathlib.Core.Path.{_≡_};
 ghost use mathlib.Core.List.{[], _∷_, _++_};
-ghost use Prim.Native.Nat.{_≤_};
+ghost use Prim.Native.Nat.{_+_, _≤_};
 ghost use lib.ListN.{length};
 ghost use Rattle.fields.specs.Number.{toBe};
 ghost use Rattle.fields.specs.Overwrite.{overwritten};
 ghost use Rattle.model.specs.State.{opened};
-ghost use Rattle.model.specs.Image.{bit, encode};
+ghost use Rattle.model.specs.Image.{bit, field, encode};
 ghost use Rattle.settings.specs.Values.{settingsOf};
 ghost use Rattle.image.specs.Heads.{headIn, headBytes};
 use settings::SendClock;
@@ -26,6 +26,14 @@ pub struct Head {
     pub stalled: usize,
     pub pending: usize,
     pub evicted: usize,
+}
+
+// The number of entries that the header gives a table.
+pub fn count_at(area: &[u8], at: usize) -> usize
+    requires { ⌜ at + 2 ≤ length (now area) ⌝ }
+    ensures { λ r. ⌜ r ≡ field at 2 (now (area .entry)) ⌝ }
+{
+    fields::read_u16(area, at) as usize
 }
 
 pub fn read_settings(area: &[u8]) -> Settings
@@ -65,9 +73,9 @@ pub fn read_head(area: &[u8]) -> Head
         peer: fields::read_u64(area, 48),
         downloaded: fields::read_u32(area, 60),
         tip: fields::read_u32(area, 64),
-        stalled: crate::formed::count_at(area, 68),
-        pending: crate::formed::count_at(area, 70),
-        evicted: crate::formed::count_at(area, 72),
+        stalled: count_at(area, 68),
+        pending: count_at(area, 70),
+        evicted: count_at(area, 72),
     }
 }
 

@@ -1,5 +1,6 @@
 // The state area: whether it is well formed, its header by value, and a fresh one.
 //
-// The test reads every byte once and compares neighbouring ids; it costs about what a copy of the area costs.
+// The test is one pass over the pending records, one over their ids and one over what must be zero, and compares the
+// stalled peers in pairs. It costs about one read of the area.
 pub mod formed;
 pub mod head;

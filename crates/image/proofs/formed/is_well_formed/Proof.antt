@@ -1,73 +1,53 @@
 -- The law of the parts together; without counts that fit nothing is well formed.
-use borrow.Author.Tests.{not-true, not-false}
-use Rattle.image.proofs.TestLaws.{counts-refuse, counts-few, parts-formed}
-use borrow.Author.Needs.{needs}
+use mathlib.Core.Path.{sym, _∙_}
 use native.Mathlib.Omega.{arith}
-use Prim.Native.Nat.{ℕ, suc, _+_, _-_, _*_, _≤_, _<_}
-use mathlib.Core.Path.{_≡_, refl, sym, ap, _∙_}
-use mathlib.Core.List.{List, [], _∷_, _++_}
-use lib.ListN.{length, take, drop, getD, set}
+use borrow.Author.Tests.{not-true, not-false}
+use borrow.Author.Needs.{needs}
+use Rattle.image.proofs.TestLaws.{counts-refuse, counts-few, parts-formed}
 use Rattle.image.proofs.formed.is_well_formed.Statement.{statement}
 use Rattle.image.proofs.formed.is_well_formed.Tie as tie
-use Rattle.image.proofs.formed.is_well_formed.Reads as reads
-use Rattle.image.proofs.formed.is_well_formed.Lts as lts
-use Rattle.image.proofs.formed.clocks_fit.Reads as clocks-fit-reads
-use Rattle.image.proofs.formed.counts_fit.Reads as counts-fit-reads
-use Rattle.image.proofs.formed.ids_rise.Reads as ids-rise-reads
-use Rattle.image.proofs.formed.marks_fit.Reads as marks-fit-reads
-use Rattle.image.proofs.formed.peer_fits.Reads as peer-fits-reads
-use Rattle.image.proofs.formed.pending_fits.Reads as pending-fits-reads
-use Rattle.image.proofs.formed.room_is_zero.Reads as room-is-zero-reads
-use Rattle.image.proofs.formed.stalled_once.Reads as stalled-once-reads
-use Rattle.image.proofs.formed.starts_well.Reads as starts-well-reads
 
--- src/formed.rt:190:9
 counts-fit-requires : tie.Need-counts-fit-requires
 counts-fit-requires c κs = search needs
 
--- src/formed.rt:191:9
 returns : tie.Need-returns
 returns c = sym (counts-refuse (c .before .before .before .args .area .now) (sym (c .before .counts-fit .ensures) ∙ not-true _ (c .if1 .taken)))
 
--- src/formed.rt:193:18
 starts-well-requires : tie.Need-starts-well-requires
 starts-well-requires c κs = search needs
 
--- src/formed.rt:193:39
 marks-fit-requires : tie.Need-marks-fit-requires
 marks-fit-requires c κs = search needs
 
--- src/formed.rt:193:57
 clocks-fit-requires : tie.Need-clocks-fit-requires
 clocks-fit-requires c κs = search needs
 
--- src/formed.rt:194:18
 ids-rise-requires : tie.Need-ids-rise-requires
-ids-rise-requires c κs = let few = counts-few (c .before .before .before .before .before .before .args .area .now) (sym (c .before .before .before .before .counts-fit .ensures) ∙ not-false _ (c .before .before .before .if1 .left)) in
+ids-rise-requires c κs =
+    let few = counts-few (c .before .before .before .before .before .before .args .area .now) (sym (c .before .before .before .before .counts-fit .ensures) ∙ not-false _ (c .before .before .before .if1 .left)) in
     (c .before .before .before .before .before .before .pre, omega (arith, few .1))
 
--- src/formed.rt:194:36
 stalled-once-requires : tie.Need-stalled-once-requires
-stalled-once-requires c κs = let few = counts-few (c .before .before .before .before .before .before .before .args .area .now) (sym (c .before .before .before .before .before .counts-fit .ensures) ∙ not-false _ (c .before .before .before .before .if1 .left)) in
+stalled-once-requires c κs =
+    let few = counts-few (c .before .before .before .before .before .before .before .args .area .now) (sym (c .before .before .before .before .before .counts-fit .ensures) ∙ not-false _ (c .before .before .before .before .if1 .left)) in
     (c .before .before .before .before .before .before .before .pre, few .0)
 
--- src/formed.rt:194:57
 pending-fits-requires : tie.Need-pending-fits-requires
-pending-fits-requires c κs = let few = counts-few (c .before .before .before .before .before .before .before .before .args .area .now) (sym (c .before .before .before .before .before .before .counts-fit .ensures) ∙ not-false _ (c .before .before .before .before .before .if1 .left)) in
+pending-fits-requires c κs =
+    let few = counts-few (c .before .before .before .before .before .before .before .before .args .area .now) (sym (c .before .before .before .before .before .before .counts-fit .ensures) ∙ not-false _ (c .before .before .before .before .before .if1 .left)) in
     (c .before .before .before .before .before .before .before .before .pre, omega (arith, few .1))
 
--- src/formed.rt:195:25
 peer-fits-requires : tie.Need-peer-fits-requires
 peer-fits-requires c κs = search needs
 
--- src/formed.rt:195:43
 room-is-zero-requires : tie.Need-room-is-zero-requires
-room-is-zero-requires c κs = let few = counts-few (c .before .before .before .before .before .before .before .before .before .before .args .area .now) (sym (c .before .before .before .before .before .before .before .before .counts-fit .ensures) ∙ not-false _ (c .before .before .before .before .before .before .before .if1 .left)) in
+room-is-zero-requires c κs =
+    let few = counts-few (c .before .before .before .before .before .before .before .before .before .before .args .area .now) (sym (c .before .before .before .before .before .before .before .before .counts-fit .ensures) ∙ not-false _ (c .before .before .before .before .before .before .before .if1 .left)) in
     (c .before .before .before .before .before .before .before .before .before .before .pre, few)
 
--- src/formed.rt:185:1
 returns-2 : tie.Need-returns-2
-returns-2 c = let area = c .before .before .before .before .before .before .before .before .before .before .before .args .area .now in
+returns-2 c =
+    let area = c .before .before .before .before .before .before .before .before .before .before .before .args .area .now in
     let h = sym (c .before .before .before .before .before .before .before .before .before .counts-fit .ensures) ∙ not-false _ (c .before .before .before .before .before .before .before .before .if1 .left) in
     let starts = c .before .before .before .before .before .before .before .starts-well in
     let marks = c .before .before .before .before .before .before .marks-fit in

@@ -1,53 +1,38 @@
 -- The region is the rest of the area; settings and clock are the header's.
-use lib.ListN.{length-drop}
-use lib.Seq.{take-all}
-use Rattle.image.proofs.TestLaws.{pending-read}
-use borrow.Author.Needs.{needs}
+use Prim.Native.Nat.{_-_}
+use mathlib.Core.Path.{_≡_, _∙_}
 use native.Mathlib.Omega.{arith}
-use Prim.Native.Nat.{ℕ, suc, _+_, _-_, _*_, _≤_, _<_}
-use mathlib.Core.Path.{_≡_, refl, sym, ap, _∙_}
-use mathlib.Core.List.{List, [], _∷_, _++_}
-use lib.ListN.{length, take, drop, getD, set}
+use lib.ListN.{length-drop, length, take, drop}
+use lib.Seq.{take-all}
+use borrow.Author.Needs.{needs}
+use Rattle.image.proofs.TestLaws.{pending-read}
 use Rattle.image.proofs.formed.pending_fits.Statement.{statement}
 use Rattle.image.proofs.formed.pending_fits.Tie as tie
-use Rattle.image.proofs.formed.pending_fits.Reads as reads
-use Rattle.image.proofs.formed.pending_fits.Lts as lts
-use Rattle.fields.proofs.read_u64.Reads as read-u64-reads
-use Rattle.image.proofs.formed.count_at.Reads as count-at-reads
-use Rattle.image.proofs.formed.records_fit.Reads as records-fit-reads
-use Rattle.image.proofs.head.read_settings.Reads as read-settings-reads
 
--- src/formed.rt:154:9
 read-u64-requires : tie.Need-read-u64-requires
 read-u64-requires c κs = search needs
 
--- src/formed.rt:155:9
 count-at-requires : tie.Need-count-at-requires
 count-at-requires c κs = search needs
 
--- src/formed.rt:156:9
 read-settings-requires : tie.Need-read-settings-requires
 read-settings-requires c κs = search needs
 
--- src/formed.rt:157:17
 sub-records-fit : tie.Need-sub-records-fit
 sub-records-fit c = search needs
 
--- src/formed.rt:157:17
 part-records-fit-start : tie.Need-part-records-fit-start
 part-records-fit-start c = search needs
 
--- src/formed.rt:157:17
 part-records-fit-end : tie.Need-part-records-fit-end
 part-records-fit-end c = search needs
 
--- src/formed.rt:157:5
 records-fit-requires : tie.Need-records-fit-requires
 records-fit-requires c κs = search needs
 
--- src/formed.rt:149:1
 returns : tie.Need-returns
-returns c = let area = c .before .before .before .before .before .before .args .area .now in
+returns c =
+    let area = c .before .before .before .before .before .before .args .area .now in
     let settings = c .before .before .read-settings in
     let count = c .before .before .before .count-at in
     let clock = c .before .before .before .before .read-u64 in

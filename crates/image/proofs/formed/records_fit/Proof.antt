@@ -1,19 +1,15 @@
 -- The invariant: what is found so far, and the records from i on, give what all of them give.
-use Rattle.settings.specs.Values.{settingsOf}
-use Rattle.fields.specs.Entries.{entries}
+use Prim.Native.Nat.{_-_, _≤_}
 use mathlib.Core.Bool.{_&&_}
-use Rattle.image.proofs.TestLaws.{recordsFit, fits-turn, fits-end}
-use borrow.Author.Needs.{needs}
+use mathlib.Core.Path.{_≡_, refl, sym, _∙_}
 use native.Mathlib.Omega.{arith}
-use Prim.Native.Nat.{ℕ, suc, _+_, _-_, _*_, _≤_, _<_}
-use mathlib.Core.Path.{_≡_, refl, sym, ap, _∙_}
-use mathlib.Core.List.{List, [], _∷_, _++_}
-use lib.ListN.{length, take, drop, getD, set}
+use lib.ListN.{drop}
+use borrow.Author.Needs.{needs}
+use Rattle.fields.specs.Entries.{entries}
+use Rattle.settings.specs.Values.{settingsOf}
+use Rattle.image.proofs.TestLaws.{recordsFit, fits-turn, fits-end}
 use Rattle.image.proofs.formed.records_fit.Statement.{statement}
 use Rattle.image.proofs.formed.records_fit.Tie as tie
-use Rattle.image.proofs.formed.records_fit.Reads as reads
-use Rattle.image.proofs.formed.records_fit.Lts as lts
-use Rattle.image.proofs.formed.record_fits.Reads as record-fits-reads
 
 abbrev Inv-loop : tie.InvT-loop
 Inv-loop region count settings clock ok₀ i₀ ok i = (i ≤ count) × (ok && recordsFit (settingsOf settings) clock (drop i (entries 54 count region)) ≡ recordsFit (settingsOf settings) clock (entries 54 count region))
@@ -21,31 +17,27 @@ Inv-loop region count settings clock ok₀ i₀ ok i = (i ≤ count) × (ok && r
 abbrev μ-loop : tie.MeasureT-loop
 μ-loop region count settings clock ok₀ i₀ ok i = count - i
 
--- src/formed.rt:142:5
 loop-holds : tie.Need-loop-holds Inv-loop μ-loop
 loop-holds c = (omega arith, refl)
 
--- src/formed.rt:143:19
 record-fits-requires : tie.Need-record-fits-requires Inv-loop μ-loop
 record-fits-requires c κs = search needs
 
--- src/formed.rt:144:9
 add-i : tie.Need-add-i Inv-loop μ-loop
 add-i c = search needs
 
--- src/formed.rt:142:5
 loop-less : tie.Need-loop-less Inv-loop μ-loop
 loop-less c = search needs
 
--- src/formed.rt:142:5
 loop-again : tie.Need-loop-again Inv-loop μ-loop
-loop-again c = let l = c .before .before .loop in
+loop-again c =
+    let l = c .before .before .loop in
     let s = c .before .before .before .before .args in
     (omega arith, rw (c .record-fits .ensures) (sym (fits-turn (settingsOf (s .settings)) (s .clock) (s .count) (l .i) (s .region .now) (l .ok) (c .before .loop-test .taken)) ∙ l .inv .1))
 
--- src/formed.rt:136:1
 returns : tie.Need-returns Inv-loop μ-loop
-returns c = let l = c .before .loop in
+returns c =
+    let l = c .before .loop in
     let s = c .before .before .before .args in
     sym (fits-end (settingsOf (s .settings)) (s .clock) (s .count) (l .i) (s .region .now) (l .ok) (c .loop-test .left)) ∙ l .inv .1
 

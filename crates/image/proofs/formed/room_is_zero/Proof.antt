@@ -1,105 +1,76 @@
 -- The ends of the parts, from the counts.
-use Rattle.image.proofs.TestLaws.{room}
-use borrow.Author.Needs.{needs}
 use native.Mathlib.Omega.{arith}
-use Prim.Native.Nat.{ℕ, suc, _+_, _-_, _*_, _≤_, _<_}
-use mathlib.Core.Path.{_≡_, refl, sym, ap, _∙_}
-use mathlib.Core.List.{List, [], _∷_, _++_}
-use lib.ListN.{length, take, drop, getD, set}
+use borrow.Author.Needs.{needs}
+use Rattle.image.proofs.TestLaws.{room}
 use Rattle.image.proofs.formed.room_is_zero.Statement.{statement}
 use Rattle.image.proofs.formed.room_is_zero.Tie as tie
-use Rattle.image.proofs.formed.room_is_zero.Reads as reads
-use Rattle.image.proofs.formed.room_is_zero.Lts as lts
-use Rattle.image.proofs.formed.count_at.Reads as count-at-reads
-use Rattle.scratch.proofs.is_zero.Reads as is-zero-reads
 
--- src/formed.rt:175:25
 count-at-requires : tie.Need-count-at-requires
 count-at-requires c κs = search needs
 
--- src/formed.rt:175:25
 mul-stalled : tie.Need-mul-stalled
 mul-stalled c = search needs
 
--- src/formed.rt:175:19
 add-stalled : tie.Need-add-stalled
 add-stalled c = search needs
 
--- src/formed.rt:176:26
 count-at-requires-2 : tie.Need-count-at-requires-2
 count-at-requires-2 c κs = search needs
 
--- src/formed.rt:176:26
 mul-pending : tie.Need-mul-pending
 mul-pending c = search needs
 
--- src/formed.rt:176:19
 add-pending : tie.Need-add-pending
 add-pending c = search needs
 
--- src/formed.rt:177:27
 count-at-requires-3 : tie.Need-count-at-requires-3
 count-at-requires-3 c κs = search needs
 
--- src/formed.rt:177:27
 mul-evicted : tie.Need-mul-evicted
 mul-evicted c = search needs
 
--- src/formed.rt:177:19
 sub-evicted : tie.Need-sub-evicted
 sub-evicted c = search needs
 
--- src/formed.rt:178:35
 sub-is-zero : tie.Need-sub-is-zero
 sub-is-zero c = search needs
 
--- src/formed.rt:178:35
 part-is-zero-start : tie.Need-part-is-zero-start
 part-is-zero-start c = search needs
 
--- src/formed.rt:178:35
 part-is-zero-end : tie.Need-part-is-zero-end
 part-is-zero-end c = search needs
 
--- src/formed.rt:178:9
 is-zero-requires : tie.Need-is-zero-requires
 is-zero-requires c κs = search needs
 
--- src/formed.rt:179:35
 sub-is-zero-2 : tie.Need-sub-is-zero-2
 sub-is-zero-2 c = search needs
 
--- src/formed.rt:179:35
 part-is-zero-start-2 : tie.Need-part-is-zero-start-2
 part-is-zero-start-2 c = search needs
 
--- src/formed.rt:179:35
 part-is-zero-end-2 : tie.Need-part-is-zero-end-2
 part-is-zero-end-2 c = search needs
 
--- src/formed.rt:179:9
 is-zero-requires-2 : tie.Need-is-zero-requires-2
 is-zero-requires-2 c κs = search needs
 
--- src/formed.rt:180:36
 sub-is-zero-3 : tie.Need-sub-is-zero-3
 sub-is-zero-3 c = search needs
 
--- src/formed.rt:180:36
 part-is-zero-start-3 : tie.Need-part-is-zero-start-3
 part-is-zero-start-3 c = search needs
 
--- src/formed.rt:180:36
 part-is-zero-end-3 : tie.Need-part-is-zero-end-3
 part-is-zero-end-3 c = search needs
 
--- src/formed.rt:180:9
 is-zero-requires-3 : tie.Need-is-zero-requires-3
 is-zero-requires-3 c κs = search needs
 
--- src/formed.rt:169:1
 returns : tie.Need-returns
-returns c = let s = c .before .before .before .before .before .before .before .before .before .before in
+returns c =
+    let s = c .before .before .before .before .before .before .before .before .before .before in
     let n = c .before .before .before .before .before .before .before .before .count-at in
     let p = c .before .before .before .before .before .before .before .count-at2 in
     let e = c .before .before .before .before .before .before .count-at3 in

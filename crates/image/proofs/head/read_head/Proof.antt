@@ -1,74 +1,48 @@
 -- The definition, with what was read.
-use Rattle.image.specs.Heads.{headIn}
 use borrow.Author.Needs.{needs}
-use native.Mathlib.Omega.{arith}
-use Prim.Native.Nat.{ℕ, suc, _+_, _-_, _*_, _≤_, _<_}
-use mathlib.Core.Path.{_≡_, refl, sym, ap, _∙_}
-use mathlib.Core.List.{List, [], _∷_, _++_}
-use lib.ListN.{length, take, drop, getD, set}
+use Rattle.image.specs.Heads.{headIn}
 use Rattle.image.proofs.head.read_head.Statement.{statement}
 use Rattle.image.proofs.head.read_head.Tie as tie
-use Rattle.image.proofs.head.read_head.Reads as reads
-use Rattle.image.proofs.head.read_head.Lts as lts
-use Rattle.fields.proofs.read_u32.Reads as read-u32-reads
-use Rattle.fields.proofs.read_u64.Reads as read-u64-reads
-use Rattle.image.proofs.formed.count_at.Reads as count-at-reads
-use Rattle.image.proofs.head.read_send_clock.Reads as read-send-clock-reads
-use Rattle.image.proofs.head.read_settings.Reads as read-settings-reads
 
--- src/head.rt:58:15
 shared-slice-read-t3 : tie.Need-shared-slice-read-t3
 shared-slice-read-t3 c = search needs
 
--- src/head.rt:59:15
 shared-slice-read-t5 : tie.Need-shared-slice-read-t5
 shared-slice-read-t5 c = search needs
 
--- src/head.rt:60:15
 shared-slice-read-t8 : tie.Need-shared-slice-read-t8
 shared-slice-read-t8 c = search needs
 
--- src/head.rt:61:16
 read-u64-requires : tie.Need-read-u64-requires
 read-u64-requires c κs = search needs
 
--- src/head.rt:62:19
 read-settings-requires : tie.Need-read-settings-requires
 read-settings-requires c κs = search needs
 
--- src/head.rt:63:19
 read-u64-requires-2 : tie.Need-read-u64-requires-2
 read-u64-requires-2 c κs = search needs
 
--- src/head.rt:64:15
 read-send-clock-requires : tie.Need-read-send-clock-requires
 read-send-clock-requires c κs = search needs
 
--- src/head.rt:65:15
 read-u64-requires-3 : tie.Need-read-u64-requires-3
 read-u64-requires-3 c κs = search needs
 
--- src/head.rt:66:21
 read-u32-requires : tie.Need-read-u32-requires
 read-u32-requires c κs = search needs
 
--- src/head.rt:67:14
 read-u32-requires-2 : tie.Need-read-u32-requires-2
 read-u32-requires-2 c κs = search needs
 
--- src/head.rt:68:18
 count-at-requires : tie.Need-count-at-requires
 count-at-requires c κs = search needs
 
--- src/head.rt:69:18
 count-at-requires-2 : tie.Need-count-at-requires-2
 count-at-requires-2 c κs = search needs
 
--- src/head.rt:70:18
 count-at-requires-3 : tie.Need-count-at-requires-3
 count-at-requires-3 c κs = search needs
 
--- src/head.rt:53:1
 returns : tie.Need-returns
 unfolding headIn
 returns c = rw (c .count-at3 .ensures, c .before .count-at2 .ensures, c .before .before .count-at .ensures, c .before .before .before .read-u322 .ensures, c .before .before .before .before .read-u32 .ensures, c .before .before .before .before .before .read-u643 .ensures, c .before .before .before .before .before .before .read-send-clock .ensures, c .before .before .before .before .before .before .before .read-u642 .ensures, c .before .before .before .before .before .before .before .before .read-settings .ensures, c .before .before .before .before .before .before .before .before .before .read-u64 .ensures)

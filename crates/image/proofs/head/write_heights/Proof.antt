@@ -1,37 +1,27 @@
 -- Writes side by side are one.
+use mathlib.Core.Path.{refl}
+use native.Mathlib.Omega.{arith}
+use borrow.Author.Needs.{needs}
 use Rattle.fields.specs.Number.{toBe}
 use Rattle.image.proofs.HeadLaws.{three-written}
-use borrow.Author.Needs.{needs}
-use native.Mathlib.Omega.{arith}
-use Prim.Native.Nat.{ℕ, suc, _+_, _-_, _*_, _≤_, _<_}
-use mathlib.Core.Path.{_≡_, refl, sym, ap, _∙_}
-use mathlib.Core.List.{List, [], _∷_, _++_}
-use lib.ListN.{length, take, drop, getD, set}
 use Rattle.image.proofs.head.write_heights.Statement.{statement}
 use Rattle.image.proofs.head.write_heights.Tie as tie
-use Rattle.image.proofs.head.write_heights.Reads as reads
-use Rattle.image.proofs.head.write_heights.Lts as lts
-use Rattle.fields.proofs.write_u32.Reads as write-u32-reads
 
--- src/head.rt:121:5
 write-u32-requires : tie.Need-write-u32-requires
 write-u32-requires c κs = search needs
 
--- src/head.rt:122:5
 write-u32-requires-2 : tie.Need-write-u32-requires-2
 write-u32-requires-2 c κs = search needs
 
--- src/head.rt:123:5
 write-u32-requires-3 : tie.Need-write-u32-requires-3
 write-u32-requires-3 c κs = search needs
 
--- src/head.rt:117:1
 same-length : tie.Need-same-length
 same-length c = search needs
 
--- src/head.rt:117:1
 returns : tie.Need-returns
-returns c = let s = c .before .before .before .before .before .before .before .before .before .before .before .before .before .args in
+returns c =
+    let s = c .before .before .before .before .before .before .before .before .before .before .before .before .before .args in
     let one = c .before .before .before .before .before .before .before .before .before .before .write-u32 in
     let two = c .before .before .before .before .before .before .write-u322 in
     three-written 56 60 64 (toBe 4 (s .sends)) (toBe 4 (s .downloaded)) (toBe 4 (s .tip)) (s .area .now) (one .last .0) (two .last .0) (c .before .before .write-u323 .last .0) (one .ensures) (two .ensures) (c .before .before .write-u323 .ensures) refl refl (omega arith)

@@ -1,41 +1,31 @@
 -- Writes side by side are one.
+use mathlib.Core.Path.{refl}
+use mathlib.Core.List.{_++_}
+use native.Mathlib.Omega.{arith}
+use borrow.Author.Needs.{needs}
 use Rattle.fields.specs.Number.{toBe}
 use Rattle.image.proofs.HeadLaws.{written-behind, three-written}
-use borrow.Author.Needs.{needs}
-use native.Mathlib.Omega.{arith}
-use Prim.Native.Nat.{ℕ, suc, _+_, _-_, _*_, _≤_, _<_}
-use mathlib.Core.Path.{_≡_, refl, sym, ap, _∙_}
-use mathlib.Core.List.{List, [], _∷_, _++_}
-use lib.ListN.{length, take, drop, getD, set}
 use Rattle.image.proofs.head.write_settings.Statement.{statement}
 use Rattle.image.proofs.head.write_settings.Tie as tie
-use Rattle.image.proofs.head.write_settings.Reads as reads
-use Rattle.image.proofs.head.write_settings.Lts as lts
-use Rattle.fields.proofs.write_u32.Reads as write-u32-reads
 
--- src/head.rt:102:5
 write-u32-requires : tie.Need-write-u32-requires
 write-u32-requires c κs = search needs
 
--- src/head.rt:103:5
 write-u32-requires-2 : tie.Need-write-u32-requires-2
 write-u32-requires-2 c κs = search needs
 
--- src/head.rt:104:5
 write-u32-requires-3 : tie.Need-write-u32-requires-3
 write-u32-requires-3 c κs = search needs
 
--- src/head.rt:105:5
 write-u32-requires-4 : tie.Need-write-u32-requires-4
 write-u32-requires-4 c κs = search needs
 
--- src/head.rt:98:1
 same-length : tie.Need-same-length
 same-length c = search needs
 
--- src/head.rt:98:1
 returns : tie.Need-returns
-returns c = let s = c .before .before .before .before .before .before .before .before .before .before .before .before .before .before .before .before .before .args in
+returns c =
+    let s = c .before .before .before .before .before .before .before .before .before .before .before .before .before .before .before .before .before .args in
     let v = s .settings in
     let one = c .before .before .before .before .before .before .before .before .before .before .before .before .before .before .write-u32 in
     let two = c .before .before .before .before .before .before .before .before .before .before .write-u322 in

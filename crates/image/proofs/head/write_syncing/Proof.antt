@@ -1,37 +1,27 @@
 -- Writes side by side are one.
+use mathlib.Core.Path.{refl}
+use native.Mathlib.Omega.{arith}
+use borrow.Author.Needs.{needs}
 use Rattle.fields.specs.Number.{toBe}
 use Rattle.image.proofs.HeadLaws.{three-written}
-use borrow.Author.Needs.{needs}
-use native.Mathlib.Omega.{arith}
-use Prim.Native.Nat.{ℕ, suc, _+_, _-_, _*_, _≤_, _<_}
-use mathlib.Core.Path.{_≡_, refl, sym, ap, _∙_}
-use mathlib.Core.List.{List, [], _∷_, _++_}
-use lib.ListN.{length, take, drop, getD, set}
 use Rattle.image.proofs.head.write_syncing.Statement.{statement}
 use Rattle.image.proofs.head.write_syncing.Tie as tie
-use Rattle.image.proofs.head.write_syncing.Reads as reads
-use Rattle.image.proofs.head.write_syncing.Lts as lts
-use Rattle.fields.proofs.write_u64.Reads as write-u64-reads
 
--- src/head.rt:112:5
 write-u64-requires : tie.Need-write-u64-requires
 write-u64-requires c κs = search needs
 
--- src/head.rt:113:5
 write-u64-requires-2 : tie.Need-write-u64-requires-2
 write-u64-requires-2 c κs = search needs
 
--- src/head.rt:114:5
 write-u64-requires-3 : tie.Need-write-u64-requires-3
 write-u64-requires-3 c κs = search needs
 
--- src/head.rt:108:1
 same-length : tie.Need-same-length
 same-length c = search needs
 
--- src/head.rt:108:1
 returns : tie.Need-returns
-returns c = let s = c .before .before .before .before .before .before .before .before .before .before .before .before .before .args in
+returns c =
+    let s = c .before .before .before .before .before .before .before .before .before .before .before .before .before .args in
     let one = c .before .before .before .before .before .before .before .before .before .before .write-u64 in
     let two = c .before .before .before .before .before .before .write-u642 in
     three-written 32 40 48 (toBe 8 (s .progress)) (toBe 8 (s .send)) (toBe 8 (s .peer)) (s .area .now) (one .last .0) (two .last .0) (c .before .before .write-u643 .last .0) (one .ensures) (two .ensures) (c .before .before .write-u643 .ensures) refl refl (omega arith)
