@@ -101,3 +101,7 @@ entries-all width zero bytes h b = tt
 entries-all width (suc n) bytes h b =
     let k : n * width + width ≤ length bytes = omega arith in
     ((length-take-le width bytes (omega arith), bytes-take width bytes b), entries-all width n (drop width bytes) (simp length-drop (omega arith)) (bytes-drop width bytes b))
+
+pub all-by-index {ℓ κ} : {A : Type ℓ} (P : A → Type κ) (xs : List A) (d : A) → ((j : ℕ) → j < length xs → P (getD xs j d)) → All P xs
+all-by-index P [] d f = tt
+all-by-index P (x ∷ xs) d f = (f 0 (omega arith), all-by-index P xs d (λ j h. f (suc j) (omega arith)))

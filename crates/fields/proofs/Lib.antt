@@ -9,3 +9,4 @@ pub mod RisingLaws
 pub mod SortLaws
 pub mod PartLaws
 pub mod TotalLaws
+pub mod MarkLaws

@@ -67,7 +67,7 @@ bytes-of-request e l f =
     request-written (requestOf e) ∙ sym (part-joined 0 idSize (take idSize e) (written (requestCells (requestOf e))) e refl (sym (take-all 22 (drop idSize e) (rw (length-drop idSize e) (omega arith))) ∙ h))
 
 -- the type's high byte is zero exactly where the type is one byte
-high-low : (e : List ℕ) → length e ≡ recordSize → requestOf e .typeId ≡ getD e 40 0 * 256 + getD e 41 0
+pub high-low : (e : List ℕ) → length e ≡ recordSize → requestOf e .typeId ≡ getD e 40 0 * 256 + getD e 41 0
 unfolding requestOf
 high-low e l =
     let a : 40 < length e = omega arith in

@@ -7,7 +7,7 @@ ghost use Rattle.fields.specs.Entries.{entries, entry, replaced};
 ghost use Rattle.fields.specs.Filter.{marked};
 
 // Entry `from` written over entry `to`. Nothing moves while nothing was dropped.
-fn move_entry(table: &mut [u8], width: usize, from: usize, to: usize)
+pub fn move_entry(table: &mut [u8], width: usize, from: usize, to: usize)
     requires { ⌜ (to ≤ from) × (from * width + width ≤ length (now table)) ⌝ }
     ensures { λ _. ⌜ now (table .exit) ≡ overwritten (to * width) (entry width from (now (table .entry))) (now (table .entry)) ⌝ }
 {

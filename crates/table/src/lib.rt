@@ -5,5 +5,5 @@
 pub mod edit;
 pub mod find;
 pub mod keep;
-mod moves;
+pub mod moves;
 pub mod rising;

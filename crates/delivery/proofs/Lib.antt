@@ -1,0 +1,4 @@
+pub mod CountLaws
+pub mod ListedLaws
+pub mod HeldLaws
+pub mod PeerLaws

@@ -1,0 +1,106 @@
+-- Records whose id is listed: marks taken from them, id by id.
+use Prim.Native.Nat.{ℕ, suc, _+_, _-_, _/_, _%_, _≤_, _<_}
+use mathlib.Core.Path.{_≡_, refl, sym, _∙_}
+use mathlib.Core.Bool.{Bool, true, false, not, _&&_, _||_}
+use mathlib.Core.List.{List, [], _∷_}
+use native.Mathlib.Omega.{arith}
+use lib.ListN.{length, take, drop, getD, set, length-drop, drop-of-length-le}
+use lib.Seq.{drop-drop, length-take-le}
+use Rattle.fields.specs.Facts.{All}
+use Rattle.fields.specs.Order.{same}
+use Rattle.fields.specs.Entries.{rising}
+use Rattle.fields.specs.Filter.{marked}
+use Rattle.fields.proofs.AllLaws.{all-by-index, all-marked}
+use Rattle.fields.proofs.MarkLaws.{kept-all, kept-same-test, kept-kept, marked-unset}
+use Rattle.fields.proofs.OrderLaws.{same-sym, before-not-same}
+use Rattle.fields.proofs.RisingLaws.{rising-at}
+use Rattle.table.specs.Find.{found}
+use Rattle.table.specs.declared.find.Found.the-variants.{At, Gap}
+use Rattle.table.proofs.FindLaws.{at-inside, at-same, at-key, gap-absent}
+use Rattle.model.specs.Protocol.{Id, isAmong}
+use Rattle.model.specs.Image.{idSize}
+use Rattle.model.specs.Lists.{idsIn}
+use Rattle.delivery.specs.Records.{unlisted}
+
+neither-of : (a b : Bool) → not (a || false) && not b ≡ not (a || b)
+neither-of true b = refl
+neither-of false b = refl
+
+pub unlisted-cons : (id : Id) (ids : List Id) (es : List (List ℕ)) → unlisted ids (unlisted (id ∷ []) es) ≡ unlisted (id ∷ ids) es
+unfolding unlisted isAmong
+unlisted-cons id ids es =
+    kept-kept (λ (e : List ℕ). not (isAmong (take idSize e) ids)) (λ (e : List ℕ). not (same (take idSize e) id || false)) es
+    ∙ kept-same-test (λ (e : List ℕ). not (same (take idSize e) id || false) && not (isAmong (take idSize e) ids)) (λ (e : List ℕ). not (same (take idSize e) id || isAmong (take idSize e) ids))
+    (λ e. neither-of (same (take idSize e) id) (isAmong (take idSize e) ids)) es
+
+every : (es : List (List ℕ)) → All (λ (e : List ℕ). true ≡ true) es
+every [] = tt
+every (e ∷ es) = (refl, every es)
+
+pub unlisted-none : (es : List (List ℕ)) → unlisted [] es ≡ es
+unfolding unlisted isAmong
+unlisted-none es = kept-all (λ (e : List ℕ). true) es (every es)
+
+-- ---- one id
+
+module _ (id : List ℕ) (es : List (List ℕ)) (marks : List ℕ) (i : ℕ) (l : length id ≡ idSize) (r : rising idSize es ≡ true) where
+  -- the record that has the id
+  pub unmarked-at : length es ≤ length marks → found id 0 es ≡ At i → marked (set marks i 0) es ≡ unlisted (id ∷ []) (marked marks es)
+  unfolding unlisted isAmong
+  unmarked-at h f =
+      let a : i < length es = at-inside id es i f in
+      let s : same (take idSize (getD es i [])) id ≡ true = rw l at (at-same id es i f) in
+      let k : take idSize (getD es i []) ≡ id = rw l at (at-key id es i f) in
+      marked-unset (λ (e : List ℕ). not (same (take idSize e) id || false)) es [] marks i a (omega arith) (rw s)
+      (λ j o.
+      let b : same (take idSize (getD es j [])) id ≡ false = before-not-same (take idSize (getD es j [])) id (rw k at (rising-at idSize es r j i o a)) in
+      rw b)
+      (λ j o m.
+      let b : same (take idSize (getD es j [])) id ≡ false = same-sym (take idSize (getD es j [])) id ∙ before-not-same id (take idSize (getD es j [])) (rw k at (rising-at idSize es r i j o m)) in
+      rw b)
+
+  -- or none has it
+  pub unmarked-nowhere : found id 0 es ≡ Gap i → marked marks es ≡ unlisted (id ∷ []) (marked marks es)
+  unfolding unlisted isAmong
+  unmarked-nowhere f =
+      let r′ : rising (length id) es ≡ true = rw l r in
+      sym (kept-all (λ (e : List ℕ). not (same (take idSize e) id || false)) (marked marks es)
+      (all-marked (λ (e : List ℕ). not (same (take idSize e) id || false) ≡ true) marks es
+      (all-by-index (λ (e : List ℕ). not (same (take idSize e) id || false) ≡ true) es []
+      (λ j h.
+      let b : same (take idSize (getD es j [])) id ≡ false = rw l at (gap-absent id es i r′ f j h) in
+      rw b))))
+
+-- ---- one after another
+
+ids-next : (bytes : List ℕ) → length bytes % 32 ≡ 0 → 0 < length bytes → idsIn bytes ≡ take 32 bytes ∷ idsIn (drop 32 bytes)
+unfolding idsIn
+ids-next bytes h l =
+    let d : length (drop 32 bytes) ≡ length bytes - 32 = length-drop 32 bytes in
+    let q : length bytes / 32 ≡ suc (length (drop 32 bytes) / 32) = rw d (omega arith) in
+    rw q
+
+ids-none : idsIn [] ≡ []
+unfolding idsIn
+ids-none = refl
+
+module _ (ids : List ℕ) (at : ℕ) where
+  pub listed-turn : (marks marks′ : List ℕ) (es : List (List ℕ)) → length ids % 32 ≡ 0 → at % 32 ≡ 0 → at < length ids
+      → marked marks′ es ≡ unlisted (take (at + 32 - at) (drop at ids) ∷ []) (marked marks es)
+      → unlisted (idsIn (drop (at + 32) ids)) (marked marks′ es) ≡ unlisted (idsIn (drop at ids)) (marked marks es)
+  listed-turn marks marks′ es h a o e =
+      let k : at + 32 - at ≡ 32 = omega arith in
+      let d : length (drop at ids) ≡ length ids - at = length-drop at ids in
+      let n : idsIn (drop at ids) ≡ take 32 (drop at ids) ∷ idsIn (drop (at + 32) ids) =
+      ids-next (drop at ids) (rw d (omega arith)) (rw d (omega arith)) ∙ rw drop-drop in
+      rw (e, k, n) (unlisted-cons (take 32 (drop at ids)) (idsIn (drop (at + 32) ids)) (marked marks es))
+
+  pub listed-end : (es all : List (List ℕ)) → length ids ≤ at → unlisted (idsIn (drop at ids)) es ≡ all → es ≡ all
+  listed-end es all h e =
+      let d : drop at ids ≡ [] = drop-of-length-le ids {i = at} h in
+      sym (unlisted-none es) ∙ rw (d, ids-none) at e
+
+pub length-id : (at : ℕ) (bytes : List ℕ) → at + 32 ≤ length bytes → length (take (at + 32 - at) (drop at bytes)) ≡ 32
+length-id at bytes h =
+    let k : at + 32 - at ≡ 32 = omega arith in
+    rw k (length-take-le 32 (drop at bytes) (rw (length-drop at bytes) (omega arith)))

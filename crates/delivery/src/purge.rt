@@ -1,0 +1,109 @@
+// purge_peer and purge_all.
+ghost use mathlib.Core.Path.{_≡_};
+ghost use mathlib.Core.Bool.{true, cond};
+ghost use mathlib.Core.List.{List, map};
+ghost use Prim.Native.Nat.{ℕ, _+_, _*_, _≤_};
+ghost use lib.ListN.{length, getD};
+ghost use Rattle.fields.specs.Entries.{entries, entry, joined};
+ghost use Rattle.fields.specs.Overwrite.{overwritten};
+ghost use Rattle.model.specs.Delivery.{Request, purgePeer, orphansOf, purgeAll};
+ghost use Rattle.model.specs.Calls.{pairBytes};
+ghost use Rattle.fields.specs.Filter.{marked, kept};
+ghost use Rattle.model.specs.Image.{typesNarrow};
+ghost use Rattle.requests.specs.Pending.{requestsIn, holding};
+ghost use Rattle.delivery.specs.Records.{ofOther, isOrphan, pairIn};
+
+// Whether record i is the peer's and no transaction.
+fn is_orphan(table: &[u8], i: usize, peer: u64) -> bool
+    requires { ⌜ i * 54 + 54 ≤ length (now table) ⌝ }
+    ensures { λ r. ⌜ r ≡ isOrphan peer (entry 54 i (now (table .entry))) ⌝ }
+{
+    let at = i * 54;
+    let asked = fields::read_u64(table, at + 32);
+    let typeid = fields::read_u16(table, at + 40);
+    (asked == peer) & !(typeid == 2)
+}
+
+// Writes record i's type and id at index `to` of the pairs. The type's high byte is zero.
+fn put_pair(table: &[u8], i: usize, pairs: &mut [u8], to: usize)
+    requires { ⌜ (i * 54 + 54 ≤ length (now table)) × (to * 33 + 33 ≤ length (now pairs)) ⌝ }
+    requires { ⌜ getD (entry 54 i (now table)) 40 0 ≡ 0 ⌝ }
+    ensures { λ _. ⌜ now (pairs .exit) ≡ overwritten (to * 33) (pairIn (entry 54 i (now (table .entry)))) (now (pairs .entry)) ⌝ }
+{
+    let from = i * 54;
+    let end = from + 32;
+    let at = to * 33;
+    pairs[at] = table[from + 41];
+    table::moves::overwrite(pairs, at + 1, &table[from..end]);
+}
+
+// The peer's requests that are no transactions, as pairs of type and id at the front of `pairs`, in the table's order.
+// Answers how many.
+pub fn orphans(table: &[u8], count: usize, peer: u64, pairs: &mut [u8]) -> usize
+    requires { ⌜ (count * 54 ≤ length (now table)) × (count * 33 ≤ length (now pairs)) ⌝ }
+    requires { ⌜ typesNarrow (entries 54 count (now table)) ≡ true ⌝ }
+    ensures { λ r. ⌜ r ≡ length (orphansOf peer (requestsIn count (now (table .entry)))) ⌝ }
+    ensures { λ _. ⌜ now (pairs .exit) ≡ overwritten 0 (joined (map (λ (r : Request). pairBytes (r .typeId) (r .id)) (orphansOf peer (requestsIn count (now (table .entry)))))) (now (pairs .entry)) ⌝ }
+{
+    let mut found = 0;
+    let mut i = 0;
+    while i < count {
+        if is_orphan(table, i, peer) {
+            put_pair(table, i, pairs, found);
+            found += 1;
+        }
+        i += 1;
+    }
+    found
+}
+
+// A mark for record i: 1 if it is another peer's.
+fn mark_of_other(table: &[u8], i: usize, peer: u64) -> u8
+    requires { ⌜ i * 54 + 54 ≤ length (now table) ⌝ }
+    ensures { λ r. ⌜ r ≡ cond (ofOther peer (entry 54 i (now (table .entry)))) 1 0 ⌝ }
+{
+    let asked = fields::read_u64(table, i * 54 + 32);
+    if asked == peer {
+        return 0;
+    }
+    1
+}
+
+// Marks for the records of other peers.
+fn mark_others(table: &[u8], count: usize, peer: u64, marks: &mut [u8])
+    requires { ⌜ (count * 54 ≤ length (now table)) × (count ≤ length (now marks)) ⌝ }
+    ensures { λ _. ⌜ now (marks .exit) ≡ overwritten 0 (map (λ (r : List ℕ). cond (ofOther peer r) 1 0) (entries 54 count (now (table .entry)))) (now (marks .entry)) ⌝ }
+{
+    let mut i = 0;
+    while i < count {
+        marks[i] = mark_of_other(table, i, peer);
+        i += 1;
+    }
+}
+
+fn marks_of_others(table: &[u8], count: usize, peer: u64) -> [u8; 1024]
+    requires { ⌜ (count ≤ 1024) × (count * 54 ≤ length (now table)) ⌝ }
+    ensures { λ r. ⌜ marked r (entries 54 count (now (table .entry))) ≡ kept (ofOther peer) (entries 54 count (now (table .entry))) ⌝ }
+{
+    let mut marks = [0u8; 1024];
+    mark_others(table, count, peer, &mut marks);
+    marks
+}
+
+// Takes the peer's requests out of the table. Answers how many are left.
+pub fn purge_peer(table: &mut [u8], count: usize, peer: u64) -> usize
+    requires { ⌜ (count ≤ 1024) × (count * 54 ≤ length (now table)) ⌝ }
+    ensures { λ r. ⌜ r ≡ length (purgePeer peer (requestsIn count (now (table .entry)))) ⌝ }
+    ensures { λ _. ⌜ now (table .exit) ≡ holding count (purgePeer peer (requestsIn count (now (table .entry)))) (now (table .entry)) ⌝ }
+{
+    let marks = marks_of_others(table, count, peer);
+    table::keep::keep(table, 54, count, &marks)
+}
+
+// Takes all requests out of the table; the evicted ids at the region's other end stay.
+pub fn purge_all(table: &mut [u8], count: usize)
+    requires { ⌜ count * 54 ≤ length (now table) ⌝ }
+    ensures { λ _. ⌜ now (table .exit) ≡ holding count (purgeAll (requestsIn count (now (table .entry)))) (now (table .entry)) ⌝ }
+{
+    table::moves::clear(table, 0, count * 54);
+}

@@ -1,0 +1,20 @@
+// mark_received: ids that arrived are pending no more.
+ghost use mathlib.Core.Path.{_≡_};
+ghost use mathlib.Core.Bool.{true};
+ghost use Prim.Native.Nat.{_*_, _%_, _≤_};
+ghost use lib.ListN.{length};
+ghost use Rattle.fields.specs.Entries.{entries, rising};
+ghost use Rattle.model.specs.Delivery.{markReceived};
+ghost use Rattle.model.specs.Lists.{idsIn};
+ghost use Rattle.requests.specs.Pending.{requestsIn, holding};
+
+// Takes the listed ids out of the table. Answers how many requests are left.
+pub fn mark_received(table: &mut [u8], count: usize, ids: &[u8]) -> usize
+    requires { ⌜ (length (now ids) % 32 ≡ 0) × ((count ≤ 1024) × (count * 54 ≤ length (now table))) ⌝ }
+    requires { ⌜ rising 32 (entries 54 count (now table)) ≡ true ⌝ }
+    ensures { λ r. ⌜ r ≡ length (markReceived (idsIn (now (ids .entry))) (requestsIn count (now (table .entry)))) ⌝ }
+    ensures { λ _. ⌜ now (table .exit) ≡ holding count (markReceived (idsIn (now (ids .entry))) (requestsIn count (now (table .entry)))) (now (table .entry)) ⌝ }
+{
+    let marks = crate::marks::marks_of_unlisted(table, count, ids);
+    table::keep::keep(table, 54, count, &marks)
+}

@@ -1,0 +1,410 @@
+-- Neighbours of one target and type as one batch.
+use Prim.Native.Nat.{ℕ, zero, suc, _+_, _-_, _*_, _/_, _%_, _≤_, _<_}
+use mathlib.Core.Path.{_≡_, refl, sym, ap, _∙_}
+use mathlib.Core.Bool.{Bool, true, false, cond, _&&_}
+use mathlib.Core.List.{List, [], _∷_, _++_, map, append-assoc, append-nil}
+use native.Mathlib.Omega.{arith}
+use native.Mathlib.Nat.{add-zero}
+use native.Mathlib.Numerals.{add-one}
+use lib.Dec.{eqb}
+use lib.ListN.{length, take, drop, getD, length-append, length-drop, length-map, drop-of-length-le}
+use lib.Seq.{drop-drop, drop-cons, length-take-le, take-add}
+use borrow.Author.Tests.{eqb-true, le-leb}
+use Rattle.fields.specs.Facts.{All, Bytes}
+use Rattle.fields.specs.Number.{fromBe}
+use Rattle.fields.specs.Entries.{entry, joined}
+use Rattle.fields.specs.Overwrite.{overwritten}
+use Rattle.fields.specs.Sort.{sorted}
+use Rattle.fields.proofs.OrderLaws.{and-left, and-right, before-append, before-number, same-number}
+use Rattle.fields.proofs.OverwriteLaws.{length-overwritten, overwritten-next, overwritten-nil, overwritten-all}
+use Rattle.fields.proofs.EntriesLaws.{length-entry, entry-front, length-joined, entries-joined, Wide}
+use Rattle.fields.proofs.NumberLaws.{bytes-take, bytes-drop}
+use Rattle.fields.proofs.PartLaws.{part-below, length-part}
+use Rattle.fields.proofs.SortLaws.{map-sorted, all-sorted, length-sorted}
+use Rattle.fields.proofs.AllLaws.{all-at, all-drop, all-map}
+use Rattle.order.specs.Places.{keyAt, keyBelow}
+use Rattle.model.specs.Protocol.{Id}
+use Rattle.model.specs.Image.{recordSize, requestOf}
+use Rattle.model.specs.Sections.{Item, itemBelow, Batch, join, adjacent, batchesOf}
+use Rattle.model.specs.Requests.{Command, request, commandsOf, commandsFrom}
+use Rattle.model.specs.Commands.{commandBytes, allCommandBytes}
+use Rattle.model.specs.Check.{retrySendings}
+use Rattle.model.specs.Lists.{idsIn}
+use Rattle.model.proofs.Widths.{WellItem}
+use Rattle.model.proofs.SendingLaws.{retries-sent-well, sendings-bytes, retries-weight}
+use Rattle.requests.specs.Marking.{sentBytes}
+use Rattle.requests.proofs.RunLaws.{take-ids, drop-ids}
+use Rattle.delivery_check.specs.Checked.{itemOf}
+use Rattle.delivery_check.specs.declared.group.Batch as declared
+use Rattle.delivery_check.specs.Batches.{Asked, itemAt, itemsAt, idsAt, alike, span, batchAt, sendingsOf}
+use Rattle.delivery_check.proofs.RecordLaws.{entry-bytes, type-read, peer-read}
+
+-- ---- a list mapped, from an index on
+
+pub drop-map {ℓ κ} : {A : Type ℓ} {B : Type κ} (f : A → B) (i : ℕ) (xs : List A) → drop i (map f xs) ≡ map f (drop i xs)
+drop-map f zero xs = refl
+drop-map f (suc i) [] = refl
+drop-map f (suc i) (x ∷ xs) = drop-map f i xs
+
+pub take-map {ℓ κ} : {A : Type ℓ} {B : Type κ} (f : A → B) (i : ℕ) (xs : List A) → take i (map f xs) ≡ map f (take i xs)
+take-map f zero xs = refl
+take-map f (suc i) [] = refl
+take-map f (suc i) (x ∷ xs) = ap (λ ys. f x ∷ ys) (take-map f i xs)
+
+pub next-mapped {κ} : {B : Type κ} (f : ℕ → B) (places : List ℕ) (i : ℕ) → i < length places → map f (drop i places) ≡ f (getD places i 0) ∷ map f (drop (i + 1) places)
+next-mapped f places i h = rw (add-one, drop-cons places i 0 h)
+
+-- ---- the first batch of some items
+
+module _ (x : Item) where
+  -- the batch that the item starts, of those behind it that are alike
+  abbrev pub ids-with : List Item → List Id
+  ids-with items = x .id ∷ map (λ (i : Item). i .id) (take (span (alike x) items) items)
+
+  abbrev pub behind : List Item → List Item
+  behind items = drop (span (alike x) items) items
+
+adjacent-turn : (x : Item) (xs : List Item) → adjacent (x ∷ xs) ≡ record { typeId = x .typeId; peer = x .peer; ids = ids-with x xs } ∷ adjacent (behind x xs)
+unfolding alike
+adjacent-turn x [] = refl
+adjacent-turn x (y ∷ ys) = rw (adjacent-turn y ys) (go (eqb (x .typeId) (y .typeId) && eqb (x .peer) (y .peer)) refl (adjacent-turn y ys))
+  where
+    go : (t : Bool) → eqb (x .typeId) (y .typeId) && eqb (x .peer) (y .peer) ≡ t
+        → join y (adjacent ys) ≡ record { typeId = y .typeId; peer = y .peer; ids = ids-with y ys } ∷ adjacent (behind y ys)
+        → cond t (record { typeId = y .typeId; peer = y .peer; ids = x .id ∷ ids-with y ys } ∷ adjacent (behind y ys))
+        (record { typeId = x .typeId; peer = x .peer; ids = x .id ∷ [] } ∷ (record { typeId = y .typeId; peer = y .peer; ids = ids-with y ys } ∷ adjacent (behind y ys)))
+        ≡ record { typeId = x .typeId; peer = x .peer; ids = ids-with x (y ∷ ys) } ∷ adjacent (behind x (y ∷ ys))
+    go true e q =
+        let a : x .typeId ≡ y .typeId = eqb-true (x .typeId) (y .typeId) (and-left (eqb (x .typeId) (y .typeId)) (eqb (x .peer) (y .peer)) e) in
+        let b : x .peer ≡ y .peer = eqb-true (x .peer) (y .peer) (and-right (eqb (x .typeId) (y .typeId)) (eqb (x .peer) (y .peer)) e) in
+        rw (e, a, b)
+    go false e q = rw (e, q)
+
+commands-append : (cs ds : List Command) → allCommandBytes (cs ++ ds) ≡ allCommandBytes cs ++ allCommandBytes ds
+commands-append [] ds = refl
+commands-append (c ∷ cs) ds = rw (append-assoc (commandBytes c) (allCommandBytes cs) (allCommandBytes ds), commands-append cs ds)
+
+module _ (x : Item) (xs : List Item) where
+  pub sent-turn : (number : ℕ) → sentBytes number (sendingsOf (x ∷ xs))
+      ≡ allCommandBytes (commandsOf number (request (x .typeId) (x .peer) (ids-with x xs))) ++ sentBytes (suc number) (sendingsOf (behind x xs))
+  unfolding sentBytes sendingsOf
+  sent-turn number = rw (adjacent-turn x xs) (commands-append (commandsOf number (request (x .typeId) (x .peer) (ids-with x xs))) (commandsFrom (suc number) (sendingsOf (behind x xs))))
+
+  pub count-turn : length (sendingsOf (x ∷ xs)) ≡ suc (length (sendingsOf (behind x xs)))
+  unfolding sendingsOf
+  count-turn = rw (adjacent-turn x xs)
+
+pub span-le : (test : Item → Bool) (items : List Item) → span test items ≤ length items
+span-le test [] = omega arith
+span-le test (i ∷ items) = go (test i) (span-le test items)
+  where
+    go : (t : Bool) → span test items ≤ length items → cond t (suc (span test items)) 0 ≤ suc (length items)
+    go true h = omega arith
+    go false h = omega arith
+
+-- The writer at item i: `out` as it is, the next batch's number and place.
+pub record Sent (items : List Item) (batch at : ℕ) (d out : List ℕ) (place number i : ℕ) : Type 0 where
+  pub i-le : i ≤ length items
+  pub number-le : number ≤ batch + i
+  pub long : length out ≡ length d
+  pub to : place + length (sentBytes number (sendingsOf (drop i items))) ≡ at + length (sentBytes batch (sendingsOf items))
+  pub count : number + length (sendingsOf (drop i items)) ≡ batch + length (sendingsOf items)
+  pub rest : overwritten place (sentBytes number (sendingsOf (drop i items))) out ≡ overwritten at (sentBytes batch (sendingsOf items)) d
+
+pub sent-starts : (items : List Item) (batch at : ℕ) (d : List ℕ) → Sent items batch at d d at batch 0
+sent-starts items batch at d = record { i-le = omega arith; number-le = omega arith; long = refl; to = refl; count = refl; rest = refl }
+
+module _ (items : List Item) (batch at : ℕ) (d out : List ℕ) (place number i : ℕ) (s : Sent items batch at d out place number i) where
+  pub sent-ends : length items ≤ i → (out ≡ overwritten at (sentBytes batch (sendingsOf items)) d)
+      × ((place ≡ at + length (sentBytes batch (sendingsOf items))) × (number ≡ batch + length (sendingsOf items)))
+  unfolding sentBytes sendingsOf
+  sent-ends h =
+      let z : drop i items ≡ [] = drop-of-length-le items {i = i} h in
+      let a : overwritten place [] out ≡ overwritten at (sentBytes batch (sendingsOf items)) d = rw z at (s .rest) in
+      let b : place + 0 ≡ at + length (sentBytes batch (sendingsOf items)) = rw z at (s .to) in
+      let c : number + 0 ≡ batch + length (sendingsOf items) = rw z at (s .count) in
+      (sym (overwritten-nil place out) ∙ a, (sym (add-zero place) ∙ b, sym (add-zero number) ∙ c))
+
+  module _ (room : at + length (sentBytes batch (sendingsOf items)) ≤ length d) (x : Item) (xs : List Item) (e : drop i items ≡ x ∷ xs) (k : ℕ) (ek : k ≡ suc (span (alike x) xs)) where
+    rest-items : behind x xs ≡ drop (i + k) items
+    rest-items =
+        let n : drop k (x ∷ xs) ≡ behind x xs = rw ek in
+        sym n ∙ ap (drop k) (sym e) ∙ drop-drop k i items
+
+    whole : sentBytes number (sendingsOf (drop i items))
+        ≡ allCommandBytes (commandsOf number (request (x .typeId) (x .peer) (ids-with x xs))) ++ sentBytes (number + 1) (sendingsOf (drop (i + k) items))
+    whole = rw (e, add-one number, ← rest-items) (sent-turn x xs number)
+
+    lengths : length (sentBytes number (sendingsOf (drop i items)))
+        ≡ length (allCommandBytes (commandsOf number (request (x .typeId) (x .peer) (ids-with x xs)))) + length (sentBytes (number + 1) (sendingsOf (drop (i + k) items)))
+    lengths = ap length whole ∙ length-append (allCommandBytes (commandsOf number (request (x .typeId) (x .peer) (ids-with x xs)))) (sentBytes (number + 1) (sendingsOf (drop (i + k) items)))
+
+    pub batch-within : i + k ≤ length items
+    batch-within =
+        let a : length (drop i items) ≡ length items - i = length-drop i items in
+        let b : length (drop i items) ≡ suc (length xs) = ap length e in
+        let c : span (alike x) xs ≤ length xs = span-le (alike x) xs in
+        omega (arith, s .i-le)
+
+    pub batch-room : place + length (allCommandBytes (commandsOf number (request (x .typeId) (x .peer) (ids-with x xs)))) ≤ length out
+    batch-room = omega (arith, s .to, s .long, lengths)
+
+    pub sent-next : (o : List ℕ) (place′ : ℕ) → o ≡ overwritten place (allCommandBytes (commandsOf number (request (x .typeId) (x .peer) (ids-with x xs)))) out
+        → place′ ≡ place + length (allCommandBytes (commandsOf number (request (x .typeId) (x .peer) (ids-with x xs)))) → Sent items batch at d o place′ (number + 1) (i + k)
+    sent-next o place′ eo ep =
+        let R : List ℕ = allCommandBytes (commandsOf number (request (x .typeId) (x .peer) (ids-with x xs))) in
+        let T : List ℕ = sentBytes (number + 1) (sendingsOf (drop (i + k) items)) in
+        let c : length (sendingsOf (drop i items)) ≡ suc (length (sendingsOf (drop (i + k) items))) = rw (e, ← rest-items) (count-turn x xs) in
+        record {
+          i-le = batch-within;
+          number-le = omega (arith, s .number-le);
+          long = rw eo (length-overwritten place R out batch-room) ∙ s .long;
+          to = omega (arith, s .to, lengths);
+          count = omega (arith, s .count);
+          rest = rw (ep, eo) (overwritten-next place R T out (omega (arith, s .to, s .long, lengths)) ∙ rw whole at (s .rest));
+        }
+
+-- ---- whole ids
+
+whole-ids : (n : ℕ) → (n * 32) % 32 ≡ 0
+whole-ids n = omega arith
+
+whole-rest : (n i : ℕ) → (n * 32 - i * 32) % 32 ≡ 0
+whole-rest n i = omega arith
+
+all-ids : (es : List Id) → Wide 32 es → idsIn (joined es) ≡ es
+unfolding idsIn
+all-ids es w =
+    let l : length (joined es) ≡ length es * 32 = length-joined 32 es w in
+    let n : length (joined es) / 32 ≡ length es = omega arith in
+    rw n (rw (append-nil (joined es)) at (entries-joined 32 es [] w))
+
+-- ---- the records at the places
+
+module _ (t : List ℕ) where
+  pub item-id : (place : ℕ) → itemAt t place .id ≡ take 32 (drop (place * 54) t)
+  unfolding itemAt itemOf requestOf
+  item-id place = entry-front 54 place 32 t (omega arith)
+
+  pub item-type : (place : ℕ) → fromBe (take 2 (drop (place * 54 + 40) t)) ≡ itemAt t place .typeId
+  unfolding itemAt itemOf
+  item-type place = type-read place t
+
+  pub item-peer : (place : ℕ) → fromBe (take 8 (drop (place * 54 + 32) t)) ≡ itemAt t place .peer
+  unfolding itemAt itemOf
+  item-peer place = peer-read place t
+
+  id-long : (place : ℕ) → place * 54 + 54 ≤ length t → length (itemAt t place .id) ≡ 32
+  id-long place h = ap length (item-id place) ∙ length-part (place * 54) 32 t (omega arith)
+
+  pub ids-wide : (places : List ℕ) → All (Asked t) places → Wide 32 (idsAt t places)
+  ids-wide [] w = tt
+  ids-wide (place ∷ places) w = (id-long place (w .0 .0), ids-wide places (w .1))
+
+  pub length-ids : (places : List ℕ) → All (Asked t) places → length (joined (idsAt t places)) ≡ length places * 32
+  length-ids places w = length-joined 32 (idsAt t places) (ids-wide places w) ∙ rw (length-map places (λ (place : ℕ). itemAt t place .id))
+
+  ids-of-items : (places : List ℕ) → map (λ (i : Item). i .id) (itemsAt t places) ≡ idsAt t places
+  ids-of-items [] = refl
+  ids-of-items (place ∷ places) = ap (λ (ids : List Id). itemAt t place .id ∷ ids) (ids-of-items places)
+
+  pub same-batch : (p q p′ q′ a b c d : ℕ) → p′ ≡ p → q′ ≡ q → a ≡ fromBe (take 2 (drop (p′ * 54 + 40) t)) → b ≡ fromBe (take 2 (drop (q′ * 54 + 40) t))
+      → c ≡ fromBe (take 8 (drop (p′ * 54 + 32) t)) → d ≡ fromBe (take 8 (drop (q′ * 54 + 32) t)) → eqb a b && eqb c d ≡ alike (itemAt t p) (itemAt t q)
+  unfolding alike
+  same-batch p q p′ q′ a b c d ep eq ea eb ec ed =
+      let fa : a ≡ itemAt t p .typeId = ea ∙ rw ep (item-type p) in
+      let fb : b ≡ itemAt t q .typeId = eb ∙ rw eq (item-type q) in
+      let fc : c ≡ itemAt t p .peer = ec ∙ rw ep (item-peer p) in
+      let fd : d ≡ itemAt t q .peer = ed ∙ rw eq (item-peer q) in
+      rw (fa, fb, fc, fd)
+
+  pub next-item : (places : List ℕ) (i : ℕ) → i < length places → drop i (itemsAt t places) ≡ itemAt t (getD places i 0) ∷ itemsAt t (drop (i + 1) places)
+  next-item places i h = drop-map (itemAt t) i places ∙ next-mapped (itemAt t) places i h
+
+  -- the ids of the batch that starts at item i, by their bytes
+  pub batch-ids : (places ids : List ℕ) (i k : ℕ) (x : Item) (xs : List Item) → All (Asked t) places → ids ≡ joined (idsAt t places)
+      → drop i (itemsAt t places) ≡ x ∷ xs → k ≡ suc (span (alike x) xs) → idsIn (take (k * 32) (drop (i * 32) ids)) ≡ ids-with x xs
+  batch-ids places ids i k x xs w e here ek =
+      let l : length ids ≡ length places * 32 = ap length e ∙ length-ids places w in
+      let l′ : length (drop (i * 32) ids) ≡ length ids - i * 32 = length-drop (i * 32) ids in
+      let m : length (drop (i * 32) ids) % 32 ≡ 0 = rw (l′, l) (whole-rest (length places) i) in
+      let a : idsIn ids ≡ idsAt t places = rw e (all-ids (idsAt t places) (ids-wide places w)) in
+      let b : drop i (idsAt t places) ≡ map (λ (j : Item). j .id) (x ∷ xs) =
+      ap (drop i) (sym (ids-of-items places)) ∙ drop-map (λ (j : Item). j .id) i (itemsAt t places) ∙ ap (map (λ (j : Item). j .id)) here in
+      sym (take-ids k (drop (i * 32) ids) m) ∙ ap (take k) (sym (drop-ids i ids (rw l (whole-ids (length places)))) ∙ ap (drop i) a ∙ b)
+      ∙ take-map (λ (j : Item). j .id) k (x ∷ xs) ∙ rw ek
+
+-- The ids gathered from place i on: what is written, then the rest, is the whole.
+pub record Gathering (t places d ids : List ℕ) (i : ℕ) : Type 0 where
+  pub i-le : i ≤ length places
+  pub long : length ids ≡ length d
+  pub rest : overwritten (i * 32) (joined (idsAt t (drop i places))) ids ≡ overwritten 0 (joined (idsAt t places)) d
+
+pub gather-starts : (t places d : List ℕ) → Gathering t places d d 0
+gather-starts t places d = record { i-le = omega arith; long = refl; rest = refl }
+
+module _ (t places d ids : List ℕ) (i : ℕ) (g : Gathering t places d ids i) (w : All (Asked t) places) (room : length d ≡ length places * 32) where
+  pub gather-turn : i < length places → (x o : List ℕ) → x ≡ take 32 (drop (getD places i 0 * 54) t) → o ≡ overwritten (i * 32) x ids → Gathering t places d o (i + 1)
+  gather-turn h x o ex eo =
+      let place : ℕ = getD places i 0 in
+      let xi : x ≡ itemAt t place .id = ex ∙ sym (item-id t place) in
+      let a = all-at (Asked t) places i 0 h w in
+      let lx : length x ≡ 32 = ap length xi ∙ id-long t place (a .0) in
+      let T : List ℕ = joined (idsAt t (drop (i + 1) places)) in
+      let lT : length T ≡ length (drop (i + 1) places) * 32 = length-ids t (drop (i + 1) places) (all-drop (Asked t) (i + 1) places w) in
+      let ld : length (drop (i + 1) places) ≡ length places - (i + 1) = length-drop (i + 1) places in
+      let e : (i + 1) * 32 ≡ i * 32 + length x = omega arith in
+      let r : overwritten (i * 32) (x ++ T) ids ≡ overwritten 0 (joined (idsAt t places)) d =
+      rw xi (rw (next-mapped (λ (p : ℕ). itemAt t p .id) places i h) at (g .rest)) in
+      record {
+        i-le = omega arith;
+        long = rw eo (length-overwritten (i * 32) x ids (omega (arith, g .long))) ∙ g .long;
+        rest = rw (e, eo) (overwritten-next (i * 32) x T ids (omega (arith, g .long)) ∙ r);
+      }
+
+  pub gather-ends : length places ≤ i → ids ≡ joined (idsAt t places)
+  gather-ends h =
+      let z : drop i places ≡ [] = drop-of-length-le places {i = i} h in
+      let a : overwritten (i * 32) [] ids ≡ overwritten 0 (joined (idsAt t places)) d = rw z at (g .rest) in
+      sym (overwritten-nil (i * 32) ids) ∙ a ∙ overwritten-all (joined (idsAt t places)) d (length-ids t places w ∙ sym room)
+
+-- ---- sorted by ten bytes is sorted by target, then type
+
+module _ (t : List ℕ) (f : Bytes t) where
+  key-is : (place : ℕ) → place * 54 + 54 ≤ length t → keyAt 54 32 10 t place ≡ take 8 (drop 32 (entry 54 place t)) ++ take 2 (drop 40 (entry 54 place t))
+  unfolding keyAt
+  key-is place h = rw (le-leb (place * 54 + 54) (length t) h) (take-add 8 2 (drop 32 (entry 54 place t)) ∙ rw (drop-drop 8 32 (entry 54 place t)))
+
+  part-bytes : (at width place : ℕ) → Bytes (take width (drop at (entry 54 place t)))
+  part-bytes at width place = bytes-take width (drop at (entry 54 place t)) (bytes-drop at (entry 54 place t) (entry-bytes 54 place t f))
+
+  keys-agree : (p q : ℕ) → Asked t p → Asked t q → keyBelow 54 32 10 t p q ≡ itemBelow (itemAt t p) (itemAt t q)
+  unfolding keyBelow itemBelow itemAt itemOf requestOf
+  keys-agree p q hp hq =
+      let a : List ℕ = take 8 (drop 32 (entry 54 p t)) in
+      let b : List ℕ = take 8 (drop 32 (entry 54 q t)) in
+      let u : List ℕ = take 2 (drop 40 (entry 54 p t)) in
+      let v : List ℕ = take 2 (drop 40 (entry 54 q t)) in
+      let lp : length (entry 54 p t) ≡ 54 = length-entry 54 p t (hp .0) in
+      let lq : length (entry 54 q t) ≡ 54 = length-entry 54 q t (hq .0) in
+      let la : length a ≡ 8 = length-part 32 8 (entry 54 p t) (omega arith) in
+      let lb : length b ≡ 8 = length-part 32 8 (entry 54 q t) (omega arith) in
+      let lu : length u ≡ 2 = length-part 40 2 (entry 54 p t) (omega arith) in
+      let lv : length v ≡ 2 = length-part 40 2 (entry 54 q t) (omega arith) in
+      rw (key-is p (hp .0), key-is q (hq .0))
+      (before-append a b u v (omega arith)
+      ∙ rw (before-number a b (omega arith) (part-bytes 32 8 p) (part-bytes 32 8 q), same-number a b (omega arith) (part-bytes 32 8 p) (part-bytes 32 8 q), before-number u v (omega arith) (part-bytes 40 2 p) (part-bytes 40 2 q)))
+
+  well-item : (place : ℕ) → Asked t place → WellItem (itemAt t place)
+  unfolding itemAt itemOf requestOf
+  well-item place h =
+      let l : length (entry 54 place t) ≡ 54 = length-entry 54 place t (h .0) in
+      record {
+        id = record { long = length-part 0 32 (entry 54 place t) (omega arith); bytes = bytes-take 32 (entry 54 place t) (entry-bytes 54 place t f) };
+        typeId = h .1;
+        peer = part-below 32 8 (entry 54 place t) (omega arith) (entry-bytes 54 place t f);
+      }
+
+  -- the places sorted, as the model's batches of them
+  module _ (places now′ : List ℕ) (w : All (Asked t) places) (e : now′ ≡ sorted (keyBelow 54 32 10 t) places) where
+    pub sorted-asked : All (Asked t) now′
+    sorted-asked = rw e (all-sorted (keyBelow 54 32 10 t) (Asked t) places w)
+
+    pub sorted-length : length now′ ≡ length places
+    sorted-length = ap length e ∙ length-sorted (keyBelow 54 32 10 t) places
+
+    pub sorted-sendings : sendingsOf (itemsAt t now′) ≡ retrySendings (itemsAt t places)
+    unfolding sendingsOf retrySendings batchesOf
+    sorted-sendings = rw (e, map-sorted (keyBelow 54 32 10 t) itemBelow (itemAt t) (Asked t) keys-agree places w)
+
+    pub sorted-room : (batch : ℕ) → length (sentBytes batch (sendingsOf (itemsAt t now′))) ≤ length places * 48
+    unfolding sentBytes
+    sorted-room batch =
+        let well : All WellItem (itemsAt t places) = all-map (Asked t) WellItem (itemAt t) well-item places w in
+        let a = sendings-bytes batch (retrySendings (itemsAt t places)) (retries-sent-well (itemsAt t places) well) in
+        let b = retries-weight (itemsAt t places) in
+        let c : length (itemsAt t places) ≡ length places = length-map places (itemAt t) in
+        rw sorted-sendings (omega arith)
+
+pub asked-both : (t places : List ℕ) → All (λ (place : ℕ). place * 54 + 54 ≤ length t) places → All (λ (place : ℕ). requestOf (entry recordSize place t) .typeId < 256) places → All (Asked t) places
+asked-both t [] a b = tt
+asked-both t (place ∷ places) a b = ((a .0, b .0), asked-both t places (a .1) (b .1))
+
+-- the items as the contract writes them
+pub items-plain : (t places : List ℕ) → itemsAt t places ≡ map (λ (place : ℕ). itemOf (requestOf (entry recordSize place t))) places
+unfolding itemAt
+items-plain t places = refl
+
+-- ---- the end of a batch
+
+module _ (t : List ℕ) (x : Item) (places : List ℕ) (j : ℕ) where
+  pub span-more : j < length places → alike x (itemAt t (getD places j 0)) ≡ true → span (alike x) (itemsAt t (drop j places)) ≡ suc (span (alike x) (itemsAt t (drop (j + 1) places)))
+  span-more h e = rw (next-mapped (itemAt t) places j h, e)
+
+  pub span-stop : j < length places → alike x (itemAt t (getD places j 0)) ≡ false → span (alike x) (itemsAt t (drop j places)) ≡ 0
+  span-stop h e = rw (next-mapped (itemAt t) places j h, e)
+
+  pub span-end : length places ≤ j → span (alike x) (itemsAt t (drop j places)) ≡ 0
+  span-end h = rw (drop-of-length-le places {i = j} h)
+
+-- ---- one batch by value
+
+pub batch-as : (t places : List ℕ) (first place target typeid end : ℕ) → place ≡ getD places first 0
+    → target ≡ fromBe (take 8 (drop (place * 54 + 32) t)) → typeid ≡ fromBe (take 2 (drop (place * 54 + 40) t))
+    → end ≡ first + suc (span (alike (itemAt t (getD places first 0))) (itemsAt t (drop (first + 1) places)))
+    → (target ≡ batchAt t places first .target) × ((typeid ≡ batchAt t places first .typeid) × (end - first ≡ batchAt t places first .count))
+unfolding batchAt
+batch-as t places first place target typeid end e a b c =
+    (a ∙ rw e (item-peer t (getD places first 0)), (b ∙ rw e (item-type t (getD places first 0)), omega arith))
+
+module _ (t places ids : List ℕ) (batch at : ℕ) (d out : List ℕ) (place number i : ℕ) (s : Sent (itemsAt t places) batch at d out place number i) (w : All (Asked t) places)
+    (e : ids ≡ joined (idsAt t places)) (room : at + length (sentBytes batch (sendingsOf (itemsAt t places))) ≤ length d) (h : i < length places)
+    (r : declared.Batch) (q : r ≡ batchAt t places i) where
+  here : drop i (itemsAt t places) ≡ itemAt t (getD places i 0) ∷ itemsAt t (drop (i + 1) places)
+  here = next-item t places i h
+
+  count-is : r .count ≡ suc (span (alike (itemAt t (getD places i 0))) (itemsAt t (drop (i + 1) places)))
+  unfolding batchAt
+  count-is = ap (λ (b : declared.Batch). b .count) q
+
+  type-is : r .typeid ≡ itemAt t (getD places i 0) .typeId
+  unfolding batchAt
+  type-is = ap (λ (b : declared.Batch). b .typeid) q
+
+  target-is : r .target ≡ itemAt t (getD places i 0) .peer
+  unfolding batchAt
+  target-is = ap (λ (b : declared.Batch). b .target) q
+
+  pub one-more : 0 < r .count
+  one-more = omega (arith, count-is)
+
+  pub one-within : i + r .count ≤ length places
+  one-within =
+      omega (arith, batch-within (itemsAt t places) batch at d out place number i s room (itemAt t (getD places i 0)) (itemsAt t (drop (i + 1) places)) here (r .count) count-is, length-map places (itemAt t))
+
+  pub ids-length : length ids ≡ length places * 32
+  ids-length = ap length e ∙ length-ids t places w
+
+  module _ (part : List ℕ) (ep : part ≡ take (i * 32 + r .count * 32 - i * 32) (drop (i * 32) ids)) where
+    part-is : part ≡ take (r .count * 32) (drop (i * 32) ids)
+    part-is = let n : i * 32 + r .count * 32 - i * 32 ≡ r .count * 32 = omega arith in ep ∙ rw n
+
+    pub part-length : length part ≡ r .count * 32
+    part-length =
+        let l : length (drop (i * 32) ids) ≡ length ids - i * 32 = length-drop (i * 32) ids in
+        ap length part-is ∙ length-take-le (r .count * 32) (drop (i * 32) ids) (omega (arith, ids-length, one-within))
+
+    command-is : allCommandBytes (commandsOf number (request (r .typeid) (r .target) (idsIn part)))
+        ≡ allCommandBytes (commandsOf number (request (itemAt t (getD places i 0) .typeId) (itemAt t (getD places i 0) .peer) (ids-with (itemAt t (getD places i 0)) (itemsAt t (drop (i + 1) places)))))
+    command-is =
+        rw (type-is, target-is, part-is, batch-ids t places ids i (r .count) (itemAt t (getD places i 0)) (itemsAt t (drop (i + 1) places)) w e here count-is)
+
+    pub one-room : place + length (allCommandBytes (commandsOf number (request (r .typeid) (r .target) (idsIn part)))) ≤ length out
+    one-room =
+        rw command-is (batch-room (itemsAt t places) batch at d out place number i s room (itemAt t (getD places i 0)) (itemsAt t (drop (i + 1) places)) here (r .count) count-is)
+
+    pub one-sent : (o : List ℕ) (place′ : ℕ) → o ≡ overwritten place (allCommandBytes (commandsOf number (request (r .typeid) (r .target) (idsIn part)))) out
+        → place′ ≡ place + length (allCommandBytes (commandsOf number (request (r .typeid) (r .target) (idsIn part)))) → Sent (itemsAt t places) batch at d o place′ (number + 1) (i + r .count)
+    one-sent o place′ eo el =
+        sent-next (itemsAt t places) batch at d out place number i s room (itemAt t (getD places i 0)) (itemsAt t (drop (i + 1) places)) here (r .count) count-is o place′
+        (eo ∙ ap (λ (x : List ℕ). overwritten place x out) command-is) (el ∙ ap (λ (x : List ℕ). place + length x) command-is)

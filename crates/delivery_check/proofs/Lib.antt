@@ -1,0 +1,4 @@
+pub mod RetryLaws
+pub mod RecordLaws
+pub mod CheckLaws
+pub mod GroupLaws

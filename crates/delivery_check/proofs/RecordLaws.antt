@@ -1,0 +1,188 @@
+-- A record in a table: what the check reads of it, and what it writes anew.
+use Prim.Native.Nat.{ℕ, suc, _+_, _*_, _≤_}
+use mathlib.Core.Path.{_≡_, refl, sym, ap, _∙_}
+use mathlib.Core.Bool.{Bool, true, false}
+use mathlib.Core.List.{List, [], _++_, append-assoc, append-nil}
+use native.Mathlib.Omega.{arith}
+use native.Mathlib.Nat.{mul-le-mul-right}
+use native.Mathlib.Numerals.{add-one}
+use lib.ListN.{length, take, drop, length-append}
+use lib.Seq.{take-at, drop-at, length-take-le}
+use borrow.Author.Tests.{eq-eqb, ne-eqb}
+use Rattle.fields.specs.Facts.{Bytes}
+use Rattle.fields.specs.Number.{fromBe, toBe}
+use Rattle.fields.specs.Entries.{entry}
+use Rattle.fields.specs.Overwrite.{overwritten}
+use Rattle.fields.proofs.NumberLaws.{bytes-take, bytes-drop}
+use Rattle.fields.proofs.OverwriteLaws.{length-overwritten, overwritten-within, overwritten-again, read-back}
+use Rattle.fields.proofs.EntriesLaws.{length-entry, entry-field}
+use Rattle.model.specs.Protocol.{isTransaction}
+use Rattle.model.specs.Settings.{Settings, expired, givenUp}
+use Rattle.model.specs.Delivery.{Request, waiting, retried, abandoned, forgotten, verdict, restarted}
+use Rattle.model.specs.Image.{recordSize, requestOf, requestBytes}
+use Rattle.model.proofs.RecordLaws.{bytes-of-request, length-request}
+use Rattle.delivery_check.specs.Turn.{restartedTo}
+
+-- ---- what is read
+
+module _ (i : ℕ) (t : List ℕ) where
+  pub peer-read : fromBe (take 8 (drop (i * 54 + 32) t)) ≡ requestOf (entry recordSize i t) .peer
+  unfolding requestOf
+  peer-read = ap fromBe (sym (entry-field 54 i 32 8 t (omega arith)))
+
+  pub type-read : fromBe (take 2 (drop (i * 54 + 40) t)) ≡ requestOf (entry recordSize i t) .typeId
+  unfolding requestOf
+  type-read = ap fromBe (sym (entry-field 54 i 40 2 t (omega arith)))
+
+  pub stamp-read : fromBe (take 8 (drop (i * 54 + 42) t)) ≡ requestOf (entry recordSize i t) .stamp
+  unfolding requestOf
+  stamp-read = ap fromBe (sym (entry-field 54 i 42 8 t (omega arith)))
+
+  pub checks-read : fromBe (take 4 (drop (i * 54 + 50) t)) ≡ requestOf (entry recordSize i t) .checks
+  unfolding requestOf
+  checks-read = ap fromBe (sym (entry-field 54 i 50 4 t (omega arith)))
+
+-- ---- the verdict, test by test, of what was read
+
+module _ (settings : Settings) (clock i : ℕ) (t : List ℕ) (st ty ck : ℕ) (es : st ≡ fromBe (take 8 (drop (i * 54 + 42) t)))
+    (et : ty ≡ fromBe (take 2 (drop (i * 54 + 40) t))) (ec : ck ≡ fromBe (take 4 (drop (i * 54 + 50) t))) (x : Bool) (ex : x ≡ expired settings clock ty ck st) where
+  type-is : requestOf (entry recordSize i t) .typeId ≡ ty
+  type-is = sym (et ∙ type-read i t)
+
+  checks-are : suc (requestOf (entry recordSize i t) .checks) ≡ ck + 1
+  checks-are = ap suc (sym (ec ∙ checks-read i t)) ∙ sym (add-one ck)
+
+  expired-is : expired settings clock (requestOf (entry recordSize i t) .typeId) (requestOf (entry recordSize i t) .checks) (requestOf (entry recordSize i t) .stamp) ≡ x
+  expired-is = rw (type-is, ← checks-read i t, ← ec, ← stamp-read i t, ← es) (sym ex)
+
+  pub not-expired : x ≡ false → waiting ≡ verdict settings clock (requestOf (entry recordSize i t))
+  unfolding verdict
+  not-expired e = rw (expired-is, e)
+
+  module _ (e : x ≡ true) where
+    pub is-forgotten : ty ≡ 2 → forgotten ≡ verdict settings clock (requestOf (entry recordSize i t))
+    unfolding verdict isTransaction
+    is-forgotten g = rw (expired-is, e, type-is, eq-eqb ty 2 g)
+
+    module _ (ne : ty ≡ 2 → ⊥) (y : Bool) (ey : y ≡ givenUp settings (ck + 1)) where
+      pub is-abandoned : y ≡ true → abandoned ≡ verdict settings clock (requestOf (entry recordSize i t))
+      unfolding verdict isTransaction
+      is-abandoned g = rw (expired-is, e, type-is, ne-eqb ty 2 ne, checks-are, ← ey, g)
+
+      pub is-retried : y ≡ false → retried ≡ verdict settings clock (requestOf (entry recordSize i t))
+      unfolding verdict isTransaction
+      is-retried g = rw (expired-is, e, type-is, ne-eqb ty 2 ne, checks-are, ← ey, g)
+
+-- ---- what is written
+
+entry-part : (width i : ℕ) (s : List ℕ) → entry width i s ≡ take width (drop (i * width) s)
+unfolding entry
+entry-part width i s = refl
+
+id-long : (e : List ℕ) → length e ≡ 54 → length (requestOf e .id) ≡ 32
+unfolding requestOf
+id-long e l = length-take-le 32 e (omega arith)
+
+-- a part of some bytes written over
+over-part : (at : ℕ) (a b c new : List ℕ) → length a ≡ at → length b ≡ length new → overwritten at new (a ++ (b ++ c)) ≡ a ++ (new ++ c)
+unfolding overwritten
+over-part at a b c new h l =
+    let e : length (a ++ b) ≡ at + length new = rw length-append (omega arith) in
+    let d : drop (at + length new) (a ++ (b ++ c)) ≡ c = rw (← append-assoc a b c) (drop-at (a ++ b) c (at + length new) e) in
+    rw (take-at a (b ++ c) at h, d)
+
+-- peer, stamp and checks of a record written over
+fields-over : (id p q ty st su ck cl : List ℕ) → length id ≡ 32 → length p ≡ 8 → length q ≡ 8 → length ty ≡ 2 → length st ≡ 8 → length su ≡ 8 → length ck ≡ 4 → length cl ≡ 4
+    → overwritten 50 cl (overwritten 42 su (overwritten 32 q (id ++ (p ++ (ty ++ (st ++ ck)))))) ≡ id ++ (q ++ (ty ++ (su ++ cl)))
+fields-over id p q ty st su ck cl hi hp hq ht hs hu hc hl =
+    let a : overwritten 32 q (id ++ (p ++ (ty ++ (st ++ ck)))) ≡ id ++ (q ++ (ty ++ (st ++ ck))) = over-part 32 id p (ty ++ (st ++ ck)) q hi (omega arith) in
+    let lb : length (id ++ (q ++ ty)) ≡ 42 = simp length-append (omega arith) in
+    let gb : (tail : List ℕ) → id ++ (q ++ (ty ++ tail)) ≡ (id ++ (q ++ ty)) ++ tail = λ tail. simp append-assoc in
+    let b : overwritten 42 su (id ++ (q ++ (ty ++ (st ++ ck)))) ≡ id ++ (q ++ (ty ++ (su ++ ck))) =
+    ap (overwritten 42 su) (gb (st ++ ck)) ∙ over-part 42 (id ++ (q ++ ty)) st ck su lb (omega arith) ∙ sym (gb (su ++ ck)) in
+    let lc : length (id ++ (q ++ (ty ++ su))) ≡ 50 = simp length-append (omega arith) in
+    let gc : (tail : List ℕ) → id ++ (q ++ (ty ++ (su ++ tail))) ≡ (id ++ (q ++ (ty ++ su))) ++ tail = λ tail. simp append-assoc in
+    let c : overwritten 50 cl (id ++ (q ++ (ty ++ (su ++ ck)))) ≡ id ++ (q ++ (ty ++ (su ++ cl))) =
+    ap (overwritten 50 cl) (gc ck ∙ ap (λ (tail : List ℕ). (id ++ (q ++ (ty ++ su))) ++ tail) (sym (append-nil ck)))
+    ∙ over-part 50 (id ++ (q ++ (ty ++ su))) ck [] cl lc (omega arith) ∙ ap (λ (tail : List ℕ). (id ++ (q ++ (ty ++ su))) ++ tail) (append-nil cl) ∙ sym (gc cl) in
+    ap (λ (x : List ℕ). overwritten 50 cl (overwritten 42 su x)) a ∙ ap (overwritten 50 cl) b ∙ c
+
+record-anew : (clock : ℕ) (target : ℕ → ℕ) (e : List ℕ) → length e ≡ 54 → Bytes e
+    → overwritten 50 (toBe 4 (suc (requestOf e .checks))) (overwritten 42 (toBe 8 clock) (overwritten 32 (toBe 8 (target (requestOf e .peer))) e))
+    ≡ requestBytes (restartedTo clock target (requestOf e))
+unfolding requestBytes restartedTo restarted
+record-anew clock target e l f =
+    let r : Request = requestOf e in
+    ap (λ (x : List ℕ). overwritten 50 (toBe 4 (suc (r .checks))) (overwritten 42 (toBe 8 clock) (overwritten 32 (toBe 8 (target (r .peer))) x))) (sym (bytes-of-request e l f))
+    ∙ fields-over (r .id) (toBe 8 (r .peer)) (toBe 8 (target (r .peer))) (toBe 2 (r .typeId)) (toBe 8 (r .stamp)) (toBe 8 clock) (toBe 4 (r .checks)) (toBe 4 (suc (r .checks)))
+    (id-long e l) refl refl refl refl refl refl refl
+
+-- a further field of entry i written over
+field-again : (width i at : ℕ) (new e t o : List ℕ) → o ≡ overwritten (i * width) e t → length e ≡ width → at + length new ≤ width → i * width + width ≤ length t
+    → overwritten (i * width + at) new o ≡ overwritten (i * width) (overwritten at new e) t
+field-again width i at new e t o q le h l =
+    let lo : length o ≡ length t = ap length q ∙ length-overwritten (i * width) e t (omega arith) in
+    let back : take width (drop (i * width) o) ≡ e = ap (λ (n : ℕ). take n (drop (i * width) o)) (sym le) ∙ rw q (read-back (i * width) e t (omega arith)) in
+    let lf : length (overwritten at new e) ≡ width = length-overwritten at new e (omega arith) ∙ le in
+    overwritten-within (i * width) width at new o h (omega arith) ∙ rw (back, q) (overwritten-again (i * width) e (overwritten at new e) t (omega arith) (omega arith))
+
+-- three fields of entry i written one after another
+three-fields : (width i a b c : ℕ) (x y z t o₁ o₂ o₃ : List ℕ) → a + length x ≤ width → b + length y ≤ width → c + length z ≤ width → i * width + width ≤ length t
+    → o₁ ≡ overwritten (i * width + a) x t → o₂ ≡ overwritten (i * width + b) y o₁ → o₃ ≡ overwritten (i * width + c) z o₂
+    → o₃ ≡ overwritten (i * width) (overwritten c z (overwritten b y (overwritten a x (entry width i t)))) t
+unfolding entry
+three-fields width i a b c x y z t o₁ o₂ o₃ hx hy hz l e₁ e₂ e₃ =
+    let e : List ℕ = entry width i t in
+    let le : length e ≡ width = length-entry width i t l in
+    let one : List ℕ = overwritten a x e in
+    let two : List ℕ = overwritten b y one in
+    let l₁ : length one ≡ width = length-overwritten a x e (omega arith) ∙ le in
+    let l₂ : length two ≡ width = length-overwritten b y one (omega arith) ∙ l₁ in
+    let s₁ : o₁ ≡ overwritten (i * width) one t = e₁ ∙ overwritten-within (i * width) width a x t hx l in
+    let s₂ : o₂ ≡ overwritten (i * width) two t = e₂ ∙ field-again width i b y one t o₁ s₁ l₁ hy l in
+    e₃ ∙ field-again width i c z two t o₂ s₂ l₂ hz l
+
+pub entry-bytes : (width i : ℕ) (t : List ℕ) → Bytes t → Bytes (entry width i t)
+unfolding entry
+entry-bytes width i t f = bytes-take width (drop (i * width) t) (bytes-drop (i * width) t f)
+
+-- what `restart` writes
+pub restarts : (i clock : ℕ) (target : ℕ → ℕ) (t o₁ o₂ o₃ : List ℕ) (peer checks asked : ℕ) → i * 54 + 54 ≤ length t → Bytes t
+    → peer ≡ fromBe (take 8 (drop (i * 54 + 32) t)) → checks ≡ fromBe (take 4 (drop (i * 54 + 50) t)) → asked ≡ target peer
+    → o₁ ≡ overwritten (i * 54 + 32) (toBe 8 asked) t → o₂ ≡ overwritten (i * 54 + 42) (toBe 8 clock) o₁ → o₃ ≡ overwritten (i * 54 + 50) (toBe 4 (checks + 1)) o₂
+    → o₃ ≡ overwritten (i * 54) (requestBytes (restartedTo clock target (requestOf (entry recordSize i t)))) t
+restarts i clock target t o₁ o₂ o₃ peer checks asked l f ep ec ea e₁ e₂ e₃ =
+    let e : List ℕ = entry recordSize i t in
+    let p : asked ≡ target (requestOf e .peer) = ea ∙ ap target (ep ∙ peer-read i t) in
+    let k : checks + 1 ≡ suc (requestOf e .checks) = add-one checks ∙ ap suc (ec ∙ checks-read i t) in
+    let a : o₁ ≡ overwritten (i * 54 + 32) (toBe 8 (target (requestOf e .peer))) t = e₁ ∙ ap (λ (n : ℕ). overwritten (i * 54 + 32) (toBe 8 n) t) p in
+    let c : o₃ ≡ overwritten (i * 54 + 50) (toBe 4 (suc (requestOf e .checks))) o₂ = e₃ ∙ ap (λ (n : ℕ). overwritten (i * 54 + 50) (toBe 4 n) o₂) k in
+    three-fields 54 i 32 42 50 (toBe 8 (target (requestOf e .peer))) (toBe 8 clock) (toBe 4 (suc (requestOf e .checks))) t o₁ o₂ o₃ (omega arith) (omega arith) (omega arith) l a e₂ c
+    ∙ ap (λ (x : List ℕ). overwritten (i * 54) x t) (record-anew clock target e (length-entry 54 i t l) (entry-bytes 54 i t f))
+
+pub restarted-long : (clock : ℕ) (target : ℕ → ℕ) (e : List ℕ) → length e ≡ 54 → length (requestBytes (restartedTo clock target (requestOf e))) ≡ 54
+unfolding restartedTo restarted requestOf
+restarted-long clock target e l = length-request (restartedTo clock target (requestOf e)) (id-long e l)
+
+-- ---- a record moved down, then restarted there
+
+module _ (i place : ℕ) (t u : List ℕ) (h : place ≤ i) (l : i * 54 + 54 ≤ length t) (e : u ≡ overwritten (place * 54) (entry 54 i t) t) where
+  fits : place * 54 + 54 ≤ length t
+  fits = omega (arith, mul-le-mul-right 54 h)
+
+  long : length (entry 54 i t) ≡ 54
+  long = length-entry 54 i t l
+
+  pub entry-moved : entry recordSize place u ≡ entry recordSize i t
+  entry-moved =
+      entry-part 54 place u ∙ rw e (ap (λ (n : ℕ). take n (drop (place * 54) (overwritten (place * 54) (entry 54 i t) t))) (sym long) ∙ read-back (place * 54) (entry 54 i t) t (omega (arith, fits, long)))
+
+  pub moved-length : length u ≡ length t
+  moved-length = ap length e ∙ length-overwritten (place * 54) (entry 54 i t) t (omega (arith, fits, long))
+
+  pub moved-restarted : (clock : ℕ) (target : ℕ → ℕ) (v : List ℕ) → v ≡ overwritten (place * 54) (requestBytes (restartedTo clock target (requestOf (entry recordSize place u)))) u
+      → v ≡ overwritten (place * 54) (requestBytes (restartedTo clock target (requestOf (entry recordSize i t)))) t
+  moved-restarted clock target v q =
+      let new : List ℕ = requestBytes (restartedTo clock target (requestOf (entry recordSize i t))) in
+      let n : length new ≡ 54 = restarted-long clock target (entry recordSize i t) long in
+      q ∙ rw (entry-moved, e) (overwritten-again (place * 54) (entry 54 i t) new t (omega (arith, long)) (omega (arith, fits, long)))

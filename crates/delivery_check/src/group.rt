@@ -1,0 +1,151 @@
+// The retries in batches by target, then type.
+ghost use mathlib.Core.Path.{_≡_};
+ghost use mathlib.Core.List.{map};
+ghost use Prim.Native.Nat.{ℕ, suc, _+_, _*_, _≤_, _<_};
+ghost use lib.ListN.{length, drop, getD};
+ghost use Rattle.fields.specs.Facts.{All};
+ghost use Rattle.fields.specs.Entries.{entry, joined};
+ghost use Rattle.fields.specs.Overwrite.{overwritten};
+ghost use Rattle.model.specs.Image.{requestOf, recordSize};
+ghost use Rattle.model.specs.Check.{retrySendings};
+ghost use Rattle.requests.specs.Marking.{sentBytes};
+ghost use Rattle.delivery_check.specs.Checked.{itemOf};
+ghost use Rattle.delivery_check.specs.Batches.{Asked, itemAt, itemsAt, idsAt, alike, span, batchAt, sendingsOf};
+
+// "each a target, a type, a first place and a count"
+pub struct Batch {
+    pub target: u64,
+    pub typeid: u8,
+    pub first: usize,
+    pub count: usize,
+}
+
+pub struct Written {
+    pub at: usize,
+    pub batch: u16,
+}
+
+fn wide(x: u16) -> usize
+    ensures { λ r. ⌜ r ≡ x ⌝ }
+{
+    x as usize
+}
+
+// The ids of the records at `places`, one after another.
+fn gather(table: &[u8], places: &[u16], ids: &mut [u8])
+    requires { ⌜ All (Asked (now table)) (now places) × (length (now ids) ≡ length (now places) * 32) ⌝ }
+    ensures { λ _. ⌜ now (ids .exit) ≡ joined (idsAt (now (table .entry)) (now (places .entry))) ⌝ }
+{
+    let mut i = 0;
+    while i < places.len() {
+        let from = wide(places[i]) * 54;
+        let end = from + 32;
+        table::moves::overwrite(ids, i * 32, &table[from..end]);
+        i += 1;
+    }
+}
+
+// Whether the records at two places go into one batch.
+fn same_batch(table: &[u8], one: u16, other: u16) -> bool
+    requires { ⌜ (one * 54 + 54 ≤ length (now table)) × (other * 54 + 54 ≤ length (now table)) ⌝ }
+    ensures { λ r. ⌜ r ≡ alike (itemAt (now (table .entry)) one) (itemAt (now (table .entry)) other) ⌝ }
+{
+    let a = wide(one) * 54;
+    let b = wide(other) * 54;
+    (fields::read_u16(table, a + 40) == fields::read_u16(table, b + 40))
+        & (fields::read_u64(table, a + 32) == fields::read_u64(table, b + 32))
+}
+
+// Where the batch that starts at `first` ends.
+fn batch_end(table: &[u8], places: &[u16], first: usize) -> usize
+    requires { ⌜ All (Asked (now table)) (now places) × (first < length (now places)) ⌝ }
+    ensures { λ r. ⌜ r ≡ first + suc (span (alike (itemAt (now (table .entry)) (getD (now (places .entry)) first 0))) (itemsAt (now (table .entry)) (drop (first + 1) (now (places .entry))))) ⌝ }
+{
+    let mut end = first + 1;
+    while end < places.len() {
+        if !same_batch(table, places[first], places[end]) {
+            return end;
+        }
+        end += 1;
+    }
+    end
+}
+
+// The batch that starts at `first`.
+pub fn next_batch(table: &[u8], places: &[u16], first: usize) -> Batch
+    requires { ⌜ All (Asked (now table)) (now places) × (first < length (now places)) ⌝ }
+    ensures { λ r. ⌜ r ≡ batchAt (now (table .entry)) (now (places .entry)) first ⌝ }
+{
+    let end = batch_end(table, places, first);
+    let at = wide(places[first]) * 54;
+    Batch {
+        target: fields::read_u64(table, at + 32),
+        typeid: fields::read_u16(table, at + 40) as u8,
+        first,
+        count: end - first,
+    }
+}
+
+// Requests for the records at `places`, neighbours of one target and type as one batch; `ids` are theirs.
+fn put_batches(
+    table: &[u8],
+    places: &[u16],
+    ids: &[u8],
+    out: &mut [u8],
+    at: usize,
+    batch: u16,
+) -> Written
+    requires { ⌜ All (Asked (now table)) (now places) × ((now ids ≡ joined (idsAt (now table) (now places))) × (length (now places) ≤ 1024)) ⌝ }
+    requires { ⌜ (at + length (sentBytes batch (sendingsOf (itemsAt (now table) (now places)))) ≤ length (now out)) × (batch + length (now places) < 65536) ⌝ }
+    ensures { λ _. ⌜ now (out .exit) ≡ overwritten at (sentBytes batch (sendingsOf (itemsAt (now (table .entry)) (now (places .entry))))) (now (out .entry)) ⌝ }
+    ensures { λ r. ⌜ r .at ≡ at + length (sentBytes batch (sendingsOf (itemsAt (now (table .entry)) (now (places .entry))))) ⌝ }
+    ensures { λ r. ⌜ r .batch ≡ batch + length (sendingsOf (itemsAt (now (table .entry)) (now (places .entry)))) ⌝ }
+{
+    let mut place = at;
+    let mut number = batch;
+    let mut i = 0;
+    while i < places.len() {
+        let one = next_batch(table, places, i);
+        let count = one.count;
+        let from = i * 32;
+        let end = from + count * 32;
+        place = requests::commands::put_requests(
+            out,
+            place,
+            one.typeid,
+            number,
+            one.target,
+            &ids[from..end],
+        );
+        number += 1;
+        i += count;
+    }
+    Written {
+        at: place,
+        batch: number,
+    }
+}
+
+// Requests for the records at `places`, each from the peer that it names, as batches by target, then type. `spare` and
+// `ids` are room to work in.
+pub fn put_retries(
+    table: &[u8],
+    places: &mut [u16],
+    spare: &mut [u16],
+    ids: &mut [u8],
+    out: &mut [u8],
+    at: usize,
+    batch: u16,
+) -> Written
+    requires { ⌜ All (λ (place : ℕ). place * 54 + 54 ≤ length (now table)) (now places) ⌝ }
+    requires { ⌜ All (λ (place : ℕ). requestOf (entry recordSize place (now table)) .typeId < 256) (now places) ⌝ }
+    requires { ⌜ (length (now spare) ≡ length (now places)) × (length (now ids) ≡ length (now places) * 32) ⌝ }
+    requires { ⌜ (length (now places) ≤ 1024) × ((at + length (now places) * 48 ≤ length (now out)) × (batch + length (now places) < 65536)) ⌝ }
+    ensures { λ _. ⌜ now (out .exit) ≡ overwritten at (sentBytes batch (retrySendings (map (λ (place : ℕ). itemOf (requestOf (entry recordSize place (now (table .entry))))) (now (places .entry))))) (now (out .entry)) ⌝ }
+    ensures { λ r. ⌜ r .at ≡ at + length (sentBytes batch (retrySendings (map (λ (place : ℕ). itemOf (requestOf (entry recordSize place (now (table .entry))))) (now (places .entry))))) ⌝ }
+    ensures { λ r. ⌜ r .batch ≡ batch + length (retrySendings (map (λ (place : ℕ). itemOf (requestOf (entry recordSize place (now (table .entry))))) (now (places .entry)))) ⌝ }
+{
+    order::sort(table, 54, 32, 10, places, spare);
+    gather(table, places, ids);
+    put_batches(table, places, ids, out, at, batch)
+}

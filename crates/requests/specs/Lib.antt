@@ -1,0 +1,3 @@
+pub mod Pending
+pub mod Keys
+pub mod Marking
