@@ -14,9 +14,9 @@ use Rattle.fields.proofs.AllLaws.{all-by-index, all-marked}
 use Rattle.fields.proofs.MarkLaws.{kept-all, kept-same-test, kept-kept, marked-unset}
 use Rattle.fields.proofs.OrderLaws.{same-sym, before-not-same}
 use Rattle.fields.proofs.RisingLaws.{rising-at}
-use Rattle.table.specs.Find.{found}
-use Rattle.table.specs.declared.find.Found.the-variants.{At, Gap}
-use Rattle.table.proofs.FindLaws.{at-inside, at-same, at-key, gap-absent}
+use Rattle.search.specs.Find.{found}
+use Rattle.search.specs.declared.find.Found.the-variants.{At, Gap}
+use Rattle.search.proofs.FindLaws.{at-inside, at-same, at-key, gap-absent}
 use Rattle.model.specs.Protocol.{Id, isAmong}
 use Rattle.model.specs.Image.{idSize}
 use Rattle.model.specs.Lists.{idsIn}

@@ -15,7 +15,7 @@ ghost use Rattle.requests.specs.Pending.{requestsIn, holding};
 ghost use Rattle.delivery_check.specs.Checked.{aimedAt, pendingAfterCheck, checkedAs, retriedPlaces};
 ghost use Rattle.delivery_check.specs.Turn.{verdictOf, restartedTo, tableAfter, placesAfter, countsAfter};
 use settings::Settings;
-use settings::peers::Listed;
+use peers::Listed;
 
 // Where retries go: to their own peer, or to the first listed peer and, for what failed there, to the first other.
 pub enum Aim {
@@ -45,8 +45,8 @@ pub fn retry_aim(peers: &[u8], gate: bool) -> Aim
     if !gate {
         return Aim::Same;
     }
-    match settings::peers::first_listed(peers) {
-        Listed::Peer(first) => Aim::Other(first, settings::peers::retry_target(peers, first)),
+    match peers::first_listed(peers) {
+        Listed::Peer(first) => Aim::Other(first, peers::retry_target(peers, first)),
         Listed::Nobody => Aim::Same,
     }
 }

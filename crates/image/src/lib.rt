@@ -1,6 +1,2 @@
-// The state area: whether it is well formed, its header by value, and a fresh one.
-//
-// The test is one pass over the pending records, one over their ids and one over what must be zero, and compares the
-// stalled peers in pairs.
-pub mod formed;
+// The state area: its header by value, and a fresh one.
 pub mod head;

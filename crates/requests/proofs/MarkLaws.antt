@@ -23,9 +23,9 @@ use Rattle.fields.proofs.SortLaws.{length-inserted, all-inserted, map-inserted}
 use Rattle.fields.proofs.OverwriteLaws.{overwritten-all}
 use Rattle.fields.proofs.RisingLaws.{rising-ascending, ascending-rising}
 use Rattle.fields.proofs.EntriesLaws.{Wide, length-entry, length-entries, entries-at, entries-wide, entries-bytes, entries-front, entries-take, length-joined, replaced-same, replaced-more, replaced-again, entries-replaced, length-replaced}
-use Rattle.table.specs.Find.{found}
-use Rattle.table.specs.declared.find.Found.the-variants.{At, Gap}
-use Rattle.table.proofs.FindLaws.{gap-stop}
+use Rattle.search.specs.Find.{found}
+use Rattle.search.specs.declared.find.Found.the-variants.{At, Gap}
+use Rattle.search.proofs.FindLaws.{gap-stop}
 use Rattle.model.specs.Protocol.{Id}
 use Rattle.model.specs.Delivery.{Request, isPending, idBefore, markRequested}
 use Rattle.model.specs.Image.{requestOf, requestBytes}

@@ -18,9 +18,9 @@ use Rattle.fields.proofs.OverwriteLaws.{overwritten-next, overwritten-nil, leng
 use Rattle.fields.proofs.EntriesLaws.{Wide, length-entries, entries-at, entries-wide, length-entry, length-joined}
 use Rattle.fields.proofs.FilterLaws.{length-kept}
 use Rattle.fields.proofs.AllLaws.{all-kept, all-drop}
-use Rattle.table.specs.Find.{found}
-use Rattle.table.specs.declared.find.Found.the-variants.{At, Gap}
-use Rattle.table.proofs.FindLaws.{at-inside, at-same, gap-absent}
+use Rattle.search.specs.Find.{found}
+use Rattle.search.specs.declared.find.Found.the-variants.{At, Gap}
+use Rattle.search.proofs.FindLaws.{at-inside, at-same, gap-absent}
 use Rattle.model.specs.Protocol.{Id, isAmong}
 use Rattle.model.specs.Delivery.{Request, isPending}
 use Rattle.model.specs.Requests.{Pair, isStored, wanted}

@@ -12,7 +12,7 @@ ghost use Rattle.model.specs.Delivery.{markRequested};
 ghost use Rattle.model.specs.Lists.{idsIn};
 ghost use Rattle.requests.specs.Pending.{requestsIn, holding};
 ghost use Rattle.requests.specs.Marking.{markedAs, heldWithin, newRequest};
-use table::find::Found;
+use search::find::Found;
 
 pub enum Marked {
     Pending(usize),
@@ -62,7 +62,7 @@ fn mark_one(
     ensures { λ r. ⌜ r ≡ markedAs most (markRequested clock typeid peer (now (id .entry) ∷ []) (requestsIn count (now (table .entry)))) ⌝ }
     ensures { λ _. ⌜ now (table .exit) ≡ heldWithin most count (markRequested clock typeid peer (now (id .entry) ∷ []) (requestsIn count (now (table .entry)))) (now (table .entry)) ⌝ }
 {
-    match table::find::find(table, 54, count, id) {
+    match search::find::find(table, 54, count, id) {
         Found::At(_) => Marked::Pending(count),
         Found::Gap(gap) => {
             if most <= count {

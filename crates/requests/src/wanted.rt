@@ -10,7 +10,7 @@ ghost use Rattle.model.specs.Requests as model;
 ghost use Rattle.model.specs.Lists.{idsIn, pairsIn, pairsFit};
 ghost use Rattle.requests.specs.Pending.{requestsIn};
 ghost use Rattle.requests.specs.Keys.{hasKey};
-use table::find::Found;
+use search::find::Found;
 
 // Whether an entry starts with the key.
 fn has_key(table: &[u8], width: usize, count: usize, key: &[u8]) -> bool
@@ -18,7 +18,7 @@ fn has_key(table: &[u8], width: usize, count: usize, key: &[u8]) -> bool
     requires { ⌜ rising (length (now key)) (entries width count (now table)) ≡ true ⌝ }
     ensures { λ r. ⌜ r ≡ hasKey (now (key .entry)) (entries width count (now (table .entry))) ⌝ }
 {
-    match table::find::find(table, width, count, key) {
+    match search::find::find(table, width, count, key) {
         Found::At(_) => true,
         Found::Gap(_) => false,
     }

@@ -1,7 +1,7 @@
-// Settings held with their rules, the send clock, the stalled set and the first listed peer, all by value.
+// Settings held with their rules and the send clock, by value.
 //
 // Every rule that asks whether a request is expired or given up, whether a send is throttled or a peer has stalled asks
-// here. All function equals its definition in model/specs.
+// here. Each function equals its definition in model/specs.
 ghost use mathlib.Core.Path.{_≡_};
 ghost use mathlib.Core.Bool.{not};
 ghost use Prim.Native.Nat.{_≤_};
@@ -9,9 +9,6 @@ ghost use Rattle.model.specs.Settings as model;
 ghost use Rattle.model.specs.Peers as peers;
 ghost use Rattle.settings.specs.Values.{settingsOf, sendClockOf};
 ghost use Rattle.fields.specs.Facts.{All};
-
-pub mod peers;
-pub mod stalled;
 
 // "Settings are 32-bit values held with their rules": timeout, `max_checks`, `min_sync_send_interval`, `stall_timeout`.
 pub struct Settings {

@@ -1,4 +1,3 @@
 pub mod MoveLaws
 pub mod EditLaws
 pub mod KeepLaws
-pub mod FindLaws

@@ -1,9 +1,7 @@
 // Tables: entries of one width at the front of a byte slice.
 //
-// A search costs log n comparisons, an edit one move of the bytes behind it, a filter one pass. Every edit gives the
-// whole slice: the entries as a list, zero where entries were, and the bytes behind as they were.
+// An edit costs one move of the bytes behind it, a filter one pass. Every edit gives the whole slice: the entries as a
+// list, zero where entries were, and the bytes behind as they were.
 pub mod edit;
-pub mod find;
 pub mod keep;
 pub mod moves;
-pub mod rising;

@@ -1,7 +1,7 @@
 -- By the gate and the first listed peer: `aim-shut`, `aim-other`, `aim-nobody`.
 use borrow.Author.Tests.{not-true, not-false}
 use Rattle.model.specs.Lists.{peersIn}
-use Rattle.settings.specs.Values.{listedPeer}
+use Rattle.peers.specs.Values.{listedPeer}
 use Rattle.delivery_check.proofs.RetryLaws.{aim-shut, aim-other, aim-nobody}
 use borrow.Author.Needs.{needs}
 use Prim.Native.Nat.{_-_}

@@ -1,0 +1,47 @@
+-- The invariant: what is found so far, and the records from i on, give what all of them give.
+use Prim.Native.Nat.{_-_, _≤_}
+use mathlib.Core.Bool.{_&&_}
+use mathlib.Core.Path.{_≡_, refl, sym, _∙_}
+use native.Mathlib.Omega.{arith}
+use lib.ListN.{drop}
+use borrow.Author.Needs.{needs}
+use Rattle.fields.specs.Entries.{entries}
+use Rattle.settings.specs.Values.{settingsOf}
+use Rattle.formed.proofs.TestLaws.{recordsFit, fits-turn, fits-end}
+use Rattle.formed.proofs.records_fit.Statement.{statement}
+use Rattle.formed.proofs.records_fit.Tie as tie
+
+abbrev Inv-loop : tie.InvT-loop
+Inv-loop region count settings clock ok₀ i₀ ok i = (i ≤ count) × (ok && recordsFit (settingsOf settings) clock (drop i (entries 54 count region)) ≡ recordsFit (settingsOf settings) clock (entries 54 count region))
+
+abbrev μ-loop : tie.MeasureT-loop
+μ-loop region count settings clock ok₀ i₀ ok i = count - i
+
+loop-holds : tie.Need-loop-holds Inv-loop μ-loop
+loop-holds c = (omega arith, refl)
+
+record-fits-requires : tie.Need-record-fits-requires Inv-loop μ-loop
+record-fits-requires c κs = search needs
+
+add-i : tie.Need-add-i Inv-loop μ-loop
+add-i c = search needs
+
+loop-less : tie.Need-loop-less Inv-loop μ-loop
+loop-less c = search needs
+
+loop-again : tie.Need-loop-again Inv-loop μ-loop
+loop-again c =
+    let l = c .before .before .loop in
+    let s = c .before .before .before .before .args in
+    (omega arith, rw (c .record-fits .ensures) (sym (fits-turn (settingsOf (s .settings)) (s .clock) (s .count) (l .i) (s .region .now) (l .ok) (c .before .loop-test .taken)) ∙ l .inv .1))
+
+returns : tie.Need-returns Inv-loop μ-loop
+returns c =
+    let l = c .before .loop in
+    let s = c .before .before .before .args in
+    sym (fits-end (settingsOf (s .settings)) (s .clock) (s .count) (l .i) (s .region .now) (l .ok) (c .loop-test .left)) ∙ l .inv .1
+
+pub records-fit-spec : {M : Type 1} → statement M
+records-fit-spec =
+    tie.close
+    (tie.spec Inv-loop μ-loop loop-holds record-fits-requires add-i loop-less loop-again returns)

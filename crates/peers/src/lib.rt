@@ -1,0 +1,80 @@
+// The peers that a call lists, 8 bytes each.
+ghost use mathlib.Core.Path.{_≡_};
+ghost use mathlib.Core.Bool.{not};
+ghost use Prim.Native.Nat.{_≤_};
+ghost use Rattle.model.specs.Peers as model;
+ghost use Rattle.model.specs.Check.{retryTarget};
+ghost use Rattle.model.specs.Lists.{peersIn};
+ghost use Rattle.stalled.specs.Values.{stalledPeers};
+ghost use Rattle.peers.specs.Values.{listedPeer};
+use stalled::Stalled;
+
+pub enum Listed {
+    Peer(u64),
+    Nobody,
+}
+
+// The first listed peer, if one is listed.
+pub fn first_listed(peers: &[u8]) -> Listed
+    ensures { λ r. ⌜ listedPeer r ≡ model.firstOf (peersIn (now (peers .entry))) ⌝ }
+{
+    if peers.len() < 8 {
+        return Listed::Nobody;
+    }
+    Listed::Peer(fields::read_u64(peers, 0))
+}
+
+// Where a timed-out request goes next (rule 6): the first listed peer other than the failed one, else the failed one.
+pub fn retry_target(peers: &[u8], failed: u64) -> u64
+    ensures { λ r. ⌜ r ≡ retryTarget (peersIn (now (peers .entry))) failed ⌝ }
+{
+    let count = peers.len() / 8;
+    let mut i = 0;
+    while i < count {
+        let peer = fields::read_u64(peers, i * 8);
+        if peer != failed {
+            return peer;
+        }
+        i += 1;
+    }
+    failed
+}
+
+// The first listed peer that has not stalled, if there is one.
+fn first_unstalled(stalled: Stalled, peers: &[u8]) -> Listed
+    requires { ⌜ stalled .count ≤ 256 ⌝ }
+    ensures { λ r. ⌜ listedPeer r ≡ model.firstUnstalled (stalledPeers stalled) (peersIn (now (peers .entry))) ⌝ }
+{
+    let count = peers.len() / 8;
+    let mut i = 0;
+    while i < count {
+        let peer = fields::read_u64(peers, i * 8);
+        if !stalled.contains(peer) {
+            return Listed::Peer(peer);
+        }
+        i += 1;
+    }
+    Listed::Nobody
+}
+
+// The peer to sync from (rule 1): the first listed that has not stalled; if all have, the first listed.
+pub fn select_peer(stalled: Stalled, peers: &[u8]) -> Listed
+    requires { ⌜ stalled .count ≤ 256 ⌝ }
+    ensures { λ r. ⌜ listedPeer r ≡ model.selectPeer (stalledPeers stalled) (peersIn (now (peers .entry))) ⌝ }
+{
+    let Listed::Peer(peer) = first_unstalled(stalled, peers) else {
+        return first_listed(peers);
+    };
+    Listed::Peer(peer)
+}
+
+// Whether selecting empties the stalled set: no listed peer is outside it, also where none is listed.
+pub fn all_stalled(stalled: Stalled, peers: &[u8]) -> bool
+    requires { ⌜ stalled .count ≤ 256 ⌝ }
+    ensures { λ r. ⌜ r ≡ not (model.isSome (model.firstUnstalled (stalledPeers stalled) (peersIn (now (peers .entry))))) ⌝ }
+{
+    let Listed::Peer(_) = first_unstalled(stalled, peers) else {
+        return true;
+    };
+    false
+}

@@ -1,2 +1,0 @@
-pub mod StalledLaws
-pub mod PeerLaws
