@@ -21,7 +21,7 @@ fn is_orphan(table: &[u8], i: usize, peer: u64) -> bool
     let at = i * 54;
     let asked = fields::read_u64(table, at + 32);
     let typeid = fields::read_u16(table, at + 40);
-    (asked == peer) & !(typeid == 2)
+    (asked == peer) & !(typeid == model::TRANSACTION)
 }
 
 // Writes record i's type and id at index `to` of the pairs. The type's high byte is zero.

@@ -78,7 +78,7 @@ fn verdict_at(table: &[u8], i: usize, settings: Settings, clock: u64) -> Verdict
     if !settings.expired(clock, typeid, checks, stamp) {
         return Verdict::Waiting;
     }
-    if typeid == 2 {
+    if typeid == model::TRANSACTION {
         return Verdict::Forgotten;
     }
     if settings.given_up(checks + 1) {

@@ -5,13 +5,12 @@ use mathlib.Core.Bool.{Bool, true, false, cond}
 use mathlib.Core.List.{List, [], _∷_, _++_, map}
 use native.Mathlib.Nat.{not-suc-le-zero, le-of-suc-le-suc}
 use native.Mathlib.Omega.{arith}
-use lib.ListN.{length, take, drop, getD, set, take-append-drop, length-drop}
-use lib.Seq.{length-take-le}
+use lib.ListN.{length, take, drop, getD, set, take-append-drop}
 use lib.Dec.{eqb}
 use Rattle.fields.specs.Facts.{All, Bytes}
 use Rattle.fields.specs.Entries.{entries, insertedAt, removedAt}
 use Rattle.fields.specs.Filter.{consIf, kept, marked}
-use Rattle.fields.proofs.NumberLaws.{bytes-take, bytes-drop}
+use Rattle.fields.proofs.EntriesLaws.{entries-wide, entries-bytes}
 
 module _ {ℓ κ} {A : Type ℓ} (P : A → Type κ) where
   pub all-append : (xs ys : List A) → All P xs → All P ys → All P (xs ++ ys)
@@ -94,13 +93,15 @@ module _ {ℓ κ} {A : Type ℓ} (P : A → Type κ) where
   either true x y p q = p
   either false x y p q = q
 
+pub all-both {ℓ κ} : {A : Type ℓ} (P Q : A → Type κ) (xs : List A) → All P xs → All Q xs → All (λ x. P x × Q x) xs
+all-both P Q [] p q = tt
+all-both P Q (x ∷ xs) p q = ((p .0, q .0), all-both P Q xs (p .1) (q .1))
+
 -- every entry is as long as it should be, and of bytes
 pub entries-all : (width n : ℕ) (bytes : List ℕ) → n * width ≤ length bytes → Bytes bytes
     → All (λ (e : List ℕ). (length e ≡ width) × Bytes e) (entries width n bytes)
-entries-all width zero bytes h b = tt
-entries-all width (suc n) bytes h b =
-    let k : n * width + width ≤ length bytes = omega arith in
-    ((length-take-le width bytes (omega arith), bytes-take width bytes b), entries-all width n (drop width bytes) (simp length-drop (omega arith)) (bytes-drop width bytes b))
+entries-all width n bytes h b =
+    all-both (λ (e : List ℕ). length e ≡ width) Bytes (entries width n bytes) (entries-wide width n bytes h) (entries-bytes width n bytes b)
 
 pub all-by-index {ℓ κ} : {A : Type ℓ} (P : A → Type κ) (xs : List A) (d : A) → ((j : ℕ) → j < length xs → P (getD xs j d)) → All P xs
 all-by-index P [] d f = tt

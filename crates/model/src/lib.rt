@@ -4,6 +4,9 @@
 
 pub const TRANSACTION_TYPE_ID: u8 = 2;
 
+// The same as a record holds it, in two bytes.
+pub const TRANSACTION: u16 = TRANSACTION_TYPE_ID as u16;
+
 pub const HEADER_TYPE_ID: u8 = 101;
 
 pub const BLOCK_TRANSACTIONS_TYPE_ID: u8 = 102;

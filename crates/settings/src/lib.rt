@@ -57,7 +57,7 @@ impl Settings {
     pub fn most_requests(self, typeid: u16) -> u32
         ensures { λ r. ⌜ r ≡ model.mostRequests (settingsOf self) typeid ⌝ }
     {
-        if typeid == 2 {
+        if typeid == model::TRANSACTION {
             return 1;
         }
         if self.checks < 1 {
