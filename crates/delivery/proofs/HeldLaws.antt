@@ -19,8 +19,8 @@ use Rattle.fields.proofs.FilterLaws.{length-kept}
 use Rattle.fields.proofs.MarkLaws.{kept-map, length-marks-left}
 use Rattle.fields.proofs.OverwriteLaws.{overwritten-next}
 use Rattle.fields.proofs.EntriesLaws.{Wide, length-entries, entries-wide, entries-bytes, joined-entries, joined-append, replaced-fewer, drop-replaced, length-replaced}
-use Rattle.table.specs.Move.{moved}
-use Rattle.table.proofs.MoveLaws.{length-part}
+use Rattle.moving.specs.Move.{moved}
+use Rattle.moving.proofs.MoveLaws.{length-part}
 use Rattle.model.specs.Protocol.{Id, isAmong}
 use Rattle.model.specs.Delivery.{Request, markReceived, pendingAfterEviction, evictedAfterEviction, purgePeer, purgeAll}
 use Rattle.model.specs.Image.{idSize, recordSize, requestOf}

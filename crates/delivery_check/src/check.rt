@@ -14,8 +14,8 @@ ghost use Rattle.settings.specs.Values.{settingsOf};
 ghost use Rattle.requests.specs.Pending.{requestsIn, holding};
 ghost use Rattle.delivery_check.specs.Checked.{aimedAt, pendingAfterCheck, checkedAs, retriedPlaces};
 ghost use Rattle.delivery_check.specs.Turn.{verdictOf, restartedTo, tableAfter, placesAfter, countsAfter};
-use settings::Settings;
 use peers::Listed;
+use settings::Settings;
 
 // Where retries go: to their own peer, or to the first listed peer and, for what failed there, to the first other.
 pub enum Aim {

@@ -10,8 +10,8 @@ use Rattle.fields.specs.Overwrite.{overwritten}
 use Rattle.fields.specs.Entries.{entries, joined, insertedAt, removedAt, replaced}
 use Rattle.fields.proofs.OverwriteLaws.{take-before, take-through, drop-from, drop-after}
 use Rattle.fields.proofs.EntriesLaws.{length-entries, joined-entries, replaced-fewer, replaced-inserted, replaced-removed, replaced-appended}
-use Rattle.table.specs.Move.{moved}
-use Rattle.table.proofs.MoveLaws.{length-part}
+use Rattle.moving.specs.Move.{moved}
+use Rattle.moving.proofs.MoveLaws.{length-part}
 
 -- the bytes before an entry and from it on; and behind it
 pub bytes-from : (width count at : ℕ) → at ≤ count → at * width + (count - at) * width ≡ count * width

@@ -15,7 +15,7 @@ use Rattle.fields.specs.Zero.{zeros}
 use Rattle.fields.proofs.OverwriteLaws.{length-overwritten, drop-after, overwritten-same}
 use Rattle.fields.proofs.EntriesLaws.{length-entries, length-entry, entries-at, entries-then}
 use Rattle.fields.proofs.FilterLaws.{marked-next, marked-end}
-use Rattle.table.specs.Move.{moved}
+use Rattle.moving.specs.Move.{moved}
 use Rattle.table.proofs.EditLaws.{cut-down}
 
 module _ (width from to : ℕ) (s : List ℕ) where

@@ -1,3 +1,2 @@
-pub mod MoveLaws
 pub mod EditLaws
 pub mod KeepLaws

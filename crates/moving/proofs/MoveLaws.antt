@@ -7,11 +7,13 @@ use lib.ListN.{length, take, drop, length-drop}
 use lib.Seq.{take-add, drop-drop, length-take-le}
 use borrow.Rule.Slice.PartMut.{putMid}
 use Rattle.fields.specs.Number.{fromBe, toBe}
+use Rattle.fields.specs.Zero.{zeros}
 use Rattle.fields.specs.Overwrite.{overwritten}
 use Rattle.fields.specs.Facts.{Bytes}
 use Rattle.fields.proofs.NumberLaws.{bytes-take, bytes-drop, toBe-fromBe}
+use Rattle.fields.proofs.ZeroLaws.{length-zeros}
 use Rattle.fields.proofs.OverwriteLaws.{overwritten-nil, overwritten-next, overwritten-in-front, overwritten-same, length-overwritten, drop-after, part-before}
-use Rattle.table.specs.Move.{moved}
+use Rattle.moving.specs.Move.{moved}
 
 pub length-part : (from size : ℕ) (s : List ℕ) → from + size ≤ length s → length (take size (drop from s)) ≡ size
 length-part from size s h = length-take-le size (drop from s) (simp length-drop (omega arith))
@@ -124,3 +126,11 @@ unfolding overwritten
 part-back at size new back s l e =
     let k : at + size - at ≡ size = omega arith in
     rw (e, k, l, drop-drop)
+
+-- a part that came back as zeros
+pub part-cleared : (at size : ℕ) (back s : List ℕ) → at + size ≤ length s → back ≡ zeros (length (take (at + size - at) (drop at s)))
+    → putMid at (at + size - at) s back ≡ overwritten at (zeros size) s
+part-cleared at size back s h e =
+    let k : at + size - at ≡ size = omega arith in
+    let z : back ≡ zeros size = rw (k, length-part at size s h) at e in
+    part-back at size (zeros size) back s (length-zeros size) z

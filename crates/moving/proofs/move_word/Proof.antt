@@ -2,9 +2,9 @@
 use mathlib.Core.Path.{_∙_}
 use native.Mathlib.Omega.{arith}
 use borrow.Author.Needs.{needs}
-use Rattle.table.proofs.MoveLaws.{moved-word}
-use Rattle.table.proofs.moves.move_word.Statement.{statement}
-use Rattle.table.proofs.moves.move_word.Tie as tie
+use Rattle.moving.proofs.MoveLaws.{moved-word}
+use Rattle.moving.proofs.move_word.Statement.{statement}
+use Rattle.moving.proofs.move_word.Tie as tie
 
 read-requires : tie.Need-read-requires
 read-requires c κs = search needs

@@ -1,9 +1,9 @@
 -- Four words, all read before the first is written: `moved-block`.
 use native.Mathlib.Omega.{arith}
 use borrow.Author.Needs.{needs}
-use Rattle.table.proofs.MoveLaws.{moved-block}
-use Rattle.table.proofs.moves.move_block.Statement.{statement}
-use Rattle.table.proofs.moves.move_block.Tie as tie
+use Rattle.moving.proofs.MoveLaws.{moved-block}
+use Rattle.moving.proofs.move_block.Statement.{statement}
+use Rattle.moving.proofs.move_block.Tie as tie
 
 read-u64-requires : tie.Need-read-u64-requires
 read-u64-requires c κs = search needs

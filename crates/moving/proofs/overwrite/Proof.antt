@@ -2,9 +2,9 @@
 use mathlib.Core.Path.{refl}
 use lib.ListN.{length}
 use borrow.Author.Needs.{needs}
-use Rattle.table.proofs.MoveLaws.{part-back}
-use Rattle.table.proofs.moves.overwrite.Statement.{statement}
-use Rattle.table.proofs.moves.overwrite.Tie as tie
+use Rattle.moving.proofs.MoveLaws.{part-back}
+use Rattle.moving.proofs.overwrite.Statement.{statement}
+use Rattle.moving.proofs.overwrite.Tie as tie
 
 add-end : tie.Need-add-end
 add-end c = search needs

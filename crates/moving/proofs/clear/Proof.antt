@@ -1,0 +1,40 @@
+-- The part that was lent comes back as zeros: `part-cleared`.
+use native.Mathlib.Omega.{arith}
+use borrow.Author.Needs.{needs}
+use Rattle.moving.proofs.MoveLaws.{part-cleared}
+use Rattle.moving.proofs.clear.Statement.{statement}
+use Rattle.moving.proofs.clear.Tie as tie
+
+add-end : tie.Need-add-end
+add-end c = search needs
+
+sub-fill-zero : tie.Need-sub-fill-zero
+sub-fill-zero c = search needs
+
+part-fill-zero-start : tie.Need-part-fill-zero-start
+part-fill-zero-start c = search needs
+
+part-fill-zero-end : tie.Need-part-fill-zero-end
+part-fill-zero-end c = search needs
+
+fill-zero-requires : tie.Need-fill-zero-requires
+fill-zero-requires c κs = search needs
+
+same-length : tie.Need-same-length
+same-length c = search needs
+
+returns : tie.Need-returns
+returns c = let s = c .before .before .before .before .before .args in
+    part-cleared (s .at) (s .size) (c .before .before .fill-zero .last .0) (s .s .now) (omega arith) (c .before .before .fill-zero .ensures)
+
+pub clear-spec : {M : Type 1} → statement M
+clear-spec =
+    tie.close
+    (tie.spec
+    add-end
+    sub-fill-zero
+    part-fill-zero-start
+    part-fill-zero-end
+    fill-zero-requires
+    same-length
+    returns)
