@@ -8,7 +8,6 @@ ghost use Prim.Native.Nat.{_≤_};
 ghost use Rattle.model.specs.Settings as model;
 ghost use Rattle.model.specs.Peers as peers;
 ghost use Rattle.settings.specs.Values.{settingsOf, sendClockOf};
-ghost use Rattle.fields.specs.Facts.{All};
 
 // "Settings are 32-bit values held with their rules": timeout, `max_checks`, `min_sync_send_interval`, `stall_timeout`.
 pub struct Settings {
