@@ -21,8 +21,8 @@ fn append_evicted(region: &mut [u8], evicted: usize, ids: &[u8])
 {
     let size = evicted * 32;
     let from = region.len() - size;
-    table::moves::move_down(region, from, from - ids.len(), size);
-    table::moves::overwrite(region, region.len() - ids.len(), ids);
+    moving::move_down(region, from, from - ids.len(), size);
+    moving::overwrite(region, region.len() - ids.len(), ids);
 }
 
 // With more than 1,024 pending and evicted then, the answer is Full and the region stays.

@@ -34,7 +34,7 @@ fn put_pair(table: &[u8], i: usize, pairs: &mut [u8], to: usize)
     let end = from + 32;
     let at = to * 33;
     pairs[at] = table[from + 41];
-    table::moves::overwrite(pairs, at + 1, &table[from..end]);
+    moving::overwrite(pairs, at + 1, &table[from..end]);
 }
 
 // The peer's requests that are no transactions, as pairs of type and id at the front of `pairs`, in the table's order.
@@ -105,5 +105,5 @@ pub fn purge_all(table: &mut [u8], count: usize)
     requires { ⌜ count * 54 ≤ length (now table) ⌝ }
     ensures { λ _. ⌜ now (table .exit) ≡ holding count (purgeAll (requestsIn count (now (table .entry)))) (now (table .entry)) ⌝ }
 {
-    table::moves::clear(table, 0, count * 54);
+    moving::clear(table, 0, count * 54);
 }

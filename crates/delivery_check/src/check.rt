@@ -189,6 +189,6 @@ pub fn check_timeouts(
         i += 1;
     }
     let left = counts.pending;
-    table::moves::clear(table, left * 54, (count - left) * 54);
+    moving::clear(table, left * 54, (count - left) * 54);
     counts
 }

@@ -40,7 +40,7 @@ fn gather(table: &[u8], places: &[u16], ids: &mut [u8])
     while i < places.len() {
         let from = wide(places[i]) * 54;
         let end = from + 32;
-        table::moves::overwrite(ids, i * 32, &table[from..end]);
+        moving::overwrite(ids, i * 32, &table[from..end]);
         i += 1;
     }
 }

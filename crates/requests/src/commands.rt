@@ -35,7 +35,7 @@ pub fn put_command(
     fields::write_u64(out, at + 4, peer);
     let number = ids.len() / 32;
     fields::write_u32(out, at + 12, number as u32);
-    table::moves::overwrite(out, at + 16, ids);
+    moving::overwrite(out, at + 16, ids);
     at + 16 + ids.len()
 }
 

@@ -31,7 +31,7 @@ fn put_record(out: &mut [u8], at: usize, clock: u64, typeid: u8, peer: u64, id: 
     ensures { λ _. ⌜ now (out .exit) ≡ overwritten at (requestBytes (newRequest clock typeid peer (now (id .entry)))) (now (out .entry)) ⌝ }
 {
     let kind = wide(typeid);
-    table::moves::overwrite(out, at, id);
+    moving::overwrite(out, at, id);
     fields::write_u64(out, at + 32, peer);
     fields::write_u16(out, at + 40, kind);
     fields::write_u64(out, at + 42, clock);

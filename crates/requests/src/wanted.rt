@@ -40,7 +40,7 @@ pub fn is_stored(stored: &[u8], typeid: u8, id: &[u8]) -> bool
 {
     let mut key = [0u8; 33];
     key[0] = typeid;
-    table::moves::overwrite(&mut key, 1, id);
+    moving::overwrite(&mut key, 1, id);
     has_key(stored, 33, stored.len() / 33, &key)
 }
 
@@ -77,7 +77,7 @@ pub fn wanted(
         let start = i * 32;
         let end = start + 32;
         if is_wanted(table, count, stored, typeid, &ids[start..end]) {
-            table::moves::overwrite(rest, kept * 32, &ids[start..end]);
+            moving::overwrite(rest, kept * 32, &ids[start..end]);
             kept += 1;
         }
         i += 1;

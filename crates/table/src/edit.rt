@@ -12,8 +12,8 @@ pub fn insert(table: &mut [u8], width: usize, count: usize, at: usize, new: &[u8
 {
     let place = at * width;
     let size = (count - at) * width;
-    crate::moves::move_up(table, place, place + width, size);
-    crate::moves::overwrite(table, place, new);
+    moving::move_up(table, place, place + width, size);
+    moving::overwrite(table, place, new);
 }
 
 // The entry at index `at` taken out; those behind it move down, and zeros stand where the last one was.
@@ -23,8 +23,8 @@ pub fn remove(table: &mut [u8], width: usize, count: usize, at: usize)
 {
     let place = at * width;
     let size = (count - at - 1) * width;
-    crate::moves::move_down(table, place + width, place, size);
-    crate::moves::clear(table, place + size, width);
+    moving::move_down(table, place + width, place, size);
+    moving::clear(table, place + size, width);
 }
 
 // `more` entries, one after another in `new`, behind the last.
@@ -32,5 +32,5 @@ pub fn append(table: &mut [u8], width: usize, count: usize, more: usize, new: &[
     requires { ⌜ (length (now new) ≡ more * width) × ((count + more) * width ≤ length (now table)) ⌝ }
     ensures { λ _. ⌜ now (table .exit) ≡ replaced width count (entries width count (now (table .entry)) ++ entries width more (now (new .entry))) (now (table .entry)) ⌝ }
 {
-    crate::moves::overwrite(table, count * width, new);
+    moving::overwrite(table, count * width, new);
 }

@@ -12,7 +12,7 @@ pub fn move_entry(table: &mut [u8], width: usize, from: usize, to: usize)
     ensures { λ _. ⌜ now (table .exit) ≡ overwritten (to * width) (entry width from (now (table .entry))) (now (table .entry)) ⌝ }
 {
     if to < from {
-        crate::moves::move_down(table, from * width, to * width, width);
+        moving::move_down(table, from * width, to * width, width);
     }
 }
 
@@ -31,6 +31,6 @@ pub fn keep(table: &mut [u8], width: usize, count: usize, marks: &[u8]) -> usize
         }
         i += 1;
     }
-    crate::moves::clear(table, kept * width, (count - kept) * width);
+    moving::clear(table, kept * width, (count - kept) * width);
     kept
 }

@@ -4,4 +4,3 @@
 // list, zero where entries were, and the bytes behind as they were.
 pub mod edit;
 pub mod keep;
-pub mod moves;
