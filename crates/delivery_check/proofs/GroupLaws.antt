@@ -32,7 +32,7 @@ use Rattle.model.specs.Check.{retrySendings}
 use Rattle.model.specs.Lists.{idsIn}
 use Rattle.model.proofs.Widths.{WellItem}
 use Rattle.model.proofs.SendingLaws.{retries-sent-well, sendings-bytes, retries-weight}
-use Rattle.requests.specs.Marking.{sentBytes}
+use Rattle.requests.specs.Sent.{sentBytes}
 use Rattle.requests.proofs.RunLaws.{take-ids, drop-ids}
 use Rattle.delivery_check.specs.Checked.{itemOf}
 use Rattle.delivery_check.specs.declared.group.Batch as declared

@@ -8,7 +8,7 @@ ghost use Rattle.fields.specs.Entries.{entry, joined};
 ghost use Rattle.fields.specs.Overwrite.{overwritten};
 ghost use Rattle.model.specs.Image.{requestOf, recordSize};
 ghost use Rattle.model.specs.Check.{retrySendings};
-ghost use Rattle.requests.specs.Marking.{sentBytes};
+ghost use Rattle.requests.specs.Sent.{sentBytes};
 ghost use Rattle.delivery_check.specs.Checked.{itemOf};
 ghost use Rattle.delivery_check.specs.Batches.{Asked, itemAt, itemsAt, idsAt, alike, span, batchAt, sendingsOf};
 

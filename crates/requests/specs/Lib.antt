@@ -1,3 +1,3 @@
 pub mod Pending
 pub mod Keys
-pub mod Marking
+pub mod Sent

@@ -3,7 +3,7 @@ use Prim.Native.Nat.{ℕ, zero, suc, _+_, _-_, _*_, _≤_, _<_}
 use mathlib.Core.Path.{_≡_, refl, sym, ap, _∙_}
 use mathlib.Core.Bool.{true, false}
 use mathlib.Core.List.{List, [], _∷_, _++_, map, map-append, append-assoc}
-use native.Mathlib.Nat.{add-zero, zero-add, suc-add, not-suc-le-zero, le-of-suc-le-suc, lt-irrefl}
+use native.Mathlib.Nat.{add-zero, sub-zero, zero-add, suc-add, not-suc-le-zero, le-of-suc-le-suc, lt-irrefl}
 use native.Mathlib.Numerals.{add-one}
 use native.Mathlib.Omega.{arith}
 use lib.ListN.{length, take, drop, getD, set, length-map}
@@ -72,6 +72,9 @@ elements-end n i places h =
     rw e
 
 -- ---- the search
+
+pub listed-start : (places : List ℕ) (n peer : ℕ) → isListed peer (elements (n - 0) 0 places) ≡ isListed peer (elements n 0 places)
+listed-start places n peer = rw sub-zero
 
 module _ (places : List ℕ) (n i peer : ℕ) where
   pub listed-here : i < n → getD places i 0 ≡ peer → isListed peer (elements (n - i) i places) ≡ true

@@ -6,7 +6,7 @@ use mathlib.Core.List.{map}
 use Rattle.model.specs.Image.{recordSize, requestOf}
 use Rattle.model.specs.Requests.{Sending}
 use Rattle.model.specs.Check.{retrySendings}
-use Rattle.requests.specs.Marking.{sentBytes}
+use Rattle.requests.specs.Sent.{sentBytes}
 use Rattle.delivery_check.specs.Checked.{itemOf}
 use Rattle.delivery_check.specs.Batches.{itemsAt, sendingsOf}
 use Rattle.delivery_check.proofs.GroupLaws.{asked-both, items-plain, sorted-asked, sorted-length, sorted-sendings, sorted-room}

@@ -2,10 +2,9 @@
 use borrow.Author.Needs.{needs}
 use Prim.Native.Nat.{_-_, _≤_}
 use mathlib.Core.Path.{_≡_, sym, _∙_}
-use native.Mathlib.Nat.{sub-zero}
 use Rattle.model.specs.Peers.{isListed}
 use Rattle.stalled.specs.Values.{elements, stalledPeers}
-use Rattle.stalled.proofs.StalledLaws.{listed-here, listed-later, listed-nowhere}
+use Rattle.stalled.proofs.StalledLaws.{listed-start, listed-here, listed-later, listed-nowhere}
 use Rattle.stalled.proofs.Stalled.contains.Statement.{statement}
 use Rattle.stalled.proofs.Stalled.contains.Tie as tie
 
@@ -16,7 +15,9 @@ abbrev μ-loop : tie.MeasureT-loop
 μ-loop peer count peers i₀ i = count - i
 
 loop-holds : tie.Need-loop-holds Inv-loop μ-loop
-loop-holds c = (search needs, simp sub-zero)
+loop-holds c =
+    let s = c .before .args in
+    (search needs, listed-start (s .self .peers) (s .self .count) (s .peer))
 
 mul-if1 : tie.Need-mul-if1 Inv-loop μ-loop
 mul-if1 c = search needs

@@ -1,0 +1,80 @@
+-- Many ids marked at once: in the order of the ids, in a room of their own, and copied back unless they are too many.
+use Prim.Native.Nat.{ℕ, _+_, _*_, _≤_, _<_}
+use mathlib.Core.Path.{_≡_, refl, sym, ap, _∙_}
+use mathlib.Core.Bool.{Bool, true, false, cond}
+use mathlib.Core.List.{List, [], _∷_, _++_, map}
+use native.Mathlib.Omega.{arith}
+use native.Mathlib.Nat.{mul-le-mul-right}
+use lib.Dec.{leb}
+use lib.ListN.{length, take, drop, length-map}
+use borrow.Author.Tests.{leb-true}
+use Rattle.fields.specs.Order.{before}
+use Rattle.fields.specs.Sort.{inserted, sorted}
+use Rattle.fields.specs.Entries.{entries, joined, rising, replaced}
+use Rattle.fields.proofs.SortLaws.{length-inserted, sorted-twice, before-order}
+use Rattle.fields.proofs.RisingLaws.{rising-ascending}
+use Rattle.fields.proofs.EntriesLaws.{length-entries, joined-entries, replaced-more}
+use Rattle.model.specs.Protocol.{Id}
+use Rattle.model.specs.Delivery.{Request, isPending, idBefore, markRequested}
+use Rattle.model.specs.Image.{requestOf, requestBytes}
+use Rattle.model.specs.Lists.{idsIn}
+use Rattle.model.proofs.RecordLaws.{ids-rise}
+use Rattle.requests.specs.Pending.{requestsIn, holding}
+use Rattle.marking.specs.Marking.{markedAs, heldWithin, newRequest}
+use Rattle.marking.specs.Merging.{idsAt}
+use Rattle.marking.specs.declared.Marked.{Marked}
+use Rattle.marking.specs.declared.Marked.the-variants.{Pending, Full}
+use Rattle.marking.proofs.AnswerLaws.{marked-pending, marked-full, few-held, many-held}
+use Rattle.marking.proofs.EnterLaws.{marked-sorted}
+
+marked-longer : (clock typeId peer : ℕ) (ids : List Id) (rs : List Request) → length rs ≤ length (markRequested clock typeId peer ids rs)
+marked-longer clock typeId peer [] rs = omega arith
+marked-longer clock typeId peer (id ∷ ids) rs =
+    let next : List Request = cond (isPending id rs) rs (inserted idBefore (newRequest clock typeId peer id) rs) in
+    let a : length rs ≤ length next = go (isPending id rs) in
+    omega (arith, marked-longer clock typeId peer ids next)
+  where
+    go : (b : Bool) → length rs ≤ length (cond b rs (inserted idBefore (newRequest clock typeId peer id) rs))
+    go true = omega arith
+    go false = omega (arith, length-inserted idBefore (newRequest clock typeId peer id) rs)
+
+pub still-sorted : (ids places : List ℕ) → idsAt ids places ≡ sorted before (idsIn ids) → sorted before (idsAt ids places) ≡ idsAt ids places
+still-sorted ids places e = rw e (sorted-twice before before-order (idsIn ids))
+
+module _ (clock typeId peer most count : ℕ) (ids places t : List ℕ) (e : idsAt ids places ≡ sorted before (idsIn ids)) (r : rising 32 (entries 54 count t) ≡ true) where
+  abbrev all : List Request
+  all = markRequested clock typeId peer (idsIn ids) (requestsIn count t)
+
+  as-given : markRequested clock typeId peer (idsAt ids places) (requestsIn count t) ≡ all
+  as-given = rw e (marked-sorted clock typeId peer (idsIn ids) (requestsIn count t) (ids-rise (entries 54 count t) (rising-ascending 32 (entries 54 count t) r)))
+
+  pub too-many : Full ≡ markedAs most (markRequested clock typeId peer (idsAt ids places) (requestsIn count t))
+      → (Full ≡ markedAs most all) × (t ≡ heldWithin most count all t)
+  too-many a =
+      let q : Full ≡ markedAs most all = rw as-given at a in
+      (q, sym (many-held most count all t (marked-full most all q)))
+
+  module _ (held : ℕ) (a : Pending held ≡ markedAs most (markRequested clock typeId peer (idsAt ids places) (requestsIn count t))) where
+    answer : Pending held ≡ markedAs most all
+    answer = rw as-given at a
+
+    says : (leb (length all) most ≡ true) × (held ≡ length all)
+    says = marked-pending most held all answer
+
+    pub few : held ≤ most
+    few = omega (arith, says .1, leb-true (length all) most (says .0))
+
+    pub copied-back : (room t′ : List ℕ)
+        → (leb (length (markRequested clock typeId peer (idsAt ids places) (requestsIn count t))) most ≡ true
+        → entries 54 (length (markRequested clock typeId peer (idsAt ids places) (requestsIn count t))) room ≡ map requestBytes (markRequested clock typeId peer (idsAt ids places) (requestsIn count t)))
+        → t′ ≡ take (held * 54) room ++ drop (held * 54) t → (Pending held ≡ markedAs most all) × (t′ ≡ heldWithin most count all t)
+    unfolding holding
+    copied-back room t′ w et =
+        let new : List (List ℕ) = map requestBytes all in
+        let ln : length new ≡ length all = length-map all requestBytes in
+        let lr : length (requestsIn count t) ≡ count = length-map (entries 54 count t) requestOf ∙ length-entries 54 count t in
+        let more : count ≤ length new = omega (arith, marked-longer clock typeId peer (idsIn ids) (requestsIn count t)) in
+        let es : entries 54 (length all) room ≡ new = rw as-given at (w (rw as-given (says .0))) in
+        let j : take (length all * 54) room ≡ joined new = sym (joined-entries 54 (length all) room) ∙ ap joined es in
+        let c : t′ ≡ joined new ++ drop (length new * 54) t = et ∙ rw (says .1, j, ln) in
+        (answer, c ∙ sym (few-held most count all t (says .0) ∙ replaced-more 54 count new t more))

@@ -1,0 +1,30 @@
+use borrow.Author.Needs.{needs}
+use native.Mathlib.Omega.{arith}
+use Prim.Native.Nat.{ℕ, suc, _+_, _-_, _*_, _≤_, _<_}
+use mathlib.Core.Path.{_≡_, refl, sym, ap, _∙_}
+use mathlib.Core.List.{List, [], _∷_, _++_}
+use Rattle.order.specs.Places.{keyBelow}
+use Rattle.fields.specs.Sort.{sorted}
+use lib.ListN.{length}
+use Rattle.marking.proofs.SortedLaws.{sorted-ids, sorted-listed}
+use Rattle.marking.proofs.merge.sort_ids.Statement.{statement}
+use Rattle.marking.proofs.merge.sort_ids.Tie as tie
+
+number-requires : tie.Need-number-requires
+number-requires c κs = search needs
+
+sort-requires : tie.Need-sort-requires
+sort-requires c κs = search needs
+
+same-length : tie.Need-same-length
+same-length c = search needs
+
+same-length-2 : tie.Need-same-length-2
+same-length-2 c = search needs
+
+returns : tie.Need-returns
+returns c = let s = c .before .before .before .before .before .before .before .before .before .before .before .before .before .before in let a = s .args in let q = c .before .before .before .before .sort .ensures ∙ ap (sorted (keyBelow 32 0 32 (a .ids .now))) (c .before .before .before .before .before .before .before .before .before .number .ensures) in (sorted-ids (a .ids .now) (c .before .before .before .before .sort .last .1 .1 .1 .1 .0) (length (a .places .now)) (s .pre .0) q, sorted-listed (a .ids .now) (c .before .before .before .before .sort .last .1 .1 .1 .1 .0) (length (a .places .now)) (s .pre .0) q)
+
+pub sort-ids-spec : {M : Type 1} → statement M
+sort-ids-spec =
+    tie.close (tie.spec number-requires sort-requires same-length same-length-2 returns)
