@@ -1,0 +1,7 @@
+pub mod RowLaws
+pub mod AdvanceLaws
+pub mod SeenLaws
+pub mod WritingLaws
+pub mod PlaceLaws
+pub mod MissingLaws
+pub mod ItemLaws
