@@ -1,0 +1,5 @@
+pub mod RequestedLaws
+pub mod PerformLaws
+pub mod PlacesLaws
+pub mod ByTypeLaws
+pub mod AskLaws

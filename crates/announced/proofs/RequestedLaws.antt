@@ -1,0 +1,185 @@
+-- One list through rule 3: what is answered and written in each of its ways out.
+use Prim.Native.Nat.{ℕ, _+_, _*_, _/_, _%_, _^_, _≤_, _<_}
+use mathlib.Core.Path.{_≡_, refl, sym, ap, _∙_}
+use mathlib.Core.Bool.{Bool, true, false, not}
+use mathlib.Core.List.{List, [], _∷_, _++_, append-nil}
+use native.Mathlib.Omega.{arith}
+use native.Mathlib.Nat.{add-zero, mul-le-mul-right}
+use lib.Dec.{leb}
+use lib.ListN.{length, take, length-map}
+use borrow.Author.Tests.{le-leb}
+use Rattle.fields.specs.Facts.{Bytes}
+use Rattle.fields.specs.Entries.{entries, joined}
+use Rattle.fields.specs.Filter.{kept}
+use Rattle.fields.specs.Overwrite.{overwritten}
+use Rattle.fields.proofs.OverwriteLaws.{overwritten-nil, front-read-back}
+use Rattle.fields.proofs.FilterLaws.{length-kept}
+use Rattle.fields.proofs.EntriesLaws.{Wide, length-entries, entries-wide, entries-bytes, entries-joined, length-joined, replaced-same}
+use Rattle.model.specs.Protocol.{Id}
+use Rattle.model.specs.Delivery.{Request, isPending, markRequested}
+use Rattle.model.specs.Requests.{Pair, isStored, request, commandsOf, requestOf, wanted, requestAnnounced, perform, ask}
+use Rattle.model.specs.Requests as model
+use Rattle.model.specs.Image as image
+use Rattle.model.specs.Commands.{allCommandBytes}
+use Rattle.model.specs.Lists.{idsIn}
+use Rattle.model.proofs.Widths.{WellList}
+use Rattle.model.proofs.RecordLaws.{records-of-requests}
+use Rattle.model.proofs.PendingLaws.{wanted-well}
+use Rattle.model.proofs.CommandLaws.{ids-wide}
+use Rattle.model.proofs.SendingLaws.{sendings-bytes}
+use Rattle.requests.specs.Pending.{requestsIn, holding}
+use Rattle.requests.specs.Sent.{sentBytes}
+use Rattle.marking.specs.Marking.{markedAs, heldWithin}
+use Rattle.marking.specs.declared.Marked.the-variants as marked
+use Rattle.requests.proofs.WriteLaws.{length-ids}
+use Rattle.marking.proofs.AnswerLaws.{marked-pending, marked-full, few-held}
+use Rattle.marking.proofs.RecordLaws.{well-ids}
+use Rattle.announced.specs.Requested.{requestedAs, sentWithin}
+use Rattle.announced.specs.declared.request.Requested.the-variants.{Done, Full}
+
+-- ---- the answer, by how many would be pending
+
+module _ (most at batch : ℕ) (done : model.Done) where
+  pub few-requested : leb (length (done .pending)) most ≡ true
+      → requestedAs most at batch done ≡ Done (record { count = length (done .pending); at = at + length (sentBytes batch (done .sendings)); batch = batch + length (done .sendings) })
+  unfolding requestedAs
+  few-requested h = rw h
+
+  pub many-requested : leb (length (done .pending)) most ≡ false → requestedAs most at batch done ≡ Full
+  unfolding requestedAs
+  many-requested h = rw h
+
+  pub few-sent : (o : List ℕ) → leb (length (done .pending)) most ≡ true → sentWithin most at batch done o ≡ overwritten at (sentBytes batch (done .sendings)) o
+  unfolding sentWithin
+  few-sent o h = rw h
+
+  pub many-sent : (o : List ℕ) → leb (length (done .pending)) most ≡ false → sentWithin most at batch done o ≡ o
+  unfolding sentWithin
+  many-sent o h = rw h
+
+-- ---- the table as it was
+
+pub length-requests : (count : ℕ) (t : List ℕ) → length (requestsIn count t) ≡ count
+length-requests count t = length-map (entries 54 count t) image.requestOf ∙ length-entries 54 count t
+
+pub holding-same : (count : ℕ) (t : List ℕ) → count * 54 ≤ length t → Bytes t → holding count (requestsIn count t) t ≡ t
+unfolding holding
+holding-same count t fits f =
+    rw (records-of-requests (entries 54 count t) (entries-wide 54 count t fits) (entries-bytes 54 count t f)) (replaced-same 54 count t)
+
+-- ---- nothing done
+
+pub untouched : (most count at batch : ℕ) (t o : List ℕ) (done : model.Done) → done ≡ record { pending = requestsIn count t; sendings = [] } → count ≤ most → most * 54 ≤ length t → Bytes t
+    → (Done (record { count = count; at = at; batch = batch }) ≡ requestedAs most at batch done)
+    × ((t ≡ heldWithin most count (done .pending) t) × (o ≡ sentWithin most at batch done o))
+unfolding sentBytes
+untouched most count at batch t o done e le room f =
+    let none : model.Done = record { pending = requestsIn count t; sendings = [] } in
+    let l : length (requestsIn count t) ≡ count = length-requests count t in
+    let b : leb (length (requestsIn count t)) most ≡ true = le-leb (length (requestsIn count t)) most (omega arith) in
+    let fits : count * 54 ≤ length t = omega (arith, mul-le-mul-right 54 le) in
+    rw e (
+      sym (few-requested most at batch none b ∙ rw (l, add-zero at, add-zero batch)),
+      (sym (few-held most count (requestsIn count t) t b ∙ holding-same count t fits f), sym (few-sent most at batch none o b ∙ overwritten-nil at o)),
+    )
+
+-- "gate shut, nothing"
+pub gate-shut : (gate : Bool) (clock typeId peer : ℕ) (pairs : List Pair) (ids : List Id) (rs : List Request) → gate ≡ false
+    → perform gate clock (ask typeId peer pairs ids) rs ≡ record { pending = rs; sendings = [] }
+gate-shut gate clock typeId peer pairs ids rs e = rw e
+
+none-left : (ids : List Id) → length ids < 1 → ids ≡ []
+none-left [] h = refl
+none-left (id ∷ ids) h = absurd (omega arith)
+
+pub none-wanted : (gate : Bool) (clock n typeId peer : ℕ) (pairs : List Pair) (ids : List Id) (rs : List Request) → gate ≡ true → n ≡ length (wanted rs typeId pairs ids) → n < 1
+    → perform gate clock (ask typeId peer pairs ids) rs ≡ record { pending = rs; sendings = [] }
+none-wanted gate clock n typeId peer pairs ids rs g e h = rw (g, none-left (wanted rs typeId pairs ids) (omega arith))
+
+-- ---- some wanted
+
+pub all-ids : (es : List Id) → Wide 32 es → idsIn (joined es) ≡ es
+unfolding idsIn
+all-ids es w =
+    let l : length (joined es) ≡ length es * 32 = length-joined 32 es w in
+    let n : length (joined es) / 32 ≡ length es = omega arith in
+    rw n (rw (append-nil (joined es)) at (entries-joined 32 es [] w))
+
+module _ (typeId peer n : ℕ) (pairs : List Pair) (ids : List ℕ) (rs : List Request) (d rest : List ℕ) (ht : typeId < 2 ^ 8) (hp : peer < 2 ^ 64) (f : Bytes ids)
+    (er : rest ≡ overwritten 0 (joined (wanted rs typeId pairs (idsIn ids))) d) (en : n ≡ length (wanted rs typeId pairs (idsIn ids))) where
+  list-well : WellList typeId peer (idsIn ids)
+  list-well = record { typeId = ht; peer = hp; ids = well-ids ids f }
+
+  wide : Wide 32 (wanted rs typeId pairs (idsIn ids))
+  wide = ids-wide (wanted rs typeId pairs (idsIn ids)) (wanted-well rs typeId peer pairs (idsIn ids) list-well .ids)
+
+  long : length (joined (wanted rs typeId pairs (idsIn ids))) ≡ n * 32
+  long = length-joined 32 (wanted rs typeId pairs (idsIn ids)) wide ∙ rw (← en)
+
+  -- the wanted ids at the front of the room
+  front : take (n * 32) rest ≡ joined (wanted rs typeId pairs (idsIn ids))
+  front = rw (er, ← long) (front-read-back (joined (wanted rs typeId pairs (idsIn ids))) d)
+
+  pub front-ids : idsIn (take (n * 32) rest) ≡ wanted rs typeId pairs (idsIn ids)
+  front-ids = ap idsIn front ∙ all-ids (wanted rs typeId pairs (idsIn ids)) wide
+
+  pub front-long : length (take (n * 32) rest) ≡ n * 32
+  front-long = ap length front ∙ long
+
+  pub few-wanted : n ≤ length ids / 32
+  unfolding wanted
+  few-wanted =
+      let new : Id → Bool = λ (id : Id). not (isPending id rs) in
+      let a = length-kept new (idsIn ids) in
+      let b = length-kept (λ (id : Id). not (isStored pairs typeId id)) (kept new (idsIn ids)) in
+      omega (arith, length-ids ids)
+
+-- ---- marked, then sent
+
+sent-one : (batch typeId peer : ℕ) (ids : List Id) → 0 < length ids
+    → (sentBytes batch (requestOf typeId peer ids) ≡ allCommandBytes (commandsOf batch (request typeId peer ids))) × (length (requestOf typeId peer ids) ≡ 1)
+unfolding sentBytes
+sent-one batch typeId peer [] h = absurd (omega arith)
+sent-one batch typeId peer (id ∷ ids) h = (rw append-nil, refl)
+
+module _ (clock typeId peer most count at batch : ℕ) (ids t : List ℕ) (some : 0 < length ids) (whole : length ids % 32 ≡ 0) where
+  some-ids : 0 < length (idsIn ids)
+  some-ids = omega (arith, length-ids ids)
+
+  pub send-room : (o : List ℕ) → typeId < 2 ^ 8 → peer < 2 ^ 64 → Bytes ids → at + length ids / 32 * 48 ≤ length o
+      → at + length (allCommandBytes (commandsOf batch (request typeId peer (idsIn ids)))) ≤ length o
+  send-room o ht hp f room =
+      let a = sendings-bytes batch (request typeId peer (idsIn ids) ∷ []) (record { typeId = ht; peer = hp; ids = well-ids ids f }, tt) in
+      let e : allCommandBytes (commandsOf batch (request typeId peer (idsIn ids)) ++ []) ≡ allCommandBytes (commandsOf batch (request typeId peer (idsIn ids))) = rw append-nil in
+      let l = length-ids ids in
+      omega (arith, ap length e)
+
+  pub marked-too-many : (t′ o : List ℕ) → marked.Full ≡ markedAs most (markRequested clock typeId peer (idsIn ids) (requestsIn count t))
+      → t′ ≡ heldWithin most count (markRequested clock typeId peer (idsIn ids) (requestsIn count t)) t
+      → (Full ≡ requestedAs most at batch (requestAnnounced true clock typeId peer (idsIn ids) (requestsIn count t)))
+      × ((t′ ≡ heldWithin most count (markRequested clock typeId peer (idsIn ids) (requestsIn count t)) t)
+      × (o ≡ sentWithin most at batch (requestAnnounced true clock typeId peer (idsIn ids) (requestsIn count t)) o))
+  marked-too-many t′ o e et =
+      let done : model.Done = requestAnnounced true clock typeId peer (idsIn ids) (requestsIn count t) in
+      let m : leb (length (done .pending)) most ≡ false = marked-full most (done .pending) e in
+      (sym (many-requested most at batch done m), (et, sym (many-sent most at batch done o m)))
+
+  pub marked-then-sent : (held place : ℕ) (t′ o o′ : List ℕ) → marked.Pending held ≡ markedAs most (markRequested clock typeId peer (idsIn ids) (requestsIn count t))
+      → t′ ≡ heldWithin most count (markRequested clock typeId peer (idsIn ids) (requestsIn count t)) t
+      → o′ ≡ overwritten at (allCommandBytes (commandsOf batch (request typeId peer (idsIn ids)))) o
+      → place ≡ at + length (allCommandBytes (commandsOf batch (request typeId peer (idsIn ids))))
+      → (Done (record { count = held; at = place; batch = batch + 1 }) ≡ requestedAs most at batch (requestAnnounced true clock typeId peer (idsIn ids) (requestsIn count t)))
+      × ((t′ ≡ heldWithin most count (markRequested clock typeId peer (idsIn ids) (requestsIn count t)) t)
+      × (o′ ≡ sentWithin most at batch (requestAnnounced true clock typeId peer (idsIn ids) (requestsIn count t)) o))
+  marked-then-sent held place t′ o o′ e et eo ep =
+      let done : model.Done = requestAnnounced true clock typeId peer (idsIn ids) (requestsIn count t) in
+      let p = marked-pending most held (done .pending) e in
+      let s = sent-one batch typeId peer (idsIn ids) some-ids in (
+        sym (few-requested most at batch done (p .0) ∙ rw (s .0, s .1, ← ep, ← p .1)),
+        (et, sym (few-sent most at batch done o (p .0) ∙ rw (s .0) (sym eo))),
+      )
+
+-- the wanted ids, marked and sent, are what rule 3 does
+pub wanted-done : (gate : Bool) (clock typeId peer : ℕ) (pairs : List Pair) (ids front : List Id) (rs : List Request) → gate ≡ true → front ≡ wanted rs typeId pairs ids
+    → requestAnnounced true clock typeId peer front rs ≡ perform gate clock (ask typeId peer pairs ids) rs
+wanted-done gate clock typeId peer pairs ids front rs g e = rw (g, e)
