@@ -1,0 +1,63 @@
+-- A byte and 32 bytes behind it are one write: `header-put`.
+use lib.ListN.{length-set}
+use borrow.Author.Needs.{needs}
+use native.Mathlib.Omega.{arith}
+use Prim.Native.Nat.{_+_, _-_, _*_}
+use mathlib.Core.Path.{_≡_, refl, _∙_}
+use Rattle.fields.proofs.PartLaws.{length-part}
+use Rattle.question.proofs.AnswerLaws.{header-put}
+use Rattle.question.proofs.put_header.Statement.{statement}
+use Rattle.question.proofs.put_header.Tie as tie
+
+mul-from : tie.Need-mul-from
+mul-from c = search needs
+
+add-end : tie.Need-add-end
+add-end c = search needs
+
+mul-at : tie.Need-mul-at
+mul-at c = search needs
+
+slice-write-pairs : tie.Need-slice-write-pairs
+slice-write-pairs c = search needs
+
+add-overwrite : tie.Need-add-overwrite
+add-overwrite c = search needs
+
+sub-overwrite : tie.Need-sub-overwrite
+sub-overwrite c = search needs
+
+part-overwrite-start : tie.Need-part-overwrite-start
+part-overwrite-start c = search needs
+
+part-overwrite-end : tie.Need-part-overwrite-end
+part-overwrite-end c = search needs
+
+overwrite-requires : tie.Need-overwrite-requires
+overwrite-requires c κs = let a = c .before .before .before .before .args in
+    let n : a .i * 32 + 32 - a .i * 32 ≡ 32 = omega arith in
+    rw (length-set, n, length-part (a .i * 32) 32 (a .ids .now) (c .before .before .before .before .pre .0)) (omega arith)
+
+same-length : tie.Need-same-length
+same-length c = c .before .before .overwrite .kept .0 ∙ length-set (c .before .before .before .before .before .before .before .args .pairs .now) (c .before .before .before .before .before .before .before .args .i * 33) _
+
+returns : tie.Need-returns
+returns c = let s = c .before .before .before .before .before .before .before in
+    let a = s .args in
+    header-put (a .ids .now) (a .i) (a .pairs .now) _ (c .before .before .overwrite .last .0) (s .pre .0) (s .pre .1) refl (c .before .before .overwrite .ensures)
+
+pub put-header-spec : {M : Type 1} → statement M
+put-header-spec =
+    tie.close
+    (tie.spec
+    mul-from
+    add-end
+    mul-at
+    slice-write-pairs
+    add-overwrite
+    sub-overwrite
+    part-overwrite-start
+    part-overwrite-end
+    overwrite-requires
+    same-length
+    returns)
