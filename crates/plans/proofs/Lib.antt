@@ -1,0 +1,3 @@
+pub mod HeightLaws
+pub mod SendLaws
+pub mod SketchLaws
