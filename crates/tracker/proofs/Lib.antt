@@ -1,0 +1,4 @@
+pub mod RegionLaws
+pub mod WorkedLaws
+pub mod RetriedLaws
+pub mod CheckLaws
