@@ -1,6 +1,6 @@
 -- What an answer says: how many requests are pending, or that they are too many.
 use Prim.Native.Nat.{ℕ, _+_, _-_, _*_, _≤_, _<_}
-use mathlib.Core.Path.{_≡_, refl, _∙_}
+use mathlib.Core.Path.{_≡_, refl}
 use mathlib.Core.Bool.{Bool, true, false, cond, false≢true}
 use mathlib.Core.List.{List}
 use native.Mathlib.Omega.{arith}
@@ -12,7 +12,6 @@ use Rattle.fields.specs.Overwrite.{overwritten}
 use Rattle.model.specs.Delivery.{Request}
 use Rattle.requests.specs.Pending.{holding}
 use Rattle.marking.specs.Marking.{markedAs, heldWithin}
-use Rattle.marking.specs.declared.Marked.{Marked}
 use Rattle.marking.specs.declared.Marked.the-variants.{Pending, Full}
 
 -- ---- what an answer says

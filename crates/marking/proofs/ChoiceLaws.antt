@@ -1,7 +1,7 @@
 -- What comes next in the pass, from the bytes of table and ids.
-use Prim.Native.Nat.{ℕ, zero, suc, _+_, _-_, _*_, _≤_, _<_}
-use mathlib.Core.Path.{_≡_, refl, sym, ap, _∙_}
-use mathlib.Core.Bool.{Bool, true, false, cond, false≢true}
+use Prim.Native.Nat.{ℕ, _+_, _-_, _*_, _≤_, _<_}
+use mathlib.Core.Path.{_≡_, refl, sym, _∙_}
+use mathlib.Core.Bool.{Bool, true, false, cond}
 use mathlib.Core.List.{List, [], _∷_, _++_, map}
 use native.Mathlib.Omega.{arith}
 use native.Mathlib.Nat.{lt-irrefl}
@@ -9,22 +9,58 @@ use native.Mathlib.Numerals.{add-one}
 use lib.Dec.{ltb}
 use lib.ListN.{length, take, drop, getD, drop-of-length-le}
 use lib.Seq.{drop-cons}
-use borrow.Author.Tests.{ltb-true, ltb-false}
-use Rattle.fields.specs.Facts.{All}
+use borrow.Author.Tests.{ltb-true, ltb-false, lt-ltb, le-ltb}
+use Rattle.fields.specs.Facts.{All, Bytes}
+use Rattle.fields.specs.Number.{fromBe}
 use Rattle.fields.specs.Order.{before, same}
 use Rattle.fields.specs.Entries.{entries, entry}
 use Rattle.fields.proofs.AllLaws.{all-at}
 use Rattle.fields.proofs.EntriesLaws.{length-entries, entries-at, entry-front}
+use Rattle.order.proofs.KeyLaws.{first-word-before, first-word-same}
 use Rattle.model.specs.Protocol.{Id}
 use Rattle.model.specs.Delivery.{Request}
 use Rattle.model.specs.Image.{requestOf}
 use Rattle.fields.specs.Overwrite.{overwritten}
-use Rattle.model.specs.Image.{requestBytes}
-use Rattle.marking.specs.Marking.{newRequest}
-use Rattle.marking.specs.Merging.{Listed, idsAt, repeats, choiceFor, choiceAt, frontAfter, roomAfter}
+use Rattle.marking.specs.Merging.{Listed, idsAt, repeats, chosen, choiceFor, choiceAt, frontAfter, roomAfter}
 use Rattle.marking.specs.declared.merge.Front.{Front}
 use Rattle.marking.specs.declared.merge.Choice.{Choice}
 use Rattle.marking.specs.declared.merge.Choice.the-variants.{Keep, Skip, Enter}
+
+-- ---- by the first words, or in full
+
+module _ (s t : List ℕ) (f : Bytes s) (g : Bytes t) (p q a b : ℕ) (h : p + 32 ≤ length s) (k : q + 32 ≤ length t)
+    (ea : a ≡ fromBe (take 8 (drop p s))) (eb : b ≡ fromBe (take 8 (drop q t))) where
+  pub word-keeps : a < b → Keep ≡ chosen (take 32 (drop p s)) (take 32 (drop q t))
+  word-keeps l =
+      let n : a ≡ b → ⊥ = λ e. lt-irrefl a (omega arith) in
+      let w : before (take 32 (drop p s)) (take 32 (drop q t)) ≡ true = sym (first-word-before s t f g p q 32 a b (omega arith) h k ea eb n) ∙ lt-ltb a b l in
+      rw w
+
+  pub word-enters : b < a → Enter ≡ chosen (take 32 (drop p s)) (take 32 (drop q t))
+  word-enters l =
+      let n : a ≡ b → ⊥ = λ e. lt-irrefl a (omega arith) in
+      let w : before (take 32 (drop p s)) (take 32 (drop q t)) ≡ false = sym (first-word-before s t f g p q 32 a b (omega arith) h k ea eb n) ∙ le-ltb a b (omega arith) in
+      rw (w, first-word-same s t f g p q 32 a b (omega arith) h k ea eb n)
+
+  pub word-differs : (a ≡ b → ⊥) → false ≡ same (take 32 (drop p s)) (take 32 (drop q t))
+  word-differs n = sym (first-word-same s t f g p q 32 a b (omega arith) h k ea eb n)
+
+module _ (x y : List ℕ) (b : Bool) (eb : b ≡ before x y) where
+  pub keep-chosen : b ≡ true → Keep ≡ chosen x y
+  keep-chosen hb = let w : before x y ≡ true = sym eb ∙ hb in rw w
+
+  module _ (hb : b ≡ false) (s : Bool) (es : s ≡ same x y) where
+    pub skip-chosen : s ≡ true → Skip ≡ chosen x y
+    skip-chosen hs =
+        let w : before x y ≡ false = sym eb ∙ hb in
+        let v : same x y ≡ true = sym es ∙ hs in
+        rw (w, v)
+
+    pub enter-chosen : s ≡ false → Enter ≡ chosen x y
+    enter-chosen hs =
+        let w : before x y ≡ false = sym eb ∙ hb in
+        let v : same x y ≡ false = sym es ∙ hs in
+        rw (w, v)
 
 -- ---- the ids that are left
 
@@ -67,25 +103,12 @@ module _ (count i : ℕ) (t : List ℕ) where
     pub none-choice : count ≤ i → Enter ≡ choiceFor (entry 32 place ids) (map requestOf (drop i (entries 54 count t)))
     none-choice h = rw (none-left h)
 
-    module _ (h : i < count) where
-      by-choice : (b s : Bool) → before (take 32 (drop (i * 54) t)) (take 32 (drop (place * 32) ids)) ≡ b → same (take 32 (drop (i * 54) t)) (take 32 (drop (place * 32) ids)) ≡ s
-          → choiceFor (entry 32 place ids) (map requestOf (drop i (entries 54 count t))) ≡ cond b Keep (cond s Skip Enter)
-      unfolding entry requestOf
-      by-choice b s eb es =
-          let k : take 32 (take 54 (drop (i * 54) t)) ≡ take 32 (drop (i * 54) t) = entry-front 54 i 32 t (omega arith) in
-          rw (next-record h, k, eb, es)
-
-      pub keep-choice : (b : Bool) → b ≡ before (take 32 (drop (i * 54) t)) (take 32 (drop (place * 32) ids)) → b ≡ true
-          → Keep ≡ choiceFor (entry 32 place ids) (map requestOf (drop i (entries 54 count t)))
-      keep-choice b eb hb = sym (by-choice true (same (take 32 (drop (i * 54) t)) (take 32 (drop (place * 32) ids))) (sym eb ∙ hb) refl)
-
-      module _ (b : Bool) (eb : b ≡ before (take 32 (drop (i * 54) t)) (take 32 (drop (place * 32) ids))) (hb : b ≡ false)
-          (s : Bool) (es : s ≡ same (take 32 (drop (i * 54) t)) (take 32 (drop (place * 32) ids))) where
-        pub skip-choice : s ≡ true → Skip ≡ choiceFor (entry 32 place ids) (map requestOf (drop i (entries 54 count t)))
-        skip-choice hs = sym (by-choice false true (sym eb ∙ hb) (sym es ∙ hs))
-
-        pub enter-choice : s ≡ false → Enter ≡ choiceFor (entry 32 place ids) (map requestOf (drop i (entries 54 count t)))
-        enter-choice hs = sym (by-choice false false (sym eb ∙ hb) (sym es ∙ hs))
+    pub some-choice : i < count → (choice : Choice) → choice ≡ chosen (take 32 (drop (i * 54) t)) (take 32 (drop (place * 32) ids))
+        → choice ≡ choiceFor (entry 32 place ids) (map requestOf (drop i (entries 54 count t)))
+    unfolding entry requestOf
+    some-choice h choice e =
+        let k : take 32 (take 54 (drop (i * 54) t)) ≡ take 32 (drop (i * 54) t) = entry-front 54 i 32 t (omega arith) in
+        e ∙ rw (next-record h, k)
 
   -- a record is kept only where one is left
   pub keep-inside : (xs : List Id) (choice : Choice) → choice ≡ choiceAt xs (map requestOf (drop i (entries 54 count t))) → choice ≡ Keep → i < count
@@ -120,10 +143,10 @@ module _ (choice told : Choice) (e : choice ≡ told) (front : Front) (t ids new
       → (record { records = front .records; ids = front .ids + 1; held = front .held } ≡ frontAfter told front) × (room′ ≡ roomAfter told (entry 54 (front .records) t) new (front .held) room)
   skipped-turn k r = let q : told ≡ Skip = sym e ∙ k in rw q (refl, r)
 
-module _ (choice told : Choice) (e : choice ≡ told) (front : Front) (clock typeId peer p place : ℕ) (ep : p ≡ place) (t ids room room′ : List ℕ) where
-  pub entered-turn : choice ≡ Enter → room′ ≡ overwritten (front .held * 54) (requestBytes (newRequest clock typeId peer (take (p * 32 + 32 - p * 32) (drop (p * 32) ids)))) room
+module _ (choice told : Choice) (e : choice ≡ told) (front : Front) (p place : ℕ) (ep : p ≡ place) (t ids blank room room′ : List ℕ) where
+  pub entered-turn : choice ≡ Enter → room′ ≡ overwritten (front .held * 54) (take (p * 32 + 32 - p * 32) (drop (p * 32) ids) ++ drop 32 blank) room
       → (record { records = front .records; ids = front .ids + 1; held = front .held + 1 } ≡ frontAfter told front)
-      × (room′ ≡ roomAfter told (entry 54 (front .records) t) (requestBytes (newRequest clock typeId peer (entry 32 place ids))) (front .held) room)
+      × (room′ ≡ roomAfter told (entry 54 (front .records) t) (entry 32 place ids ++ drop 32 blank) (front .held) room)
   unfolding entry
   entered-turn k r =
       let d : p * 32 + 32 - p * 32 ≡ 32 = omega arith in

@@ -1,5 +1,5 @@
 -- The end of the pass: the records that are left go behind those in the room, or there are too many.
-use Prim.Native.Nat.{ℕ, zero, suc, _+_, _-_, _*_, _≤_, _<_}
+use Prim.Native.Nat.{ℕ, suc, _+_, _-_, _*_, _≤_, _<_}
 use mathlib.Core.Path.{_≡_, refl, sym, ap, _∙_}
 use mathlib.Core.Bool.{Bool, true, false, cond, _&&_, false≢true}
 use mathlib.Core.List.{List, [], _∷_, _++_, map}
@@ -9,7 +9,7 @@ use lib.Dec.{leb, ltb}
 use lib.ListN.{length, take, drop, length-append, length-map, length-drop, drop-of-length-le}
 use lib.Seq.{length-take-le}
 use borrow.Author.Tests.{leb-true, leb-false, ltb-false, le-leb, lt-leb}
-use Rattle.fields.specs.Facts.{All, Bytes}
+use Rattle.fields.specs.Facts.{Bytes}
 use Rattle.fields.specs.Order.{before, same}
 use Rattle.fields.specs.Entries.{entries, rising}
 use Rattle.fields.specs.Overwrite.{overwritten}
@@ -17,9 +17,8 @@ use Rattle.fields.proofs.RisingLaws.{rising-ascending}
 use Rattle.fields.proofs.AllLaws.{all-drop}
 use Rattle.fields.proofs.EntriesLaws.{length-entries, entries-wide, entries-bytes, entries-cut, entries-front, entries-take, drop-entries}
 use Rattle.model.specs.Protocol.{Id}
-use Rattle.model.specs.Delivery.{Request, idsOf, markRequested}
+use Rattle.model.specs.Delivery.{Request, markRequested}
 use Rattle.model.specs.Image.{requestOf, requestBytes}
-use Rattle.model.proofs.Well.{RisingIds}
 use Rattle.model.proofs.RecordLaws.{records-of-requests, ids-rise}
 use Rattle.requests.specs.Pending.{requestsIn}
 use Rattle.marking.specs.Marking.{markedAs, newRequest}

@@ -1,16 +1,15 @@
 -- Many ids marked at once: in the order of the ids, in a room of their own, and copied back unless they are too many.
-use Prim.Native.Nat.{ℕ, _+_, _*_, _≤_, _<_}
-use mathlib.Core.Path.{_≡_, refl, sym, ap, _∙_}
+use Prim.Native.Nat.{ℕ, _*_, _≤_}
+use mathlib.Core.Path.{_≡_, sym, ap, _∙_}
 use mathlib.Core.Bool.{Bool, true, false, cond}
 use mathlib.Core.List.{List, [], _∷_, _++_, map}
 use native.Mathlib.Omega.{arith}
-use native.Mathlib.Nat.{mul-le-mul-right}
 use lib.Dec.{leb}
 use lib.ListN.{length, take, drop, length-map}
 use borrow.Author.Tests.{leb-true}
 use Rattle.fields.specs.Order.{before}
 use Rattle.fields.specs.Sort.{inserted, sorted}
-use Rattle.fields.specs.Entries.{entries, joined, rising, replaced}
+use Rattle.fields.specs.Entries.{entries, joined, rising}
 use Rattle.fields.proofs.SortLaws.{length-inserted, sorted-twice, before-order}
 use Rattle.fields.proofs.RisingLaws.{rising-ascending}
 use Rattle.fields.proofs.EntriesLaws.{length-entries, joined-entries, replaced-more}
@@ -22,12 +21,11 @@ use Rattle.model.proofs.RecordLaws.{ids-rise}
 use Rattle.requests.specs.Pending.{requestsIn, holding}
 use Rattle.marking.specs.Marking.{markedAs, heldWithin, newRequest}
 use Rattle.marking.specs.Merging.{idsAt}
-use Rattle.marking.specs.declared.Marked.{Marked}
 use Rattle.marking.specs.declared.Marked.the-variants.{Pending, Full}
 use Rattle.marking.proofs.AnswerLaws.{marked-pending, marked-full, few-held, many-held}
 use Rattle.marking.proofs.EnterLaws.{marked-sorted}
 
-marked-longer : (clock typeId peer : ℕ) (ids : List Id) (rs : List Request) → length rs ≤ length (markRequested clock typeId peer ids rs)
+pub marked-longer : (clock typeId peer : ℕ) (ids : List Id) (rs : List Request) → length rs ≤ length (markRequested clock typeId peer ids rs)
 marked-longer clock typeId peer [] rs = omega arith
 marked-longer clock typeId peer (id ∷ ids) rs =
     let next : List Request = cond (isPending id rs) rs (inserted idBefore (newRequest clock typeId peer id) rs) in

@@ -2,24 +2,22 @@
 use Prim.Native.Nat.{ℕ, zero, suc, _+_, _-_, _*_, _≤_, _<_}
 use mathlib.Core.Path.{_≡_, refl, sym, ap, _∙_}
 use mathlib.Core.Bool.{Bool, true, false, cond, false≢true}
-use mathlib.Core.List.{List, [], _∷_, _++_, map, append-assoc}
+use mathlib.Core.List.{List, [], _∷_, _++_, map}
 use native.Mathlib.Omega.{arith}
-use native.Mathlib.Nat.{mul-le-mul-right, lt-irrefl}
-use native.Mathlib.Numerals.{add-one}
-use lib.Dec.{leb}
-use lib.ListN.{length, take, drop, getD, length-append, length-map, drop-of-length-le}
+use native.Mathlib.Nat.{mul-le-mul-right}
+use lib.ListN.{length, drop, getD}
 use lib.Seq.{append-snoc}
-use borrow.Author.Tests.{leb-true}
 use Rattle.fields.specs.Facts.{All, Bytes}
 use Rattle.fields.specs.Order.{before, same}
 use Rattle.fields.specs.Sort.{sorted}
 use Rattle.fields.specs.Entries.{entries, entry}
+use Rattle.fields.specs.Zero.{zeros}
 use Rattle.fields.specs.Overwrite.{overwritten}
 use Rattle.fields.proofs.NumberLaws.{bytes-take, bytes-drop}
 use Rattle.fields.proofs.SortLaws.{Rising, sorted-rises, before-order}
 use Rattle.fields.proofs.OverwriteLaws.{length-overwritten}
 use Rattle.fields.proofs.OrderLaws.{same-eq}
-use Rattle.fields.proofs.EntriesLaws.{length-entries, length-entry, entries-then}
+use Rattle.fields.proofs.EntriesLaws.{length-entry, entries-then}
 use Rattle.model.specs.Protocol.{Id}
 use Rattle.model.specs.Delivery.{Request}
 use Rattle.model.specs.Image.{requestOf, requestBytes}
@@ -78,6 +76,14 @@ module _ (clock typeId peer : ℕ) (x : Id) (xs : List Id) (rise : Rising before
       go true h ss = again ss h
       go false h [] = enters [] h refl
       go false h (r ∷ ss) = fresh h r ss (before (r .id) x) (same (r .id) x) refl refl
+
+-- all new records share what follows the id
+new-split : (clock typeId peer : ℕ) (id blank : List ℕ) → blank ≡ requestBytes (newRequest clock typeId peer (zeros 32)) → requestBytes (newRequest clock typeId peer id) ≡ id ++ drop 32 blank
+unfolding requestBytes
+new-split clock typeId peer id blank e = rw e
+
+pub blank-long : (clock typeId peer : ℕ) (blank : List ℕ) → blank ≡ requestBytes (newRequest clock typeId peer (zeros 32)) → length blank ≡ 54
+blank-long clock typeId peer blank e = ap length e ∙ length-request (newRequest clock typeId peer (zeros 32)) refl
 
 entry-bytes : (i : ℕ) (t : List ℕ) → Bytes t → Bytes (entry 54 i t)
 unfolding entry
@@ -166,12 +172,12 @@ module _ (clock typeId peer most count : ℕ) (t ids places first : List ℕ) wh
             written (front .records) (front .ids + 1) (requestBytes (newRequest clock typeId peer x)) (s .records-le) (omega arith) (length-request (newRequest clock typeId peer x) long-id)
             (rw these (ap (map requestBytes) (rw e at turned)))
 
-        pub turn-on : (front′ : Front) (room′ : List ℕ)
+        pub turn-on : (blank : List ℕ) → blank ≡ requestBytes (newRequest clock typeId peer (zeros 32)) → (front′ : Front) (room′ : List ℕ)
             → front′ ≡ frontAfter (choiceAt (idsAt ids (drop (front .ids) places)) (map requestOf (drop (front .records) (entries 54 count t)))) front
-            → room′ ≡ roomAfter (choiceAt (idsAt ids (drop (front .ids) places)) (map requestOf (drop (front .records) (entries 54 count t)))) (entry 54 (front .records) t) (requestBytes (newRequest clock typeId peer (entry 32 (getD places (front .ids) 0) ids))) (front .held) room
+            → room′ ≡ roomAfter (choiceAt (idsAt ids (drop (front .ids) places)) (map requestOf (drop (front .records) (entries 54 count t)))) (entry 54 (front .records) t) (entry 32 (getD places (front .ids) 0) ids ++ drop 32 blank) (front .held) room
             → Merging clock typeId peer most count t ids places first room′ front′
-        turn-on front′ room′ ef er =
-            rw (ef, er) (by-choice (choiceAt (idsAt ids (drop (front .ids) places)) (map requestOf (drop (front .records) (entries 54 count t)))) (rw these))
+        turn-on blank eb front′ room′ ef er =
+            rw (ef, er, ← new-split clock typeId peer x blank eb) (by-choice (choiceAt (idsAt ids (drop (front .ids) places)) (map requestOf (drop (front .records) (entries 54 count t)))) (rw these))
 
     -- each turn leaves less
     pub turn-less : front .ids < length places → (front′ : Front) → front′ ≡ frontAfter (choiceAt (idsAt ids (drop (front .ids) places)) (map requestOf (drop (front .records) (entries 54 count t)))) front

@@ -1,38 +1,26 @@
 -- One request marked in a table of records.
-use Prim.Native.Nat.{ℕ, zero, suc, _+_, _*_, _/_, _^_, _≤_, _<_, max}
+use Prim.Native.Nat.{ℕ, zero, suc, _+_, _*_, _/_, _≤_, _<_}
 use mathlib.Core.Path.{_≡_, refl, sym, ap, _∙_}
-use mathlib.Core.Bool.{Bool, true, false, cond, false≢true}
-use mathlib.Core.List.{List, [], _∷_, _++_, map, append-assoc}
+use mathlib.Core.Bool.{true, false}
+use mathlib.Core.List.{List, [], _∷_, map}
 use native.Mathlib.Omega.{arith}
-use native.Mathlib.Nat.{not-suc-le-zero, le-of-suc-le-suc, mul-le-mul-right, lt-irrefl}
-use native.Mathlib.Numerals.{add-one}
-use lib.Dec.{leb}
-use lib.ListN.{length, take, drop, getD, length-append, length-drop, length-map, take-append-drop, drop-of-length-le}
-use lib.Seq.{drop-cons, take-all, take-at, drop-append-le, length-take-le}
-use borrow.Author.Tests.{le-leb, lt-leb, leb-true, leb-false}
+use native.Mathlib.Nat.{not-suc-le-zero, le-of-suc-le-suc, mul-le-mul-right}
+use lib.ListN.{length, take, getD, length-map}
+use lib.Seq.{take-all, length-take-le}
+use borrow.Author.Tests.{le-leb, lt-leb}
 use Rattle.fields.specs.Facts.{All, Bytes}
-use Rattle.fields.specs.Number.{toBe}
 use Rattle.fields.specs.Order.{before}
 use Rattle.fields.specs.Sort.{inserted}
-use Rattle.fields.specs.Entries.{entries, entry, joined, rising, insertedAt, replaced}
-use Rattle.fields.specs.Overwrite.{overwritten}
-use Rattle.fields.proofs.AllLaws.{all-weaker, either, entries-all}
-use Rattle.fields.proofs.PartLaws.{part-below}
-use Rattle.fields.proofs.NumberLaws.{bytes-take, bytes-drop}
-use Rattle.fields.proofs.SortLaws.{length-inserted, all-inserted, map-inserted}
-use Rattle.fields.proofs.OverwriteLaws.{overwritten-all}
-use Rattle.fields.proofs.RisingLaws.{rising-ascending, ascending-rising}
-use Rattle.fields.proofs.EntriesLaws.{Wide, length-entry, length-entries, entries-at, entries-wide, entries-bytes, entries-front, entries-take, length-joined, replaced-same, replaced-more, replaced-again, entries-replaced, length-replaced}
+use Rattle.fields.specs.Entries.{entries, rising, insertedAt, replaced}
+use Rattle.fields.proofs.SortLaws.{length-inserted, map-inserted}
+use Rattle.fields.proofs.EntriesLaws.{Wide, length-entries, entries-wide, entries-bytes, replaced-same}
 use Rattle.search.specs.Find.{found}
 use Rattle.search.specs.declared.find.Found.the-variants.{At, Gap}
 use Rattle.search.proofs.FindLaws.{gap-stop}
-use Rattle.model.specs.Protocol.{Id}
 use Rattle.model.specs.Delivery.{Request, isPending, idBefore, markRequested}
 use Rattle.model.specs.Image.{requestOf, requestBytes}
 use Rattle.model.specs.Lists.{idsIn}
-use Rattle.model.proofs.Well.{WellId}
-use Rattle.model.proofs.RecordLaws.{Recorded, request-id, length-request, records-wide, records-of-requests, requests-of-records, records-rise, ids-rise}
-use Rattle.model.proofs.PendingLaws.{rising-requested}
+use Rattle.model.proofs.RecordLaws.{request-id, records-of-requests}
 use Rattle.requests.specs.Pending.{requestsIn, holding}
 use Rattle.marking.specs.Marking.{markedAs, heldWithin, newRequest}
 use Rattle.marking.specs.declared.Marked.{Marked}

@@ -32,9 +32,12 @@ repeats (id ∷ []) = false
 repeats (id ∷ (next ∷ ids)) = same id next
 
 -- a request before the id stays; one with this id makes it superfluous
+abbrev pub chosen : Id → Id → Choice
+chosen pending id = cond (before pending id) Keep (cond (same pending id) Skip Enter)
+
 abbrev pub choiceFor : Id → List Request → Choice
 choiceFor id [] = Enter
-choiceFor id (r ∷ rs) = cond (before (r .id) id) Keep (cond (same (r .id) id) Skip Enter)
+choiceFor id (r ∷ rs) = chosen (r .id) id
 
 abbrev pub choiceAt : List Id → List Request → Choice
 choiceAt [] rs = Skip

@@ -1,12 +1,13 @@
 // Many ids: sorted, then merged with the table in one pass.
 ghost use mathlib.Core.Path.{_≡_};
 ghost use mathlib.Core.Bool.{true, cond};
-ghost use mathlib.Core.List.{map};
+ghost use mathlib.Core.List.{_++_, map};
 ghost use Prim.Native.Nat.{_+_, _-_, _*_, _/_, _%_, _≤_, _<_};
 ghost use lib.ListN.{length, take, drop, getD};
 ghost use lib.Dec.{leb};
 ghost use Rattle.fields.specs.Facts.{All};
-ghost use Rattle.fields.specs.Order.{before};
+ghost use Rattle.fields.specs.Zero.{zeros};
+ghost use Rattle.fields.specs.Order.{before, same};
 ghost use Rattle.fields.specs.Sort.{sorted};
 ghost use Rattle.fields.specs.Entries.{entries, entry, rising};
 ghost use Rattle.fields.specs.Overwrite.{overwritten};
@@ -16,7 +17,7 @@ ghost use Rattle.model.specs.Lists.{idsIn};
 ghost use Rattle.requests.specs.Pending.{requestsIn};
 ghost use Rattle.marking.specs.Marking.{markedAs, heldWithin, newRequest};
 ghost use Rattle.marking.specs.declared.Marked.the-variants.{Pending, Full};
-ghost use Rattle.marking.specs.Merging.{numbersFrom, Listed, idsAt, repeats, choiceFor, choiceAt, frontAfter, roomAfter};
+ghost use Rattle.marking.specs.Merging.{numbersFrom, Listed, idsAt, repeats, chosen, choiceFor, choiceAt, frontAfter, roomAfter};
 use crate::Marked;
 
 // How far the pass is: records and ids dealt with, records in the room.
@@ -62,6 +63,19 @@ fn sort_ids(ids: &[u8], places: &mut [u16], spare: &mut [u16])
     order::sort(ids, 32, 0, 32, places, spare);
 }
 
+// Whether the ids at p and q are the same. The first word tells most apart.
+fn same_id(ids: &[u8], p: usize, q: usize) -> bool
+    requires { ⌜ (p + 32 ≤ length (now ids)) × (q + 32 ≤ length (now ids)) ⌝ }
+    ensures { λ r. ⌜ r ≡ same (take 32 (drop p (now (ids .entry)))) (take 32 (drop q (now (ids .entry)))) ⌝ }
+{
+    let a = fields::read_u64(ids, p);
+    let b = fields::read_u64(ids, q);
+    if a != b {
+        return false;
+    }
+    keys::run_same(ids, p, ids, q, 32)
+}
+
 // Whether the next id is the same as this one.
 fn comes_again(ids: &[u8], places: &[u16], j: usize) -> bool
     requires { ⌜ All (Listed (now ids)) (now places) × (j < length (now places)) ⌝ }
@@ -70,7 +84,29 @@ fn comes_again(ids: &[u8], places: &[u16], j: usize) -> bool
     if places.len() <= j + 1 {
         return false;
     }
-    keys::run_same(ids, wide(places[j]) * 32, ids, wide(places[j + 1]) * 32, 32)
+    same_id(ids, wide(places[j]) * 32, wide(places[j + 1]) * 32)
+}
+
+// The record whose id stands at p, or the id at q. Again the first word decides between most.
+fn compare(table: &[u8], p: usize, ids: &[u8], q: usize) -> Choice
+    requires { ⌜ (p + 32 ≤ length (now table)) × (q + 32 ≤ length (now ids)) ⌝ }
+    ensures { λ r. ⌜ r ≡ chosen (take 32 (drop p (now (table .entry)))) (take 32 (drop q (now (ids .entry)))) ⌝ }
+{
+    let a = fields::read_u64(table, p);
+    let b = fields::read_u64(ids, q);
+    if a < b {
+        return Choice::Keep;
+    }
+    if b < a {
+        return Choice::Enter;
+    }
+    if keys::run_before(table, p, ids, q, 32) {
+        return Choice::Keep;
+    }
+    if keys::run_same(table, p, ids, q, 32) {
+        return Choice::Skip;
+    }
+    Choice::Enter
 }
 
 fn choose(table: &[u8], count: usize, i: usize, ids: &[u8], place: usize) -> Choice
@@ -80,13 +116,7 @@ fn choose(table: &[u8], count: usize, i: usize, ids: &[u8], place: usize) -> Cho
     if count <= i {
         return Choice::Enter;
     }
-    if keys::run_before(table, i * 54, ids, place * 32, 32) {
-        return Choice::Keep;
-    }
-    if keys::run_same(table, i * 54, ids, place * 32, 32) {
-        return Choice::Skip;
-    }
-    Choice::Enter
+    compare(table, i * 54, ids, place * 32)
 }
 
 fn next_choice(table: &[u8], count: usize, i: usize, ids: &[u8], places: &[u16], j: usize) -> Choice
@@ -100,22 +130,36 @@ fn next_choice(table: &[u8], count: usize, i: usize, ids: &[u8], places: &[u16],
     choose(table, count, i, ids, wide(places[j]))
 }
 
-// One step of the pass.
+// A new request without its id: all of them share what follows the id.
+fn blank_record(clock: u64, typeid: u8, peer: u64) -> [u8; 54]
+    ensures { λ r. ⌜ r ≡ requestBytes (newRequest clock typeid peer (zeros 32)) ⌝ }
+{
+    let id = [0u8; 32];
+    crate::one::new_record(clock, typeid, peer, &id)
+}
+
+fn put_new(room: &mut [u8], at: usize, id: &[u8], blank: &[u8])
+    requires { ⌜ (length (now id) ≡ 32) × ((length (now blank) ≡ 54) × (at + 54 ≤ length (now room))) ⌝ }
+    ensures { λ _. ⌜ now (room .exit) ≡ overwritten at (now (id .entry) ++ drop 32 (now (blank .entry))) (now (room .entry)) ⌝ }
+{
+    moving::overwrite(room, at, id);
+    moving::overwrite(room, at + 32, &blank[32..54]);
+}
+
+// One step of the pass; `blank` has what follows a new id.
 fn turn(
     table: &[u8],
     count: usize,
-    clock: u64,
-    typeid: u8,
-    peer: u64,
     ids: &[u8],
     places: &[u16],
+    blank: &[u8],
     front: Front,
     room: &mut [u8],
 ) -> Front
-    requires { ⌜ (count * 54 ≤ length (now table)) × ((front .records ≤ count) × (count ≤ 1024)) ⌝ }
+    requires { ⌜ (count * 54 ≤ length (now table)) × ((front .records ≤ count) × ((count ≤ 1024) × (length (now blank) ≡ 54))) ⌝ }
     requires { ⌜ All (Listed (now ids)) (now places) × ((front .ids < length (now places)) × ((length (now places) ≤ 1024) × (front .held * 54 + 54 ≤ length (now room)))) ⌝ }
     ensures { λ r. ⌜ r ≡ frontAfter (choiceAt (idsAt (now (ids .entry)) (drop (front .ids) (now (places .entry)))) (map requestOf (drop (front .records) (entries 54 count (now (table .entry)))))) front ⌝ }
-    ensures { λ _. ⌜ now (room .exit) ≡ roomAfter (choiceAt (idsAt (now (ids .entry)) (drop (front .ids) (now (places .entry)))) (map requestOf (drop (front .records) (entries 54 count (now (table .entry)))))) (entry 54 (front .records) (now (table .entry))) (requestBytes (newRequest clock typeid peer (entry 32 (getD (now (places .entry)) (front .ids) 0) (now (ids .entry))))) (front .held) (now (room .entry)) ⌝ }
+    ensures { λ _. ⌜ now (room .exit) ≡ roomAfter (choiceAt (idsAt (now (ids .entry)) (drop (front .ids) (now (places .entry)))) (map requestOf (drop (front .records) (entries 54 count (now (table .entry)))))) (entry 54 (front .records) (now (table .entry))) (entry 32 (getD (now (places .entry)) (front .ids) 0) (now (ids .entry)) ++ drop 32 (now (blank .entry))) (front .held) (now (room .entry)) ⌝ }
 {
     let records = front.records;
     let done = front.ids;
@@ -139,7 +183,7 @@ fn turn(
         Choice::Enter => {
             let from = wide(places[done]) * 32;
             let end = from + 32;
-            crate::one::put_record(room, held * 54, clock, typeid, peer, &ids[from..end]);
+            put_new(room, held * 54, &ids[from..end], blank);
             Front {
                 records,
                 ids: done + 1,
@@ -190,13 +234,14 @@ fn merge(
     ensures { λ r. ⌜ r ≡ markedAs most (markRequested clock typeid peer (idsAt (now (ids .entry)) (now (places .entry))) (requestsIn count (now (table .entry)))) ⌝ }
     ensures { λ _. ⌜ (leb (length (markRequested clock typeid peer (idsAt (now (ids .entry)) (now (places .entry))) (requestsIn count (now (table .entry))))) most ≡ true → entries 54 (length (markRequested clock typeid peer (idsAt (now (ids .entry)) (now (places .entry))) (requestsIn count (now (table .entry))))) (now (room .exit)) ≡ map requestBytes (markRequested clock typeid peer (idsAt (now (ids .entry)) (now (places .entry))) (requestsIn count (now (table .entry))))) ⌝ }
 {
+    let blank = blank_record(clock, typeid, peer);
     let mut front = Front {
         records: 0,
         ids: 0,
         held: 0,
     };
     while (front.ids < places.len()) & (front.held <= most) {
-        front = turn(table, count, clock, typeid, peer, ids, places, front, room);
+        front = turn(table, count, ids, places, &blank, front, room);
     }
     put_rest(table, count, most, front.records, front.held, room)
 }

@@ -20,7 +20,7 @@ fn wide(x: u8) -> u16
 }
 
 // The record of a new request at `at`.
-pub fn put_record(out: &mut [u8], at: usize, clock: u64, typeid: u8, peer: u64, id: &[u8])
+fn put_record(out: &mut [u8], at: usize, clock: u64, typeid: u8, peer: u64, id: &[u8])
     requires { ⌜ (length (now id) ≡ 32) × (at + 54 ≤ length (now out)) ⌝ }
     ensures { λ _. ⌜ now (out .exit) ≡ overwritten at (requestBytes (newRequest clock typeid peer (now (id .entry)))) (now (out .entry)) ⌝ }
 {
@@ -32,7 +32,7 @@ pub fn put_record(out: &mut [u8], at: usize, clock: u64, typeid: u8, peer: u64, 
     fields::write_u32(out, at + 50, 0);
 }
 
-fn new_record(clock: u64, typeid: u8, peer: u64, id: &[u8]) -> [u8; 54]
+pub fn new_record(clock: u64, typeid: u8, peer: u64, id: &[u8]) -> [u8; 54]
     requires { ⌜ length (now id) ≡ 32 ⌝ }
     ensures { λ r. ⌜ r ≡ requestBytes (newRequest clock typeid peer (now (id .entry))) ⌝ }
 {

@@ -1,8 +1,7 @@
+-- A list of one id is that id: `one-id`; else many at once, with room for their places: `room-long`.
 use borrow.Author.Needs.{needs}
 use native.Mathlib.Omega.{arith}
-use Prim.Native.Nat.{ℕ, suc, _+_, _-_, _*_, _≤_, _<_}
-use mathlib.Core.Path.{_≡_, refl, sym, ap, _∙_}
-use mathlib.Core.List.{List, [], _∷_, _++_}
+use mathlib.Core.Path.{refl, sym}
 use lib.ListN.{length}
 use Rattle.marking.proofs.OneLaws.{one-id}
 use Rattle.marking.proofs.SortedLaws.{room-long}

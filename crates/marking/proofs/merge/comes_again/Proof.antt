@@ -1,8 +1,7 @@
+-- The next place has the next id: `next-compared`.
 use borrow.Author.Needs.{needs}
 use native.Mathlib.Omega.{arith}
-use Prim.Native.Nat.{ℕ, suc, _+_, _-_, _*_, _≤_, _<_}
-use mathlib.Core.Path.{_≡_, refl, sym, ap, _∙_}
-use mathlib.Core.List.{List, [], _∷_, _++_}
+use Prim.Native.Nat.{_+_}
 use Rattle.marking.proofs.ChoiceLaws.{place-listed, last-alone, next-compared}
 use Rattle.marking.proofs.merge.comes_again.Statement.{statement}
 use Rattle.marking.proofs.merge.comes_again.Tie as tie
@@ -22,8 +21,8 @@ shared-slice-read-wide c = search needs
 wide-requires : tie.Need-wide-requires
 wide-requires c κs = search needs
 
-mul-run-same : tie.Need-mul-run-same
-mul-run-same c = let s = c .before .before .before .before .before in omega (arith, place-listed (s .args .ids .now) (s .args .places .now) (s .args .j) (s .pre .1) (s .pre .0) (c .wide .result) (c .wide .ensures))
+mul-same-id : tie.Need-mul-same-id
+mul-same-id c = let s = c .before .before .before .before .before in omega (arith, place-listed (s .args .ids .now) (s .args .places .now) (s .args .j) (s .pre .1) (s .pre .0) (c .wide .result) (c .wide .ensures))
 
 add-wide : tie.Need-add-wide
 add-wide c = search needs
@@ -37,14 +36,14 @@ shared-slice-read-wide-2 c = search needs
 wide-requires-2 : tie.Need-wide-requires-2
 wide-requires-2 c κs = search needs
 
-mul-run-same-2 : tie.Need-mul-run-same-2
-mul-run-same-2 c = let s = c .before .before .before .before .before .before .before in omega (arith, place-listed (s .args .ids .now) (s .args .places .now) (s .args .j + 1) (c .before .before .before .before .if1 .left) (s .pre .0) (c .wide2 .result) (c .wide2 .ensures))
+mul-same-id-2 : tie.Need-mul-same-id-2
+mul-same-id-2 c = let s = c .before .before .before .before .before .before .before in omega (arith, place-listed (s .args .ids .now) (s .args .places .now) (s .args .j + 1) (c .before .before .before .before .if1 .left) (s .pre .0) (c .wide2 .result) (c .wide2 .ensures))
 
-run-same-requires : tie.Need-run-same-requires
-run-same-requires c κs = let s = c .before .before .before .before .before .before .before in (place-listed (s .args .ids .now) (s .args .places .now) (s .args .j) (s .pre .1) (s .pre .0) (c .before .before .wide .result) (c .before .before .wide .ensures), place-listed (s .args .ids .now) (s .args .places .now) (s .args .j + 1) (c .before .before .before .before .if1 .left) (s .pre .0) (c .wide2 .result) (c .wide2 .ensures))
+same-id-requires : tie.Need-same-id-requires
+same-id-requires c κs = let s = c .before .before .before .before .before .before .before in (place-listed (s .args .ids .now) (s .args .places .now) (s .args .j) (s .pre .1) (s .pre .0) (c .before .before .wide .result) (c .before .before .wide .ensures), place-listed (s .args .ids .now) (s .args .places .now) (s .args .j + 1) (c .before .before .before .before .if1 .left) (s .pre .0) (c .wide2 .result) (c .wide2 .ensures))
 
 returns-2 : tie.Need-returns-2
-returns-2 c = let s = c .before .before .before .before .before .before .before .before in next-compared (s .args .ids .now) (s .args .places .now) (s .args .j) (s .pre .1) (c .before .before .before .before .before .if1 .left) (c .before .before .before .wide .result) (c .before .wide2 .result) (c .run-same .result) (c .before .before .before .wide .ensures) (c .before .wide2 .ensures) (c .run-same .ensures)
+returns-2 c = let s = c .before .before .before .before .before .before .before .before in next-compared (s .args .ids .now) (s .args .places .now) (s .args .j) (s .pre .1) (c .before .before .before .before .before .if1 .left) (c .before .before .before .wide .result) (c .before .wide2 .result) (c .same-id .result) (c .before .before .before .wide .ensures) (c .before .wide2 .ensures) (c .same-id .ensures)
 
 pub comes-again-spec : {M : Type 1} → statement M
 comes-again-spec =
@@ -55,11 +54,11 @@ comes-again-spec =
     mul-wide
     shared-slice-read-wide
     wide-requires
-    mul-run-same
+    mul-same-id
     add-wide
     mul-wide-2
     shared-slice-read-wide-2
     wide-requires-2
-    mul-run-same-2
-    run-same-requires
+    mul-same-id-2
+    same-id-requires
     returns-2)

@@ -1,9 +1,7 @@
+-- The order of the ids does not matter, and what is in the room goes back: `copied-back`; else the table stays.
 use borrow.Author.Needs.{needs}
 use native.Mathlib.Omega.{arith}
-use Prim.Native.Nat.{ℕ, suc, _+_, _-_, _*_, _≤_, _<_}
-use mathlib.Core.Path.{_≡_, refl, sym, ap, _∙_}
-use mathlib.Core.List.{List, [], _∷_, _++_}
-use lib.ListN.{length}
+use mathlib.Core.Path.{sym, _∙_}
 use native.Mathlib.Nat.{mul-le-mul-right}
 use Rattle.marking.proofs.ManyLaws.{still-sorted, too-many, few, copied-back}
 use Rattle.marking.proofs.merge.mark_many.Statement.{statement}

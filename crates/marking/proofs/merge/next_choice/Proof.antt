@@ -1,8 +1,5 @@
+-- An id that comes again is skipped: `again-choice`; else by the next record: `fresh-choice`.
 use borrow.Author.Needs.{needs}
-use native.Mathlib.Omega.{arith}
-use Prim.Native.Nat.{ℕ, suc, _+_, _-_, _*_, _≤_, _<_}
-use mathlib.Core.Path.{_≡_, refl, sym, ap, _∙_}
-use mathlib.Core.List.{List, [], _∷_, _++_}
 use Rattle.model.specs.Image.{requestOf}
 use Rattle.fields.specs.Entries.{entries}
 use mathlib.Core.List.{map}

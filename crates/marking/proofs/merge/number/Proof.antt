@@ -1,10 +1,9 @@
+-- The loop: the numbers so far, then those to come, are all of them (`Numbering`).
 use borrow.Author.Needs.{needs}
 use native.Mathlib.Omega.{arith}
-use Prim.Native.Nat.{ℕ, suc, _+_, _-_, _*_, _≤_, _<_}
-use mathlib.Core.Path.{_≡_, refl, sym, ap, _∙_}
-use mathlib.Core.List.{List, [], _∷_, _++_}
+use Prim.Native.Nat.{_-_}
 use Rattle.marking.proofs.SortedLaws.{Numbering, number-starts, number-turn, number-ends}
-use lib.ListN.{length, take, drop, getD, set}
+use lib.ListN.{length}
 use Rattle.marking.proofs.merge.number.Statement.{statement}
 use Rattle.marking.proofs.merge.number.Tie as tie
 

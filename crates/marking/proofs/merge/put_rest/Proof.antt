@@ -1,8 +1,6 @@
+-- By the total: `rest-full`, `rest-held`.
 use borrow.Author.Needs.{needs}
-use native.Mathlib.Omega.{arith}
-use Prim.Native.Nat.{ℕ, suc, _+_, _-_, _*_, _≤_, _<_}
-use mathlib.Core.Path.{_≡_, refl, sym, ap, _∙_}
-use mathlib.Core.List.{List, [], _∷_, _++_}
+use Prim.Native.Nat.{_+_, _-_}
 use Rattle.marking.proofs.AnswerLaws.{rest-full, rest-held}
 use Rattle.marking.proofs.merge.put_rest.Statement.{statement}
 use Rattle.marking.proofs.merge.put_rest.Tie as tie

@@ -1,8 +1,6 @@
+-- Places sorted by their ids give the ids sorted: `sorted-ids`.
 use borrow.Author.Needs.{needs}
-use native.Mathlib.Omega.{arith}
-use Prim.Native.Nat.{ℕ, suc, _+_, _-_, _*_, _≤_, _<_}
-use mathlib.Core.Path.{_≡_, refl, sym, ap, _∙_}
-use mathlib.Core.List.{List, [], _∷_, _++_}
+use mathlib.Core.Path.{ap, _∙_}
 use Rattle.order.specs.Places.{keyBelow}
 use Rattle.fields.specs.Sort.{sorted}
 use lib.ListN.{length}
