@@ -1,0 +1,36 @@
+-- Requests and ids that are read from bytes fit their records.
+use Prim.Native.Nat.{ℕ, _/_}
+use mathlib.Core.Path.{_≡_}
+use mathlib.Core.List.{List, [], _∷_, map}
+use native.Mathlib.Omega.{arith}
+use lib.ListN.{length}
+use lib.Seq.{length-take-le}
+use Rattle.fields.specs.Facts.{All, Bytes}
+use Rattle.fields.specs.Entries.{entries}
+use Rattle.fields.proofs.AllLaws.{all-weaker, entries-all}
+use Rattle.fields.proofs.PartLaws.{part-below}
+use Rattle.fields.proofs.NumberLaws.{bytes-take}
+use Rattle.fields.proofs.EntriesLaws.{Wide}
+use Rattle.model.specs.Image.{requestOf}
+use Rattle.model.specs.Lists.{idsIn}
+use Rattle.model.proofs.Well.{WellId}
+use Rattle.model.proofs.RecordLaws.{Recorded}
+
+pub entries-recorded : (es : List (List ℕ)) → Wide 54 es → All Bytes es → All Recorded (map requestOf es)
+unfolding requestOf
+entries-recorded [] w f = tt
+entries-recorded (e ∷ es) w f =
+    let l : length e ≡ 54 = w .0 in
+    let b : Bytes e = f .0 in (
+      record {
+        id = record { long = length-take-le 32 e (omega arith); bytes = bytes-take 32 e b };
+        cells = (part-below 32 8 e (omega arith) b, (part-below 40 2 e (omega arith) b, (part-below 42 8 e (omega arith) b, (part-below 50 4 e (omega arith) b, tt))));
+      },
+      entries-recorded es (w .1) (f .1),
+    )
+
+pub well-ids : (ids : List ℕ) → Bytes ids → All WellId (idsIn ids)
+unfolding idsIn
+well-ids ids f =
+    all-weaker (λ (e : List ℕ). (length e ≡ 32) × Bytes e) WellId (λ e p. record { long = p .0; bytes = p .1 }) (entries 32 (length ids / 32) ids)
+    (entries-all 32 (length ids / 32) ids (omega arith) f)
