@@ -1,16 +1,14 @@
 -- The loop over the types: one run of places after another.
 use Prim.Native.Nat.{ℕ, suc, _+_, _-_, _*_, _/_, _^_, _≤_, _<_}
-use mathlib.Core.Path.{_≡_, refl, sym, ap, _∙_}
+use mathlib.Core.Path.{_≡_, refl, sym, _∙_}
 use mathlib.Core.Bool.{Bool, true, false, false≢true}
-use mathlib.Core.List.{List, [], _∷_, _++_}
+use mathlib.Core.List.{List, [], _∷_}
 use native.Mathlib.Omega.{arith}
 use lib.Dec.{leb}
 use lib.ListN.{length, take, drop, getD, drop-of-length-le}
-use lib.Seq.{take-at}
-use Rattle.fields.specs.Facts.{All, Bytes}
+use Rattle.fields.specs.Facts.{Bytes}
 use Rattle.fields.specs.Entries.{entries, rising, joined}
 use Rattle.fields.specs.Overwrite.{overwritten}
-use Rattle.fields.proofs.OverwriteLaws.{front-read-back}
 use Rattle.model.specs.Requests.{Pair, Act, ask, perform}
 use Rattle.model.specs.Lists.{idsIn, entriesOf}
 use Rattle.requests.specs.Pending.{requestsIn, holding}
@@ -20,38 +18,17 @@ use Rattle.requests.proofs.WriteLaws as write
 use Rattle.announced.specs.Requested.{requestedAs, sentWithin}
 use Rattle.announced.specs.declared.request.Requested.the-variants.{Done, Full}
 use Rattle.announced.specs.declared.request.Written.{Written}
-use Rattle.announced.specs.ByType.{asksByType, performedByType, Within, pairsAt, idsAt, typeAt, placesByType, ofType, asksOf}
+use Rattle.announced.specs.ByType.{asksByType, performedByType, pairsAt, idsAt, typeAt, placesByType, ofType, asksOf}
 use Rattle.announced.proofs.RequestedLaws.{many-requested}
 use Rattle.announced.proofs.PerformLaws.{Performing, perform-starts, perform-ends, act-room, act-number, perform-full, perform-turn}
 use Rattle.announced.proofs.PlacesLaws.{length-ids}
-use Rattle.announced.proofs.ByTypeLaws.{gathered-long, run-within, run-long, run-asked, places-within, length-places, asks-of-places, asks-weight, asks-count, asks-well}
+use Rattle.announced.proofs.ByTypeLaws.{sorted-within, gathered-long, run-within, run-long, run-asked, asks-of-places, asks-weight, asks-count, asks-well}
 
 -- The asks of the places from i on are left.
 pub record Asking (gate : Bool) (clock peer most count at batch : ℕ) (stored : List Pair) (pairs places d e r₀ t r o : List ℕ) (done : Written) (i : ℕ) : Type 0 where
   pub i-le : i ≤ length places
   pub rest-long : length r ≡ length r₀
   pub acts : Performing gate clock most count at batch (asksByType peer stored (entriesOf 33 pairs)) d e (asksOf peer stored (pairsAt pairs (drop i places))) t o (done .count) (done .at) (done .batch)
-
-module _ (pairs places : List ℕ) (ep : places ≡ placesByType pairs) where
-  pub sorted-within : All (Within pairs) places
-  sorted-within = rw ep (places-within 0 pairs)
-
-  pub sorted-long : length places ≡ length pairs / 33
-  sorted-long = ap length ep ∙ length-places 0 pairs
-
-  -- the ids gathered at the front of the room
-  pub gathered : (d ids : List ℕ) → ids ≡ overwritten 0 (joined (idsAt pairs places)) d → take (length places * 32) ids ≡ joined (idsAt pairs places)
-  gathered d ids e =
-      let l : length (joined (idsAt pairs places)) ≡ length places * 32 = length-ids pairs places sorted-within in
-      rw (e, ← l) (front-read-back (joined (idsAt pairs places)) d)
-
--- the places at the front of the room
-module _ (pairs places rest : List ℕ) (e : places ≡ placesByType pairs) where
-  pub front-places : take (length pairs / 33) (places ++ rest) ≡ placesByType pairs
-  front-places = take-at places rest (length pairs / 33) (sorted-long pairs places e) ∙ e
-
-  pub length-front : length (take (length pairs / 33) (places ++ rest)) ≡ length pairs / 33
-  length-front = ap length front-places ∙ length-places 0 pairs
 
 module _ (gate : Bool) (clock peer most count at batch : ℕ) (stored : List Pair) (pairs places d e r₀ : List ℕ) (ep : places ≡ placesByType pairs) (fits : most * 54 ≤ length d) where
   pub ask-starts : count ≤ most → Bytes d → rising 32 (entries 54 count d) ≡ true → peer < 2 ^ 64 → Bytes pairs → at + length pairs / 33 * 48 ≤ length e → batch + length pairs / 33 + 1 < 65536

@@ -2,12 +2,12 @@
 use Prim.Native.Nat.{ℕ, zero, suc, _+_, _-_, _*_, _/_, _%_, _^_, _≤_, _<_}
 use mathlib.Core.Path.{_≡_, refl, sym, ap, _∙_}
 use mathlib.Core.Bool.{Bool, true, false, cond, _&&_, _||_}
-use mathlib.Core.List.{List, [], _∷_, map}
+use mathlib.Core.List.{List, [], _∷_, _++_, map}
 use native.Mathlib.Omega.{arith}
 use native.Mathlib.Nat.{lt-irrefl}
 use lib.Dec.{eqb, ltb}
 use lib.ListN.{length, take, drop, getD, length-drop, length-map}
-use lib.Seq.{drop-drop, length-take-le}
+use lib.Seq.{drop-drop, length-take-le, take-at}
 use borrow.Author.Tests.{eqb-true, eqb-false, eq-eqb, ne-eqb, le-leb, le-ltb}
 use Rattle.fields.specs.Facts.{All, Bytes}
 use Rattle.fields.specs.Order.{before}
@@ -224,3 +224,21 @@ module _ (peer : ℕ) (stored : List Pair) (pairs : List ℕ) where
       let b : getD e 0 0 < 256 = p .1 0 in
       record { id = record { long = length-drop 1 e ∙ rw l; bytes = bytes-drop 1 e (p .1) }; typeId = omega arith; peer = hp })
       (entriesOf 33 pairs) (entries-all 33 (length pairs / 33) pairs (omega arith) f)))
+
+-- ---- the places and the ids at the front of their rooms
+
+module _ (pairs places : List ℕ) (e : places ≡ placesByType pairs) where
+  pub sorted-within : All (Within pairs) places
+  sorted-within = rw e (places-within 0 pairs)
+
+  pub sorted-long : length places ≡ length pairs / 33
+  sorted-long = ap length e ∙ length-places 0 pairs
+
+  pub front-places : (rest : List ℕ) → take (length pairs / 33) (places ++ rest) ≡ placesByType pairs
+  front-places rest = take-at places rest (length pairs / 33) sorted-long ∙ e
+
+  pub front-ids-at : (ids : List ℕ) → take (length places * 32) ids ≡ joined (idsAt pairs places)
+      → (take (length pairs / 33 * 32) ids ≡ joined (idsAt pairs places)) × (length (take (length pairs / 33 * 32) ids) ≡ length pairs / 33 * 32)
+  front-ids-at ids f =
+      let q : take (length pairs / 33 * 32) ids ≡ joined (idsAt pairs places) = rw sorted-long at f in
+      (q, ap length q ∙ length-ids pairs places sorted-within ∙ rw sorted-long)

@@ -1,3 +1,4 @@
+pub mod RecordedLaws
 pub mod RequestedLaws
 pub mod PerformLaws
 pub mod PlacesLaws

@@ -30,7 +30,9 @@ use Rattle.requests.specs.Pending.{requestsIn, holding}
 use Rattle.requests.specs.Sent.{sentBytes}
 use Rattle.marking.specs.Marking.{heldWithin}
 use Rattle.marking.proofs.AnswerLaws.{few-held}
-use Rattle.marking.proofs.RecordLaws.{marked-longer, marked-recorded, entries-recorded}
+use Rattle.marking.proofs.ManyLaws.{marked-longer}
+use Rattle.requests.proofs.RecordedLaws.{entries-recorded}
+use Rattle.announced.proofs.RecordedLaws.{marked-recorded}
 use Rattle.announced.specs.Requested.{requestedAs, sentWithin}
 use Rattle.announced.specs.declared.request.Requested.the-variants.{Done, Full}
 use Rattle.announced.specs.declared.request.Written.{Written}

@@ -11,7 +11,7 @@ use borrow.Author.Tests.{eq-eqb, ne-eqb}
 use Rattle.fields.specs.Facts.{All}
 use Rattle.fields.specs.Entries.{entry, joined}
 use Rattle.fields.specs.Overwrite.{overwritten}
-use Rattle.fields.proofs.OverwriteLaws.{length-overwritten, overwritten-next, overwritten-nil, drop-take}
+use Rattle.fields.proofs.OverwriteLaws.{length-overwritten, overwritten-next, overwritten-nil, drop-take, front-read-back}
 use Rattle.fields.proofs.EntriesLaws.{Wide, length-entry, length-joined}
 use Rattle.fields.proofs.AllLaws.{all-at, all-drop}
 use Rattle.announced.specs.ByType.{Within, pairsAt, idsAt, typeAt, upward, ofType}
@@ -109,3 +109,8 @@ module _ (pairs places d ids : List ℕ) (i : ℕ) (g : Gathering pairs places d
       let z : drop i places ≡ [] = drop-of-length-le places {i = i} h in
       let a : overwritten (i * 32) [] ids ≡ overwritten 0 (joined (idsAt pairs places)) d = rw z at (g .rest) in
       sym (overwritten-nil (i * 32) ids) ∙ a
+
+pub gathered : (pairs places d ids : List ℕ) → All (Within pairs) places → ids ≡ overwritten 0 (joined (idsAt pairs places)) d → take (length places * 32) ids ≡ joined (idsAt pairs places)
+gathered pairs places d ids w e =
+    let l : length (joined (idsAt pairs places)) ≡ length places * 32 = length-ids pairs places w in
+    rw (e, ← l) (front-read-back (joined (idsAt pairs places)) d)

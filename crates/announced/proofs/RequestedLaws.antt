@@ -33,7 +33,7 @@ use Rattle.marking.specs.Marking.{markedAs, heldWithin}
 use Rattle.marking.specs.declared.Marked.the-variants as marked
 use Rattle.requests.proofs.WriteLaws.{length-ids}
 use Rattle.marking.proofs.AnswerLaws.{marked-pending, marked-full, few-held}
-use Rattle.marking.proofs.RecordLaws.{well-ids}
+use Rattle.requests.proofs.RecordedLaws.{well-ids}
 use Rattle.announced.specs.Requested.{requestedAs, sentWithin}
 use Rattle.announced.specs.declared.request.Requested.the-variants.{Done, Full}
 

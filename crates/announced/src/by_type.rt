@@ -71,96 +71,6 @@ fn ask_each(
     Requested::Done(done)
 }
 
-// The ids of the pairs at `places` gathered, then asked for. `ids` is room to work in.
-fn by_ids(
-    table: &mut [u8],
-    count: usize,
-    most: usize,
-    gate: bool,
-    clock: u64,
-    peer: u64,
-    stored: &[u8],
-    pairs: &[u8],
-    places: &[u16],
-    ids: &mut [u8],
-    out: &mut [u8],
-    at: usize,
-    batch: u16,
-) -> Requested
-    requires { ⌜ (length (now pairs) % 33 ≡ 0) × ((length (now pairs) ≤ 33792) × ((count ≤ most) × ((most ≤ 1024) × (most * 54 ≤ length (now table))))) ⌝ }
-    requires { ⌜ rising 32 (entries 54 count (now table)) ≡ true ⌝ }
-    requires { ⌜ pairsFit (now stored) ≡ true ⌝ }
-    requires { ⌜ (at + length (now pairs) / 33 * 48 ≤ length (now out)) × (batch + length (now pairs) / 33 + 1 < 65536) ⌝ }
-    requires { ⌜ (now places ≡ placesByType (now pairs)) × (length (now ids) ≡ 32768) ⌝ }
-    ensures { λ r. ⌜ r ≡ requestedAs most at batch (performedByType gate clock peer (pairsIn (now (stored .entry))) (entriesOf 33 (now (pairs .entry))) (requestsIn count (now (table .entry)))) ⌝ }
-    ensures { λ _. ⌜ (leb (length (performedByType gate clock peer (pairsIn (now (stored .entry))) (entriesOf 33 (now (pairs .entry))) (requestsIn count (now (table .entry))) .pending)) most ≡ true → now (table .exit) ≡ holding count (performedByType gate clock peer (pairsIn (now (stored .entry))) (entriesOf 33 (now (pairs .entry))) (requestsIn count (now (table .entry))) .pending) (now (table .entry))) ⌝ }
-    ensures { λ _. ⌜ (leb (length (performedByType gate clock peer (pairsIn (now (stored .entry))) (entriesOf 33 (now (pairs .entry))) (requestsIn count (now (table .entry))) .pending)) most ≡ true → now (out .exit) ≡ overwritten at (sentBytes batch (performedByType gate clock peer (pairsIn (now (stored .entry))) (entriesOf 33 (now (pairs .entry))) (requestsIn count (now (table .entry))) .sendings)) (now (out .entry))) ⌝ }
-{
-    let size = places.len() * 32;
-    crate::places::gather(pairs, places, ids);
-    let mut rest = [0u8; 32768];
-    ask_each(
-        table,
-        count,
-        most,
-        gate,
-        clock,
-        peer,
-        stored,
-        pairs,
-        places,
-        &ids[..size],
-        &mut rest,
-        out,
-        at,
-        batch,
-    )
-}
-
-// The pairs in the order of their types, then asked for. `places` is room to work in.
-fn by_places(
-    table: &mut [u8],
-    count: usize,
-    most: usize,
-    gate: bool,
-    clock: u64,
-    peer: u64,
-    stored: &[u8],
-    pairs: &[u8],
-    places: &mut [u16],
-    out: &mut [u8],
-    at: usize,
-    batch: u16,
-) -> Requested
-    requires { ⌜ (length (now pairs) % 33 ≡ 0) × ((length (now pairs) ≤ 33792) × ((count ≤ most) × ((most ≤ 1024) × (most * 54 ≤ length (now table))))) ⌝ }
-    requires { ⌜ rising 32 (entries 54 count (now table)) ≡ true ⌝ }
-    requires { ⌜ pairsFit (now stored) ≡ true ⌝ }
-    requires { ⌜ (at + length (now pairs) / 33 * 48 ≤ length (now out)) × (batch + length (now pairs) / 33 + 1 < 65536) ⌝ }
-    requires { ⌜ length (now places) ≡ 1024 ⌝ }
-    ensures { λ r. ⌜ r ≡ requestedAs most at batch (performedByType gate clock peer (pairsIn (now (stored .entry))) (entriesOf 33 (now (pairs .entry))) (requestsIn count (now (table .entry)))) ⌝ }
-    ensures { λ _. ⌜ (leb (length (performedByType gate clock peer (pairsIn (now (stored .entry))) (entriesOf 33 (now (pairs .entry))) (requestsIn count (now (table .entry))) .pending)) most ≡ true → now (table .exit) ≡ holding count (performedByType gate clock peer (pairsIn (now (stored .entry))) (entriesOf 33 (now (pairs .entry))) (requestsIn count (now (table .entry))) .pending) (now (table .entry))) ⌝ }
-    ensures { λ _. ⌜ (leb (length (performedByType gate clock peer (pairsIn (now (stored .entry))) (entriesOf 33 (now (pairs .entry))) (requestsIn count (now (table .entry))) .pending)) most ≡ true → now (out .exit) ≡ overwritten at (sentBytes batch (performedByType gate clock peer (pairsIn (now (stored .entry))) (entriesOf 33 (now (pairs .entry))) (requestsIn count (now (table .entry))) .sendings)) (now (out .entry))) ⌝ }
-{
-    let number = pairs.len() / 33;
-    crate::places::places_by_type(pairs, &mut places[..number]);
-    let mut ids = [0u8; 32768];
-    by_ids(
-        table,
-        count,
-        most,
-        gate,
-        clock,
-        peer,
-        stored,
-        pairs,
-        &places[..number],
-        &mut ids,
-        out,
-        at,
-        batch,
-    )
-}
-
 // One list a type through rule 3, types rising, ids in their order. `pairs` are type and id, 33 bytes each, in any order.
 // With Full, what is left in the table and behind `at` is of no use.
 pub fn request_by_type(
@@ -184,8 +94,12 @@ pub fn request_by_type(
     ensures { λ _. ⌜ (leb (length (performedByType gate clock peer (pairsIn (now (stored .entry))) (entriesOf 33 (now (pairs .entry))) (requestsIn count (now (table .entry))) .pending)) most ≡ true → now (table .exit) ≡ holding count (performedByType gate clock peer (pairsIn (now (stored .entry))) (entriesOf 33 (now (pairs .entry))) (requestsIn count (now (table .entry))) .pending) (now (table .entry))) ⌝ }
     ensures { λ _. ⌜ (leb (length (performedByType gate clock peer (pairsIn (now (stored .entry))) (entriesOf 33 (now (pairs .entry))) (requestsIn count (now (table .entry))) .pending)) most ≡ true → now (out .exit) ≡ overwritten at (sentBytes batch (performedByType gate clock peer (pairsIn (now (stored .entry))) (entriesOf 33 (now (pairs .entry))) (requestsIn count (now (table .entry))) .sendings)) (now (out .entry))) ⌝ }
 {
-    let mut places = [0u16; 1024];
-    by_places(
+    let number = pairs.len() / 33;
+    let size = number * 32;
+    let places = crate::places::places_by_type(pairs);
+    let ids = crate::places::ids_at(pairs, &places[..number]);
+    let mut rest = [0u8; 32768];
+    ask_each(
         table,
         count,
         most,
@@ -194,7 +108,9 @@ pub fn request_by_type(
         peer,
         stored,
         pairs,
-        &mut places,
+        &places[..number],
+        &ids[..size],
+        &mut rest,
         out,
         at,
         batch,

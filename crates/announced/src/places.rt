@@ -1,7 +1,7 @@
 // The places of pairs of type and id, by type.
 ghost use mathlib.Core.Path.{_≡_};
 ghost use Prim.Native.Nat.{suc, _+_, _*_, _/_, _≤_, _<_};
-ghost use lib.ListN.{length, drop, getD};
+ghost use lib.ListN.{length, take, drop, getD};
 ghost use Rattle.fields.specs.Facts.{All};
 ghost use Rattle.fields.specs.Entries.{joined};
 ghost use Rattle.fields.specs.Overwrite.{overwritten};
@@ -34,13 +34,23 @@ fn number_and_sort(pairs: &[u8], places: &mut [u16], spare: &mut [u16])
     order::sort(pairs, 33, 0, 1, places, &mut spare[..count]);
 }
 
-// The places of all pairs, types rising; within a type in the order of the pairs.
-pub fn places_by_type(pairs: &[u8], places: &mut [u16])
+fn fill(pairs: &[u8], places: &mut [u16])
     requires { ⌜ (length (now places) ≡ length (now pairs) / 33) × (length (now places) ≤ 1024) ⌝ }
     ensures { λ _. ⌜ now (places .exit) ≡ placesByType (now (pairs .entry)) ⌝ }
 {
     let mut spare = [0u16; 1024];
     number_and_sort(pairs, places, &mut spare);
+}
+
+// The places of all pairs, types rising; within a type in the order of the pairs.
+pub fn places_by_type(pairs: &[u8]) -> [u16; 1024]
+    requires { ⌜ length (now pairs) ≤ 33792 ⌝ }
+    ensures { λ r. ⌜ take (length (now (pairs .entry)) / 33) r ≡ placesByType (now (pairs .entry)) ⌝ }
+{
+    let mut places = [0u16; 1024];
+    let number = pairs.len() / 33;
+    fill(pairs, &mut places[..number]);
+    places
 }
 
 // The type of the pair at a place.
@@ -70,7 +80,7 @@ pub fn type_end(pairs: &[u8], places: &[u16], first: usize) -> usize
 }
 
 // The ids of the pairs at `places`, one after another at the front of `ids`.
-pub fn gather(pairs: &[u8], places: &[u16], ids: &mut [u8])
+fn gather(pairs: &[u8], places: &[u16], ids: &mut [u8])
     requires { ⌜ All (Within (now pairs)) (now places) × (length (now places) * 32 ≤ length (now ids)) ⌝ }
     ensures { λ _. ⌜ now (ids .exit) ≡ overwritten 0 (joined (idsAt (now (pairs .entry)) (now (places .entry)))) (now (ids .entry)) ⌝ }
 {
@@ -81,4 +91,14 @@ pub fn gather(pairs: &[u8], places: &[u16], ids: &mut [u8])
         moving::overwrite(ids, i * 32, &pairs[from..end]);
         i += 1;
     }
+}
+
+// The ids of the pairs at `places`, one after another.
+pub fn ids_at(pairs: &[u8], places: &[u16]) -> [u8; 32768]
+    requires { ⌜ All (Within (now pairs)) (now places) × (length (now places) ≤ 1024) ⌝ }
+    ensures { λ r. ⌜ take (length (now (places .entry)) * 32) r ≡ joined (idsAt (now (pairs .entry)) (now (places .entry))) ⌝ }
+{
+    let mut ids = [0u8; 32768];
+    gather(pairs, places, &mut ids);
+    ids
 }

@@ -8,7 +8,8 @@ use Rattle.fields.specs.Facts.{Bytes}
 use Rattle.fields.proofs.AllLaws.{all-at}
 use Rattle.model.specs.Lists.{pairsIn}
 use Rattle.announced.specs.ByType.{Within}
-use Rattle.announced.proofs.AskLaws.{Asking, sorted-within, sorted-long, ask-starts, ask-ends, ids-long, next-within, part-long, part-room, part-number, ask-full, ask-turn}
+use Rattle.announced.proofs.ByTypeLaws.{sorted-within, sorted-long}
+use Rattle.announced.proofs.AskLaws.{Asking, ask-starts, ask-ends, ids-long, next-within, part-long, part-room, part-number, ask-full, ask-turn}
 use Rattle.announced.proofs.by_type.ask_each.Statement.{statement}
 use Rattle.announced.proofs.by_type.ask_each.Tie as tie
 
