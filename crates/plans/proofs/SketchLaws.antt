@@ -1,7 +1,7 @@
 -- A plan by value and one of the model have the same sketch if they agree part by part.
 use Prim.{⊥}
 use Prim.Native.Nat.{ℕ}
-use mathlib.Core.Path.{_≡_, refl, sym, ap, _∙_}
+use mathlib.Core.Path.{_≡_, sym, ap, _∙_}
 use mathlib.Core.Bool.{true, false}
 use mathlib.Core.List.{_++_}
 use lib.Dec.{eqb}

@@ -2,18 +2,17 @@
 //
 // Each equals the model's plan of its name for every state with the header that it is given.
 ghost use mathlib.Core.Path.{_≡_};
-ghost use mathlib.Core.Bool.{true, false, cond, _&&_};
+ghost use mathlib.Core.Bool.{true, cond, _&&_};
 ghost use Prim.Native.Nat.{_≤_};
 ghost use lib.Dec.{eqb};
+ghost use lib.ListN.{length};
 ghost use Rattle.model.specs.State.{State, isMode, syncing};
 ghost use Rattle.model.specs.Settings as model;
 ghost use Rattle.model.specs.Peers.{firstOf, selectPeer, stalledAfterSelect, joinStalled};
-ghost use lib.ListN.{length};
 ghost use Rattle.model.specs.Steps as steps;
 ghost use Rattle.model.specs.Lists.{peersIn, viewFits};
 ghost use Rattle.model.specs.Calls as calls;
 ghost use Rattle.model.specs.Calls.{argsOf};
-ghost use Rattle.settings.specs.Values.{settingsOf};
 ghost use Rattle.stalled.specs.Values.{stalledPeers};
 ghost use Rattle.image.specs.Heads.{headOf};
 ghost use Rattle.peers.specs.declared.Listed.the-variants.{Nobody};

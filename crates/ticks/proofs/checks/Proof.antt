@@ -1,18 +1,16 @@
 -- Rule 5 by its callee, in syncing; the rest is by the definition.
 use borrow.Author.Needs.{needs}
-use mathlib.Core.Path.{_≡_, refl, sym, ap, _∙_}
+use mathlib.Core.Path.{refl, sym, _∙_}
+use mathlib.Core.List.{append-nil}
+use mathlib.Core.Bool.{true, false}
 use Rattle.model.specs.Steps as steps
 use Rattle.model.specs.Calls.{argsOf}
+use Rattle.model.specs.Peers.{firstOf}
+use Rattle.model.specs.Lists.{peersIn}
 use Rattle.image.specs.Heads.{headOf}
 use Rattle.plans.specs.Plans.{actsBy, headBy}
 use Rattle.plans.proofs.SketchLaws.{sketched, is-mode, not-mode}
 use Rattle.plans.proofs.HeightLaws.{reached}
-use Rattle.model.specs.Peers.{firstOf}
-use Rattle.model.specs.Lists.{peersIn}
-use Rattle.model.specs.Check.{askFresh}
-use Rattle.model.specs.Lists.{pairsIn}
-use mathlib.Core.List.{append-nil}
-use mathlib.Core.Bool.{true, false}
 use Rattle.ticks.proofs.TickLaws.{fresh-asked, downloaded-of}
 use Rattle.ticks.proofs.checks.Statement.{statement}
 use Rattle.ticks.proofs.checks.Tie as tie

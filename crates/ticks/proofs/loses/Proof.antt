@@ -1,9 +1,10 @@
 -- By the definition, in each case of peer and mode.
 use borrow.Author.Needs.{needs}
+use borrow.Author.Tests.{eq-eqb, ne-eqb}
+use Prim.{⊥}
 use mathlib.Core.Path.{_≡_, refl, sym, ap, _∙_}
 use mathlib.Core.Bool.{true, false}
 use lib.Dec.{eqb}
-use borrow.Author.Tests.{eq-eqb, ne-eqb}
 use Rattle.model.specs.State.{seeking}
 use Rattle.model.specs.Peers.{firstOf}
 use Rattle.model.specs.Lists.{peersIn}
@@ -23,7 +24,7 @@ returns : tie.Need-returns
 unfolding steps.loses
 returns c =
     let a = c .before .before .before .before .args in
-    let t = c .before .if1 .taken in (
+    let t : a .peer ≡ a .head .peer → ⊥ = c .before .if1 .taken in (
       rw (ne-eqb _ _ t) (c .continues .ensures .0),
       λ st call h e ep.
           let p : eqb (a .peer) (st .sync .syncPeer) ≡ false = ne-eqb _ _ (λ x. t (x ∙ sym (peer-of st (a .head) h))) in
@@ -37,8 +38,8 @@ returns-2 : tie.Need-returns-2
 unfolding steps.loses
 returns-2 c =
     let a = c .before .before .before .before .before .before .args in
-    let t = c .before .before .before .if1 .left in
-    let u = c .before .if2 .taken in (
+    let t : a .peer ≡ a .head .peer = c .before .before .before .if1 .left in
+    let u : a .head .mode ≡ 2 → ⊥ = c .before .if2 .taken in (
       rw (eq-eqb _ _ t, ne-eqb _ _ u) (c .leaves .ensures .0),
       λ st call h e ep.
           let p : eqb (a .peer) (st .sync .syncPeer) ≡ true = eq-eqb _ _ (t ∙ peer-of st (a .head) h) in
@@ -55,8 +56,8 @@ returns-3 : tie.Need-returns-3
 unfolding steps.loses argsOf
 returns-3 c =
     let a = c .before .before .before .before .before .before .before .args in
-    let t = c .before .before .before .before .if1 .left in
-    let u = c .before .before .if2 .left in
+    let t : a .peer ≡ a .head .peer = c .before .before .before .before .if1 .left in
+    let u : a .head .mode ≡ 2 = c .before .before .if2 .left in
     let work = c .before .lose-work in (
       rw (eq-eqb _ _ t, eq-eqb _ _ u) (c .leaves2 .ensures .0 ∙ work .ensures),
       λ st call h e ep.

@@ -1,19 +1,19 @@
 -- By the definition, in each case of the selected peer; what is entered, by `enters_syncing`.
 use borrow.Author.Needs.{needs}
 use mathlib.Core.Path.{_≡_, refl, sym, ap, _∙_}
+use mathlib.Core.Option.{none, some}
+use lib.ListN.{length}
 use Rattle.model.specs.Steps as steps
 use Rattle.model.specs.Calls.{argsOf}
-use Rattle.image.specs.Heads.{headOf}
-use Rattle.plans.specs.Plans.{headBy, stalledBy}
-use Rattle.plans.proofs.SketchLaws.{sketched}
-use mathlib.Core.Option.{Option, none, some}
-use lib.ListN.{length}
 use Rattle.model.specs.State.{Sync, withStalledPeers, withSendClock, withLastProgress}
 use Rattle.model.specs.Events.{Continue}
 use Rattle.model.specs.Peers.{selectPeer, stalledAfterSelect, resetSends}
 use Rattle.model.specs.Lists.{peersIn}
 use Rattle.peers.specs.Values.{listedPeer}
 use Rattle.settings.specs.Values.{sendClockOf}
+use Rattle.image.specs.Heads.{headOf}
+use Rattle.plans.specs.Plans.{headBy, stalledBy}
+use Rattle.plans.proofs.SketchLaws.{sketched}
 use Rattle.plans.proofs.SendLaws.{clockFrom, clock-from, headed}
 use Rattle.ticks.proofs.TickLaws.{stalled-of}
 use Rattle.ticks.proofs.picks.Statement.{statement}

@@ -1,15 +1,15 @@
 -- By the definition, in syncing and in any other mode; rule 4 by its callees.
 use borrow.Author.Needs.{needs}
-use mathlib.Core.Path.{_≡_, refl, sym, ap, _∙_}
+use mathlib.Core.Path.{refl, sym, _∙_}
+use mathlib.Core.List.{append-nil}
+use mathlib.Core.Bool.{false}
 use Rattle.model.specs.Steps as steps
 use Rattle.model.specs.Calls.{argsOf}
-use Rattle.image.specs.Heads.{headOf}
-use Rattle.plans.specs.Plans.{actsBy, isQuiet, headBy}
-use Rattle.plans.proofs.SketchLaws.{sketched, is-mode, not-mode}
-use mathlib.Core.List.{append-nil}
-use mathlib.Core.Bool.{true, false}
 use Rattle.model.specs.Peers.{firstOf}
 use Rattle.model.specs.Lists.{peersIn}
+use Rattle.image.specs.Heads.{headOf}
+use Rattle.plans.specs.Plans.{actsBy, headBy}
+use Rattle.plans.proofs.SketchLaws.{sketched, is-mode, not-mode}
 use Rattle.plans.proofs.HeightLaws.{asked, seen-by}
 use Rattle.ticks.proofs.TickLaws.{quiet-sections, downloaded-of}
 use Rattle.ticks.proofs.progresses.Statement.{statement}

@@ -1,16 +1,16 @@
 -- Rule 4 by its callees, rule 2 by SendLaws; whether progress has sent before decides in both.
 use borrow.Author.Needs.{needs}
 use mathlib.Core.Path.{_≡_, refl, sym, ap, _∙_}
+use mathlib.Core.Bool.{true, false}
 use Rattle.model.specs.Steps as steps
 use Rattle.model.specs.Calls.{argsOf}
-use Rattle.image.specs.Heads.{headOf}
-use Rattle.plans.specs.Plans.{actsBy, headBy}
-use Rattle.plans.proofs.SketchLaws.{sketched}
-use mathlib.Core.Bool.{true, false}
 use Rattle.model.specs.Peers.{firstOf}
 use Rattle.model.specs.Requests.{syncInfoTo}
 use Rattle.model.specs.Lists.{peersIn}
 use Rattle.peers.specs.Values.{listedPeer}
+use Rattle.image.specs.Heads.{headOf}
+use Rattle.plans.specs.Plans.{actsBy, headBy}
+use Rattle.plans.proofs.SketchLaws.{sketched}
 use Rattle.plans.proofs.HeightLaws.{asked, seen-by}
 use Rattle.plans.proofs.SendLaws.{clockFrom, answered-in, said}
 use Rattle.ticks.proofs.TickLaws.{quiet-sections, not-again, once, downloaded-of, used-of, peer-of}

@@ -1,8 +1,8 @@
 -- By the definition, in each case.
 use borrow.Author.Needs.{needs}
+use borrow.Author.Tests.{not-true, not-false}
 use mathlib.Core.Path.{_≡_, sym, ap, _∙_}
 use mathlib.Core.Bool.{true, false}
-use borrow.Author.Tests.{not-true, not-false}
 use Rattle.model.specs.Lists.{peersIn}
 use Rattle.model.specs.Peers.{firstUnstalled, isSome, stalledAfterSelect}
 use Rattle.ticks.proofs.selecting.Statement.{statement}

@@ -1,18 +1,17 @@
 -- In each case of the first listed peer; rule 2 by SendLaws, rule 5 by its callee.
 use borrow.Author.Needs.{needs}
 use mathlib.Core.Path.{_≡_, refl, sym, ap, _∙_}
+use mathlib.Core.Option.{none, some}
 use Rattle.model.specs.Steps as steps
 use Rattle.model.specs.Calls.{argsOf}
-use Rattle.image.specs.Heads.{headOf}
-use Rattle.plans.specs.Plans.{headBy}
-use Rattle.plans.proofs.SketchLaws.{sketched}
-use mathlib.Core.Option.{Option, none, some}
-use Prim.Native.Nat.{ℕ}
 use Rattle.model.specs.State.{seeking}
 use Rattle.model.specs.Events.{SyncPeerGone}
 use Rattle.model.specs.Peers.{firstOf}
 use Rattle.model.specs.Lists.{peersIn}
 use Rattle.peers.specs.Values.{listedPeer}
+use Rattle.image.specs.Heads.{headOf}
+use Rattle.plans.specs.Plans.{headBy}
+use Rattle.plans.proofs.SketchLaws.{sketched}
 use Rattle.plans.proofs.HeightLaws.{reached}
 use Rattle.plans.proofs.SendLaws.{clockFrom, answered-in, said}
 use Rattle.ticks.proofs.TickLaws.{downloaded-of}

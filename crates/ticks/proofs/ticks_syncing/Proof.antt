@@ -1,16 +1,16 @@
 -- Rule 2 by SendLaws; whether the peer has stalled decides in both.
 use borrow.Author.Needs.{needs}
 use mathlib.Core.Path.{_≡_, refl, sym, ap, _∙_}
-use Rattle.model.specs.Steps as steps
-use Rattle.model.specs.Calls.{argsOf}
-use Rattle.image.specs.Heads.{headOf}
-use Rattle.plans.specs.Plans.{headBy, stalledBy}
-use Rattle.plans.proofs.SketchLaws.{sketched}
 use mathlib.Core.Bool.{true, false}
 use lib.ListN.{length}
+use Rattle.model.specs.Steps as steps
+use Rattle.model.specs.Calls.{argsOf}
 use Rattle.model.specs.Settings as model
 use Rattle.model.specs.Peers.{joinStalled}
 use Rattle.peers.specs.Values.{listedPeer}
+use Rattle.image.specs.Heads.{headOf}
+use Rattle.plans.specs.Plans.{headBy, stalledBy}
+use Rattle.plans.proofs.SketchLaws.{sketched}
 use Rattle.plans.proofs.SendLaws.{clockFrom, answered-in, said}
 use Rattle.ticks.proofs.TickLaws.{peer-of, stalled-of, has-stalled}
 use Rattle.ticks.proofs.ticks_syncing.Statement.{statement}

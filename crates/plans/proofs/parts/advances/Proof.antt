@@ -1,6 +1,6 @@
 -- Rule 5 by its callee; the rest is by the definition.
 use borrow.Author.Needs.{needs}
-use mathlib.Core.Path.{_≡_, refl, sym, _∙_}
+use mathlib.Core.Path.{refl, sym, _∙_}
 use Rattle.model.specs.Steps as steps
 use Rattle.model.specs.Calls.{argsOf}
 use Rattle.image.specs.Heads.{headOf}

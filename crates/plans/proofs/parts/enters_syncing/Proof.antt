@@ -1,6 +1,6 @@
 -- Rule 2's send, by SendLaws; the rest is what led to the entry.
 use borrow.Author.Needs.{needs}
-use mathlib.Core.Path.{_≡_, refl, sym, ap, _∙_}
+use mathlib.Core.Path.{refl, sym, ap}
 use mathlib.Core.List.{_++_}
 use Rattle.model.specs.Lists.{idsIn}
 use Rattle.model.specs.Steps as steps

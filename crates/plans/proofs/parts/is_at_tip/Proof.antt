@@ -1,10 +1,10 @@
 -- By the definition, in syncing and in any other mode; rule 4 by its callees.
 use borrow.Author.Needs.{needs}
-use mathlib.Core.Path.{_≡_, refl, sym, ap, _∙_}
+use borrow.Author.Tests.{eq-eqb, ne-eqb}
 use Prim.{⊥}
+use mathlib.Core.Path.{_≡_, refl, sym, ap, _∙_}
 use mathlib.Core.Bool.{false}
 use mathlib.Core.List.{_++_, append-nil}
-use borrow.Author.Tests.{eq-eqb, ne-eqb}
 use Rattle.model.specs.Steps as steps
 use Rattle.model.specs.Calls.{argsOf}
 use Rattle.model.specs.Lists.{idsIn}

@@ -1,5 +1,5 @@
 -- By the definition: nothing is announced and nothing said.
-use mathlib.Core.Path.{_≡_, refl, sym}
+use mathlib.Core.Path.{refl, sym}
 use mathlib.Core.List.{append-nil}
 use Rattle.model.specs.Steps as steps
 use Rattle.model.specs.Calls.{argsOf}
