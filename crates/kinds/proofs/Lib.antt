@@ -1,5 +1,4 @@
-pub mod CallLaws
 pub mod KindLaws
 pub mod KeptLaws
 pub mod FollowLaws
-pub mod MessageLaws
+pub mod GivenLaws

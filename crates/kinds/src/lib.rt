@@ -3,6 +3,5 @@
 // `plan_step` follows the model's plan, remaining requests, retries and evicted ids for every call.
 mod control;
 mod events;
-mod messages;
 pub mod step;
 mod wakes;

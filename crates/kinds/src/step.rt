@@ -31,7 +31,7 @@ pub fn plan_step(
     let kind = call.kind;
     match kind {
         3..=4 => crate::control::handle_control_event(head, call, peers, view),
-        5..=7 => crate::messages::handle_event(head, call, ids, peers, view),
+        5..=7 => crate::events::handle_event(head, call, ids, peers, view),
         8..=10 => crate::wakes::ids_step(head, call, peers, view),
         11..=13 => crate::wakes::timed_step(head, call, places, peers, view),
         _ => crate::wakes::mode_step(head, call, places, peers, view),

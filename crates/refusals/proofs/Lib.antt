@@ -1,2 +1,3 @@
 pub mod KindLaws
 pub mod RefusalLaws
+pub mod ReadyLaws

@@ -5,8 +5,8 @@ use Rattle.model.specs.Peers.{firstOf}
 use Rattle.model.specs.Lists.{peersIn}
 use Rattle.ticks.proofs.TickLaws.{peer-of, downloaded-of}
 use Rattle.kinds.proofs.KindLaws.{second}
-use Rattle.kinds.proofs.FollowLaws.{needed, reorged}
-use Rattle.kinds.proofs.CallLaws.{numbers}
+use Rattle.kinds.proofs.GivenLaws.{needed, reorged}
+use Rattle.messages.proofs.CallLaws.{numbers}
 use Rattle.kinds.proofs.control.handle_control_event.Statement.{statement}
 use Rattle.kinds.proofs.control.handle_control_event.Tie as tie
 
@@ -20,14 +20,16 @@ advances-and-requests-requires : tie.Need-advances-and-requests-requires
 advances-and-requests-requires c κs = search needs
 
 returns : tie.Need-returns
-returns c = let a = c .before .before .before .before .args in
+returns c =
+    let a = c .before .before .before .before .args in
     let r = c .continues in
     λ st d h n ep ev lo hi.
     let m = numbers d (a .call) n in
     needed st d (r .result) (a .head .peer) (m .kind ∙ c .before .match .keys1) (peer-of st (a .head) h) (rw (r .ensures .0)) (r .ensures .1 st d h (m .clock))
 
 returns-2 : tie.Need-returns-2
-returns-2 c = let a = c .before .before .before .before .before .args in
+returns-2 c =
+    let a = c .before .before .before .before .before .args in
     let r = c .advances-and-requests in
     λ st d h n ep ev lo hi.
     let m = numbers d (a .call) n in

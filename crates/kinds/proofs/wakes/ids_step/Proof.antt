@@ -5,8 +5,9 @@ use Rattle.model.specs.Peers.{firstOf}
 use Rattle.model.specs.Lists.{peersIn}
 use Rattle.image.specs.Heads.{headOf}
 use Rattle.kinds.proofs.KindLaws.{third}
-use Rattle.kinds.proofs.FollowLaws.{lost, received-follows, evicted-follows}
-use Rattle.kinds.proofs.CallLaws.{numbers}
+use Rattle.kinds.proofs.FollowLaws.{received-follows, evicted-follows}
+use Rattle.kinds.proofs.GivenLaws.{lost}
+use Rattle.messages.proofs.CallLaws.{numbers}
 use Rattle.kinds.proofs.wakes.ids_step.Statement.{statement}
 use Rattle.kinds.proofs.wakes.ids_step.Tie as tie
 
@@ -20,7 +21,8 @@ continues-requires : tie.Need-continues-requires
 continues-requires c κs = search needs
 
 returns : tie.Need-returns
-returns c = let a = c .before .before .before .before .args in
+returns c =
+    let a = c .before .before .before .before .args in
     let r = c .loses in
     λ st d h n ep ev lo hi.
     let m = numbers d (a .call) n in
@@ -28,14 +30,16 @@ returns c = let a = c .before .before .before .before .args in
 
 returns-2 : tie.Need-returns-2
 unfolding headOf
-returns-2 c = let a = c .before .before .before .before .args in
+returns-2 c =
+    let a = c .before .before .before .before .args in
     let r = c .advances in
     λ st d h n ep ev lo hi.
     let m = numbers d (a .call) n in
     received-follows st d (r .result) (m .kind ∙ c .before .match .keys2) (r .ensures .0) (r .ensures .1 st d (st .mode) h (m .clock) (m .height) ev (ap (λ x. x .mode) h) (λ x. refl))
 
 returns-3 : tie.Need-returns-3
-returns-3 c = let a = c .before .before .before .before .args in
+returns-3 c =
+    let a = c .before .before .before .before .args in
     let r = c .continues in
     let o = c .before .match .rest in
     λ st d h n ep ev lo hi.

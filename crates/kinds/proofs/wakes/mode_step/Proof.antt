@@ -9,8 +9,9 @@ use Rattle.model.specs.Events.{SyncPeerGone, EndOfStream}
 use Rattle.image.specs.Heads.{headOf}
 use Rattle.ticks.proofs.TickLaws.{downloaded-of}
 use Rattle.kinds.proofs.KindLaws.{outermost}
-use Rattle.kinds.proofs.FollowLaws.{start-follows, sectioned, failure-follows, end-follows}
-use Rattle.kinds.proofs.CallLaws.{numbers}
+use Rattle.kinds.proofs.FollowLaws.{start-follows, failure-follows, end-follows}
+use Rattle.kinds.proofs.GivenLaws.{sectioned}
+use Rattle.messages.proofs.CallLaws.{numbers}
 use Rattle.kinds.proofs.wakes.mode_step.Statement.{statement}
 use Rattle.kinds.proofs.wakes.mode_step.Tie as tie
 
@@ -33,25 +34,29 @@ leaves-requires-2 : tie.Need-leaves-requires-2
 leaves-requires-2 c κs = search needs
 
 returns : tie.Need-returns
-returns c = let a = c .before .before .before .before .before .args in
+returns c =
+    let a = c .before .before .before .before .before .args in
     let r = c .advances in
     λ st d h n ep ev es o.
     let m = numbers d (a .call) n in
     start-follows st d (r .result) (m .kind ∙ c .before .match .keys1) (rw (r .ensures .0)) (r .ensures .1 st d seeking h (m .clock) (m .height) ev refl (λ x. refl))
 
 returns-2 : tie.Need-returns-2
-returns-2 c = let a = c .before .before .before .before .before .args in
+returns-2 c =
+    let a = c .before .before .before .before .before .args in
     λ st d h n ep ev es o. c .pick .ensures st d h n ep es (numbers d (a .call) n .kind ∙ c .before .match .keys2)
 
 returns-3 : tie.Need-returns-3
-returns-3 c = let a = c .before .before .before .before .before .args in
+returns-3 c =
+    let a = c .before .before .before .before .before .args in
     let r = c .advances-and-requests in
     λ st d h n ep ev es o.
     let m = numbers d (a .call) n in
     sectioned st d (r .result) (firstOf (peersIn (a .peers .now))) (a .head .downloaded) (m .kind ∙ c .before .match .keys3) (downloaded-of st (a .head) h) (r .ensures .0) (r .ensures .1 st d h (m .clock) (m .height) ep ev)
 
 returns-4 : tie.Need-returns-4
-returns-4 c = let a = c .before .before .before .before .before .args in
+returns-4 c =
+    let a = c .before .before .before .before .before .args in
     let r = c .leaves in
     λ st d h n ep ev es o.
     let m = numbers d (a .call) n in
@@ -59,7 +64,8 @@ returns-4 c = let a = c .before .before .before .before .before .args in
 
 returns-5 : tie.Need-returns-5
 unfolding headOf
-returns-5 c = let a = c .before .before .before .before .before .before .args in
+returns-5 c =
+    let a = c .before .before .before .before .before .before .args in
     let r = c .leaves2 in
     let u = c .before .before .match .rest in
     λ st d h n ep ev es o.

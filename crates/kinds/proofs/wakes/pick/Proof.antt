@@ -1,8 +1,8 @@
 -- By `picks`, with the set that the places hold.
 use borrow.Author.Needs.{needs}
 use mathlib.Core.Path.{sym, _∙_}
-use Rattle.kinds.proofs.FollowLaws.{picked}
-use Rattle.kinds.proofs.CallLaws.{numbers}
+use Rattle.kinds.proofs.GivenLaws.{picked}
+use Rattle.messages.proofs.CallLaws.{numbers}
 use Rattle.kinds.proofs.wakes.pick.Statement.{statement}
 use Rattle.kinds.proofs.wakes.pick.Tie as tie
 
@@ -13,7 +13,8 @@ picks-requires : tie.Need-picks-requires
 picks-requires c κs = search needs
 
 returns : tie.Need-returns
-returns c = let a = c .before .before .before .before .args in
+returns c =
+    let a = c .before .before .before .before .args in
     let r = c .picks in
     λ st d h n ep es e.
     let m = numbers d (a .call) n in

@@ -2,8 +2,8 @@
 use borrow.Author.Needs.{needs}
 use mathlib.Core.Path.{sym, _∙_}
 use Rattle.plans.proofs.SketchLaws.{is-mode, not-mode}
-use Rattle.kinds.proofs.FollowLaws.{ticked-syncing, ticked-synced}
-use Rattle.kinds.proofs.CallLaws.{numbers}
+use Rattle.kinds.proofs.GivenLaws.{ticked-syncing, ticked-synced}
+use Rattle.messages.proofs.CallLaws.{numbers}
 use Rattle.kinds.proofs.wakes.scheduled_tick.Statement.{statement}
 use Rattle.kinds.proofs.wakes.scheduled_tick.Tie as tie
 
@@ -14,7 +14,8 @@ ticks-syncing-requires : tie.Need-ticks-syncing-requires
 ticks-syncing-requires c κs = search needs
 
 returns : tie.Need-returns
-returns c = let a = c .before .before .before .before .before .before .before .args in
+returns c =
+    let a = c .before .before .before .before .before .before .before .args in
     let r = c .ticks-syncing in
     λ st d h n ep ev es e.
     let m = numbers d (a .call) n in
@@ -24,7 +25,8 @@ ticks-synced-requires : tie.Need-ticks-synced-requires
 ticks-synced-requires c κs = search needs
 
 returns-2 : tie.Need-returns-2
-returns-2 c = let a = c .before .before .before .before .before .before .args in
+returns-2 c =
+    let a = c .before .before .before .before .before .before .args in
     let r = c .ticks-synced in
     λ st d h n ep ev es e.
     let m = numbers d (a .call) n in

@@ -6,7 +6,7 @@ use Rattle.model.specs.Lists.{peersIn}
 use Rattle.peers.specs.Values.{listedPeer}
 use Rattle.kinds.proofs.KindLaws.{third}
 use Rattle.kinds.proofs.FollowLaws.{progress-follows, check-follows}
-use Rattle.kinds.proofs.CallLaws.{numbers}
+use Rattle.messages.proofs.CallLaws.{numbers}
 use Rattle.kinds.proofs.wakes.timed_step.Statement.{statement}
 use Rattle.kinds.proofs.wakes.timed_step.Tie as tie
 
@@ -20,21 +20,24 @@ scheduled-tick-requires : tie.Need-scheduled-tick-requires
 scheduled-tick-requires c κs = search needs
 
 returns : tie.Need-returns
-returns c = let a = c .before .before .before .before .before .args in
+returns c =
+    let a = c .before .before .before .before .before .args in
     let r = c .progresses in
     λ st d h n ep ev es lo hi.
     let m = numbers d (a .call) n in
     progress-follows st d (r .result) (m .kind ∙ c .before .match .keys1) (r .ensures .0) (r .ensures .1 st d h (m .clock) (m .height) ep ev)
 
 returns-2 : tie.Need-returns-2
-returns-2 c = let a = c .before .before .before .before .before .args in
+returns-2 c =
+    let a = c .before .before .before .before .before .args in
     let r = c .checks in
     λ st d h n ep ev es lo hi.
     let m = numbers d (a .call) n in
     check-follows st d (r .result) (m .kind ∙ c .before .match .keys2) (firstOf (peersIn (a .peers .now))) (r .ensures .0 .0) (ap listedPeer (r .ensures .0 .1)) (r .ensures .1 st d h (m .clock) (m .height) ep ev)
 
 returns-3 : tie.Need-returns-3
-returns-3 c = let a = c .before .before .before .before .before .args in
+returns-3 c =
+    let a = c .before .before .before .before .before .args in
     let o = c .before .match .rest in
     λ st d h n ep ev es lo hi.
     let m = numbers d (a .call) n in
