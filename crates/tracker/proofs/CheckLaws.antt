@@ -27,6 +27,7 @@ use Rattle.model.specs.Lists.{peersIn}
 use Rattle.model.specs.Image.{idSize, recordSize, requestOf}
 use Rattle.model.specs.Calls as calls
 use Rattle.model.proofs.ArgumentLaws.{peers-well}
+use Rattle.model.proofs.SendingLaws.{retries-sent-well, sendings-bytes, retries-weight, retries-count}
 use Rattle.settings.specs.Values.{settingsOf}
 use Rattle.image.specs.declared.head.Head.{Head}
 use Rattle.image.specs.Heads.{headOf}
@@ -44,7 +45,7 @@ use Rattle.tracker.specs.declared.Counts.{Counts}
 use Rattle.tracker.specs.declared.Performed.the-variants.{Done as Finished}
 use Rattle.tracker.proofs.RegionLaws.{Stands, tracked-stands, stands-size, stands-requests, stands-holding, stands-cleared}
 use Rattle.tracker.proofs.WorkedLaws.{length-requests, length-evicted}
-use Rattle.tracker.proofs.RetriedLaws.{types-below, after-rising, after-length, after-few, after-recorded, below, types-at, retried-items}
+use Rattle.tracker.proofs.RetriedLaws.{types-below, retries-few, retries-in-width, after-rising, after-length, after-few, after-recorded, below, types-at, retried-items}
 
 module _ (head : Head) (call : Call) (peers region : List ℕ) (t : Tracked head (call .clock) region) (f : Bytes region) (fp : Bytes peers) (k : call .clock < 2 ^ 64) where
   abbrev pending : List Request
@@ -131,7 +132,23 @@ module _ (head : Head) (call : Call) (peers region : List ℕ) (t : Tracked head
           × ((cleared ≡ regionOf (checkedPending head call peers region) []) × (out′ ≡ overwritten at (sentBytes batch (checkedSendings head call peers region)) out))
       checked-so = (counts-are, (cleared-is, ho ∙ ap (λ (x : List Sending). overwritten at (sentBytes batch x) out) sent-again))
 
-  -- ---- the work
+  -- ---- for what comes behind the check
+
+  pub checked-stands : Stands (checkedPending head call peers region) [] (regionOf (checkedPending head call peers region) [])
+  unfolding checkedPending
+  checked-stands = record { recorded = after-stands .recorded; rise = after-stands .rise; ids = tt; few = omega (arith, after-stands .few); held = refl }
+
+  pub checked-count : length (checkedSendings head call peers region) ≤ head .pending
+  unfolding checkedSendings
+  checked-count =
+      omega (arith, retries-count (retries gate settings (call .clock) (peersIn peers) pending), retries-few gate settings (call .clock) (peersIn peers) pending, length-requests (head .pending) region)
+
+  pub checked-bytes : (batch : ℕ) → length (sentBytes batch (checkedSendings head call peers region)) ≤ 48 * head .pending
+  unfolding checkedSendings sentBytes
+  checked-bytes batch =
+      let items : List Item = retries gate settings (call .clock) (peersIn peers) pending in
+      let w = retries-in-width gate settings (call .clock) (peersIn peers) pending (peers-well peers fp) (stands .recorded) types in
+      omega (arith, sendings-bytes batch (retrySendings items) (retries-sent-well items w), retries-weight items, retries-few gate settings (call .clock) (peersIn peers) pending, length-requests (head .pending) region)
 
   pub checked-few : length (checkedPending head call peers region) ≤ trackedLimit
   unfolding checkedPending

@@ -10,10 +10,10 @@ use Rattle.fields.specs.Facts.{All, Bytes}
 use Rattle.fields.specs.Zero.{zeros}
 use Rattle.fields.specs.Overwrite.{overwritten}
 use Rattle.fields.specs.Entries.{entries, joined, rising}
-use Rattle.fields.proofs.NumberLaws.{bytes-take, bytes-drop}
+use Rattle.fields.proofs.NumberLaws.{bytes-drop}
 use Rattle.fields.proofs.AllLaws.{entries-all, all-weaker}
 use Rattle.fields.proofs.ZeroLaws.{length-zeros, zeros-append}
-use Rattle.fields.proofs.PartLaws.{length-part, part-below, replaced-in-room}
+use Rattle.fields.proofs.PartLaws.{replaced-in-room}
 use Rattle.fields.proofs.EntriesLaws.{Wide, length-entries, entries-wide, entries-bytes, length-joined, entries-joined}
 use Rattle.fields.proofs.RisingLaws.{rising-ascending, ascending-rising}
 use Rattle.model.specs.Protocol.{Id, trackedLimit}
@@ -24,6 +24,7 @@ use Rattle.model.proofs.RecordLaws.{Recorded, records-wide, requests-of-records
 use Rattle.model.proofs.CommandLaws.{ids-wide}
 use Rattle.image.specs.declared.head.Head.{Head}
 use Rattle.requests.specs.Pending.{requestsIn, holding}
+use Rattle.requests.proofs.RecordedLaws.{entries-recorded}
 use Rattle.delivery.specs.Region.{evictedIn, endingWith}
 use Rattle.tracker.specs.Worked.{regionSize, regionOf, Tracked}
 
@@ -112,18 +113,6 @@ module _ (p : List Request) (e : List Id) (wp : Wide recordSize (map requestByte
       ∙ rw (z, append-nil)
 
 -- ---- records and ids in width
-
-pub entry-recorded : (e : List ℕ) → length e ≡ recordSize → Bytes e → Recorded (requestOf e)
-unfolding requestOf
-entry-recorded e l f =
-    record {
-      id = record { long = length-part 0 idSize e (omega arith); bytes = bytes-take idSize e f };
-      cells = (part-below 32 8 e (omega arith) f, (part-below 40 2 e (omega arith) f, (part-below 42 8 e (omega arith) f, (part-below 50 4 e (omega arith) f, tt))));
-    }
-
-pub entries-recorded : (es : List (List ℕ)) → Wide recordSize es → All Bytes es → All Recorded (map requestOf es)
-entries-recorded [] w f = tt
-entries-recorded (e ∷ es) w f = (entry-recorded e (w .0) (f .0), entries-recorded es (w .1) (f .1))
 
 -- The region holds these requests, their ids rising, and these ids.
 pub record Stands (pending : List Request) (evicted : List Id) (region : List ℕ) : Type 0 where

@@ -10,7 +10,8 @@ use lib.Dec.{eqb}
 use Rattle.fields.specs.Facts.{All, Bytes}
 use Rattle.fields.specs.Filter.{consIf}
 use Rattle.fields.specs.Entries.{entries, entry}
-use Rattle.fields.proofs.AllLaws.{all-weaker, all-at, either}
+use Rattle.fields.proofs.AllLaws.{all-weaker, all-at, all-map, all-kept, either}
+use Rattle.fields.proofs.FilterLaws.{length-kept}
 use Rattle.fields.proofs.OrderLaws.{and-left, and-right}
 use Rattle.fields.proofs.EntriesLaws.{Wide, entries-at, length-entries}
 use Rattle.model.specs.Settings.{Settings}
@@ -19,7 +20,7 @@ use Rattle.model.specs.Sections.{Item}
 use Rattle.model.specs.Check.{retryTarget, retryOf, retries}
 use Rattle.model.specs.Image.{recordSize, requestOf, typesNarrow}
 use Rattle.model.proofs.Well.{RisingIds}
-use Rattle.model.proofs.Widths.{WellPeer}
+use Rattle.model.proofs.Widths.{WellPeer, WellItem}
 use Rattle.model.proofs.RecordLaws.{Recorded, narrow-type}
 use Rattle.model.proofs.PendingLaws.{rising-checked, rising-retried}
 use Rattle.requests.specs.Pending.{requestsIn}
@@ -33,6 +34,10 @@ types-below (e ∷ es) w f h = (
   narrow-type e (w .0) (f .0) (and-left (eqb (getD e 40 0) 0) (typesNarrow es) h),
   types-below es (w .1) (f .1) (and-right (eqb (getD e 40 0) 0) (typesNarrow es) h),
 )
+
+all-both : (P Q : Request → Type 0) (rs : List Request) → All P rs → All Q rs → All (λ (r : Request). P r × Q r) rs
+all-both P Q [] p q = tt
+all-both P Q (r ∷ rs) p q = ((p .0, q .0), all-both P Q rs (p .1) (q .1))
 
 target-well : (peers : List ℕ) (failed : ℕ) → All WellPeer peers → WellPeer failed → WellPeer (retryTarget peers failed)
 unfolding retryTarget
@@ -134,11 +139,7 @@ module _ (gate : Bool) (settings : Settings) (clock : ℕ) (peers : List ℕ) (r
       (checked-all settings clock aim (λ (r : Request). Recorded r × (r .checks + 1 < 2 ^ 32)) Recorded (λ r p. p .0)
       (λ r p. let m : r .checks + 1 < 2 ^ 32 = p .1 in
       record { id = p .0 .id; cells = (either WellPeer gate (retryTarget peers (r .peer)) (r .peer) (target-well peers (r .peer) w (p .0 .cells .0)) (p .0 .cells .0), (p .0 .cells .1 .0, (k, (omega arith, tt)))) })
-      rs (both rs a b))
-    where
-      both : (xs : List Request) → All Recorded xs → All (λ (r : Request). r .checks + 1 < 2 ^ 32) xs → All (λ (r : Request). Recorded r × (r .checks + 1 < 2 ^ 32)) xs
-      both [] p q = tt
-      both (x ∷ xs) p q = ((p .0, q .0), both xs (p .1) (q .1))
+      rs (all-both Recorded (λ (r : Request). r .checks + 1 < 2 ^ 32) rs a b))
 
   -- the places in a table that holds what stays
   module _ (table : List ℕ) (held : requestsIn (length (pendingAfterCheck gate settings clock peers rs)) table ≡ pendingAfterCheck gate settings clock peers rs) where
@@ -181,3 +182,25 @@ pub retried-items : (gate : Bool) (settings : Settings) (clock : ℕ) (peers : L
 unfolding retries
 retried-items true settings clock peers rs rise table places held e = rw e (items-at true settings clock peers rs rise table held ∙ retry-items settings clock peers (judged settings clock retried rs))
 retried-items false settings clock peers rs rise table places held e = refl
+
+-- ---- what is sent again is in width
+
+module _ (gate : Bool) (settings : Settings) (clock : ℕ) (peers : List ℕ) (rs : List Request) where
+  pub retries-few : length (retries gate settings clock peers rs) ≤ length rs
+  unfolding retries judged
+  retries-few =
+      let due : List Request = judged settings clock retried rs in
+      let a = length-map due (retryOf peers) in
+      let b = length-kept (λ (r : Request). eqb (verdictNumber (verdict settings clock r)) (verdictNumber retried)) rs in
+      either (λ (is : List Item). length is ≤ length rs) gate (map (retryOf peers) due) [] (omega arith) (omega arith)
+
+  pub retries-in-width : All WellPeer peers → All Recorded rs → All (λ (r : Request). r .typeId < 256) rs → All WellItem (retries gate settings clock peers rs)
+  unfolding retries retryOf judged
+  retries-in-width w a b =
+      let due : List Request = judged settings clock retried rs in
+      either (All WellItem) gate (map (retryOf peers) due) []
+      (all-map (λ (r : Request). Recorded r × (r .typeId < 256)) WellItem (retryOf peers)
+      (λ r q. record { id = q .0 .id; typeId = q .1; peer = target-well peers (r .peer) w (q .0 .cells .0) }) due
+      (all-kept (λ (r : Request). Recorded r × (r .typeId < 256)) (λ (r : Request). eqb (verdictNumber (verdict settings clock r)) (verdictNumber retried)) rs
+      (all-both Recorded (λ (r : Request). r .typeId < 256) rs a b)))
+      tt

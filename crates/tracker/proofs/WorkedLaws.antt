@@ -102,11 +102,11 @@ module _ (head : Head) (clock : ℕ) (region : List ℕ) (t : Tracked head clock
       quiet-done pending evicted at batch (head .pending) (head .evicted) region out (sym (length-requests (head .pending) region)) (sym (length-evicted (head .evicted) region)) few (t .held)
 
   module _ (f : Bytes region) where
-    stands : Stands pending evicted region
+    pub stands : Stands pending evicted region
     stands = tracked-stands head clock region t f
 
     -- fewer requests in their place
-    taken-stands : (q : List Request) → All Recorded q → RisingIds (idsOf q) → length q ≤ length pending → Stands q evicted (holding (head .pending) q region)
+    pub taken-stands : (q : List Request) → All Recorded q → RisingIds (idsOf q) → length q ≤ length pending → Stands q evicted (holding (head .pending) q region)
     taken-stands q w r n = rw (length-requests (head .pending) region) at (stands-holding pending evicted region stands q w r (omega (arith, few)))
 
     pub kept-stands : (test : Request → Bool) → Stands (kept test pending) evicted (holding (head .pending) (kept test pending) region)

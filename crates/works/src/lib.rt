@@ -1,0 +1,83 @@
+// A plan's work on the region of a scratch image, whichever it is.
+//
+// The works without a peer to ask stand in tracker, those with one in asks. Where there is no room, the answer is Full and
+// the scratch is of no use.
+ghost use mathlib.Core.Path.{_≡_};
+ghost use mathlib.Core.Bool.{true};
+ghost use mathlib.Core.List.{List};
+ghost use Prim.Native.Nat.{ℕ, _+_, _%_, _≤_, _<_};
+ghost use lib.ListN.{length};
+ghost use Rattle.model.specs.State.{State};
+ghost use Rattle.model.specs.Lists.{pairsFit, viewFits};
+ghost use Rattle.model.specs.Calls as calls;
+ghost use Rattle.tracker.specs.Worked.{Tracked, Given, Performs, workedBy};
+use image::head::Head;
+use plans::Call;
+use plans::Work;
+use tracker::Performed;
+
+// Any work.
+pub fn perform(
+    region: &mut [u8],
+    head: Head,
+    call: Call,
+    work: Work,
+    downloaded: u32,
+    ids: &[u8],
+    stored: &[u8],
+    peers: &[u8],
+    view: &[u8],
+    out: &mut [u8],
+    at: usize,
+    batch: u16,
+) -> Performed
+    requires { ⌜ Tracked head (call .clock) (now region) ⌝ }
+    requires { ⌜ (length (now ids) % 32 ≡ 0) × (length (now ids) ≤ 32768) ⌝ }
+    requires { ⌜ (pairsFit (now stored) ≡ true) × (viewFits (now view) ≡ true) ⌝ }
+    requires { ⌜ (at + 49152 ≤ length (now out)) × (batch + 1026 < 65536) ⌝ }
+    ensures { λ r. ⌜ ((st : State) (c : calls.Call) → Given head (now (region .entry)) call (now (ids .entry)) (now (stored .entry)) (now (peers .entry)) (now (view .entry)) st c → Performs at batch (workedBy st c downloaded work) (now (out .entry)) r (now (region .exit)) (now (out .exit))) ⌝ }
+{
+    match work {
+        Work::Nothing => tracker::nothing(head, at, batch),
+        Work::Ids(peer) => asks::lists::ids(region, head, call, peer, ids, stored, out, at, batch),
+        Work::Sections(peer) => asks::window::sections(
+            region,
+            head,
+            call,
+            peer,
+            downloaded,
+            view,
+            out,
+            at,
+            batch,
+        ),
+        Work::Received => tracker::received(region, head, call, ids, at, batch),
+        Work::Evicted => tracker::evicted(region, head, call, ids, at, batch),
+        Work::Purge => tracker::purge(region, head, call, at, batch),
+        Work::PurgeSections(peer) => asks::window::purge_sections(
+            region,
+            head,
+            call,
+            peer,
+            downloaded,
+            view,
+            out,
+            at,
+            batch,
+        ),
+        Work::Lose => tracker::lose(region, head, call, at, batch),
+        Work::LoseAsk(peer) => asks::lists::lose_ask(region, head, call, peer, stored, out, at, batch),
+        Work::Check => tracker::check::check(region, head, call, peers, out, at, batch),
+        Work::CheckFresh(peer) => asks::lists::check_fresh(
+            region,
+            head,
+            call,
+            peer,
+            stored,
+            peers,
+            out,
+            at,
+            batch,
+        ),
+    }
+}
