@@ -66,7 +66,16 @@ pub fn perform(
             batch,
         ),
         Work::Lose => tracker::lose(region, head, call, at, batch),
-        Work::LoseAsk(peer) => asks::lists::lose_ask(region, head, call, peer, stored, out, at, batch),
+        Work::LoseAsk(peer) => asks::lists::lose_ask(
+            region,
+            head,
+            call,
+            peer,
+            stored,
+            out,
+            at,
+            batch,
+        ),
         Work::Check => tracker::check::check(region, head, call, peers, out, at, batch),
         Work::CheckFresh(peer) => asks::lists::check_fresh(
             region,
