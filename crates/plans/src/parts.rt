@@ -175,7 +175,7 @@ pub fn enters_syncing(
 {
     let settings = head.settings;
     let before = head.send;
-    let sent = settings::send_sync_info(settings, clock, before);
+    let sent = sending::send_by(before, settings, clock);
     let send = sent.clock;
     let says = says_if(sent.sent, peer);
     let mut after = head;
@@ -250,7 +250,7 @@ pub fn replies(head: Head, clock: u64, tip: u32, peer: u64, announces: Listed) -
 {
     let settings = head.settings;
     let before = head.send;
-    let reply = settings::send_sync_info(settings, clock, before);
+    let reply = sending::send_by(before, settings, clock);
     let send = reply.clock;
     let says = says_if(reply.sent, peer);
     let mut heard = head;

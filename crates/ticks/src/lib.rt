@@ -106,7 +106,7 @@ fn progresses_syncing(head: Head, clock: u64, peers: &[u8], view: &[u8], height:
     }
     let settings = head.settings;
     let before = head.send;
-    let sent = settings::send_sync_info(settings, clock, before);
+    let sent = sending::send_by(before, settings, clock);
     let send = sent.clock;
     let says = plans::parts::says_if(sent.sent, head.peer);
     after.send = send;
@@ -212,7 +212,7 @@ pub fn ticks_syncing(head: Head, clock: u64, stalled: Stalled) -> Plan
 {
     let settings = head.settings;
     let before = head.send;
-    let sent = settings::send_sync_info(settings, clock, before);
+    let sent = sending::send_by(before, settings, clock);
     let send = sent.clock;
     let says = plans::parts::says_if(sent.sent, head.peer);
     let mut after = head;
@@ -258,7 +258,7 @@ pub fn ticks_synced(head: Head, clock: u64, peers: &[u8], view: &[u8], height: u
     };
     let settings = head.settings;
     let before = head.send;
-    let sent = settings::send_sync_info(settings, clock, before);
+    let sent = sending::send_by(before, settings, clock);
     let send = sent.clock;
     let says = plans::parts::says_if(sent.sent, peer);
     let advance = sections::downloaded::advance_downloaded_height(view, height, head.downloaded);

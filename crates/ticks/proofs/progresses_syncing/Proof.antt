@@ -41,8 +41,8 @@ returns c =
           (seen-by st call (a .head .downloaded) (seen .result) (a .peers .now) (a .view .now) (a .height) eh ep ev (seen .ensures) ∙ rw d),
     )
 
-send-sync-info-requires : tie.Need-send-sync-info-requires
-send-sync-info-requires c κs = search needs
+send-by-requires : tie.Need-send-by-requires
+send-by-requires c κs = search needs
 
 says-if-requires : tie.Need-says-if-requires
 says-if-requires c κs = search needs
@@ -53,7 +53,7 @@ returns-2 c =
     let a = c .before .before .before .before .before .before .before .before .before .before .args in
     let seen = c .before .before .before .before .before .before .before .sections-seen in
     let work = c .before .before .before .before .before .before .sections-work in
-    let r = c .before .before .send-sync-info in (
+    let r = c .before .before .send-by in (
       rw (work .ensures) (quiet-sections (firstOf (peersIn (a .peers .now)))),
       λ st call h e eh ep ev.
           let d = downloaded-of st (a .head) h in
@@ -75,6 +75,6 @@ progresses-syncing-spec =
     sections-seen-requires
     sections-work-requires
     returns
-    send-sync-info-requires
+    send-by-requires
     says-if-requires
     returns-2)

@@ -37,8 +37,8 @@ returns c =
     let f : firstOf (peersIn (a .peers .now)) ≡ none = sym (c .before .before .before .first-listed .ensures) ∙ ap listedPeer (c .before .enum-told .given .1) in
     (rw (c .leaves .ensures .0), λ st call h e eh ep ev. rw f (c .leaves .ensures .1 st call SyncPeerGone seeking h e refl refl))
 
-send-sync-info-requires : tie.Need-send-sync-info-requires
-send-sync-info-requires c κs = search needs
+send-by-requires : tie.Need-send-by-requires
+send-by-requires c κs = search needs
 
 says-if-requires : tie.Need-says-if-requires
 says-if-requires c κs = search needs
@@ -52,7 +52,7 @@ returns-2 c =
     let a = c .before .before .before .before .before .before .before .before .before .before .before .before .args in
     let peer = c .before .before .before .before .before .before .before .peer .given .0 .0 in
     let f : firstOf (peersIn (a .peers .now)) ≡ some peer = sym (c .before .before .before .before .before .before .before .before .before .first-listed .ensures) ∙ ap listedPeer (c .before .before .before .before .before .before .before .peer .given .1) in
-    let r = c .before .before .before .send-sync-info in
+    let r = c .before .before .before .send-by in
     let says = c .before .says-if in
     let advance = c .advance-downloaded-height in (
       refl,
@@ -76,7 +76,7 @@ ticks-synced-spec =
     enum-told
     leaves-requires
     returns
-    send-sync-info-requires
+    send-by-requires
     says-if-requires
     advance-downloaded-height-requires
     returns-2)

@@ -16,8 +16,8 @@ use Rattle.ticks.proofs.TickLaws.{peer-of, stalled-of, has-stalled}
 use Rattle.ticks.proofs.ticks_syncing.Statement.{statement}
 use Rattle.ticks.proofs.ticks_syncing.Tie as tie
 
-send-sync-info-requires : tie.Need-send-sync-info-requires
-send-sync-info-requires c κs = search needs
+send-by-requires : tie.Need-send-by-requires
+send-by-requires c κs = search needs
 
 says-if-requires : tie.Need-says-if-requires
 says-if-requires c κs = search needs
@@ -35,7 +35,7 @@ returns : tie.Need-returns
 unfolding headOf headBy clockFrom steps.ticksSyncing steps.withoutPeer steps.sent steps.sayTo argsOf
 returns c =
     let a = c .before .before .before .before .before .before .before .before .before .args in
-    let r = c .before .before .before .before .before .before .send-sync-info in
+    let r = c .before .before .before .before .before .before .send-by in
     let says = c .before .before .before .before .says-if in (
       refl,
       λ st call h e es.
@@ -55,7 +55,7 @@ returns-2 : tie.Need-returns-2
 unfolding headOf headBy clockFrom steps.ticksSyncing steps.sent steps.sayTo argsOf
 returns-2 c =
     let a = c .before .before .before .before .before .before .before .args in
-    let r = c .before .before .before .before .send-sync-info in
+    let r = c .before .before .before .before .send-by in
     let says = c .before .before .says-if in (
       refl,
       λ st call h e es.
@@ -72,7 +72,7 @@ pub ticks-syncing-spec : {M : Type 1} → statement M
 ticks-syncing-spec =
     tie.close
     (tie.spec
-    send-sync-info-requires
+    send-by-requires
     says-if-requires
     stalled-requires
     joining-requires

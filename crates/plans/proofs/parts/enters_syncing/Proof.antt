@@ -14,8 +14,8 @@ use Rattle.plans.proofs.SendLaws.{clockFrom, Headed, answered, said}
 use Rattle.plans.proofs.parts.enters_syncing.Statement.{statement}
 use Rattle.plans.proofs.parts.enters_syncing.Tie as tie
 
-send-sync-info-requires : tie.Need-send-sync-info-requires
-send-sync-info-requires c κs = search needs
+send-by-requires : tie.Need-send-by-requires
+send-by-requires c κs = search needs
 
 says-if-requires : tie.Need-says-if-requires
 says-if-requires c κs = search needs
@@ -24,7 +24,7 @@ returns : tie.Need-returns
 unfolding headOf headBy settingsOf sendClockOf clockFrom steps.entersSyncing argsOf
 returns c =
     let a = c .before .before .before .before .before .args in
-    let r = c .before .before .send-sync-info in (
+    let r = c .before .before .send-by in (
       refl,
       (
         refl,
@@ -41,4 +41,4 @@ returns c =
     )
 
 pub enters-syncing-spec : {M : Type 1} → statement M
-enters-syncing-spec = tie.close (tie.spec send-sync-info-requires says-if-requires returns)
+enters-syncing-spec = tie.close (tie.spec send-by-requires says-if-requires returns)

@@ -14,8 +14,8 @@ use Rattle.plans.proofs.SendLaws.{clockFrom, answered-in, said}
 use Rattle.plans.proofs.parts.replies.Statement.{statement}
 use Rattle.plans.proofs.parts.replies.Tie as tie
 
-send-sync-info-requires : tie.Need-send-sync-info-requires
-send-sync-info-requires c κs = search needs
+send-by-requires : tie.Need-send-by-requires
+send-by-requires c κs = search needs
 
 says-if-requires : tie.Need-says-if-requires
 says-if-requires c κs = search needs
@@ -24,7 +24,7 @@ returns : tie.Need-returns
 unfolding headOf headBy clockFrom steps.answers steps.unmarked steps.sent steps.sayTo argsOf
 returns c =
     let a = c .before .before .before .before .before .args in
-    let r = c .before .before .send-sync-info in (
+    let r = c .before .before .send-by in (
       refl,
       (
         refl,
@@ -40,4 +40,4 @@ returns c =
     )
 
 pub replies-spec : {M : Type 1} → statement M
-replies-spec = tie.close (tie.spec send-sync-info-requires says-if-requires returns)
+replies-spec = tie.close (tie.spec send-by-requires says-if-requires returns)
