@@ -4,10 +4,10 @@
 // with the entry's definition in model/specs/Calls.antt, which demand 3 speaks of.
 ghost use mathlib.Core.Path.{_≡_};
 ghost use Rattle.model.specs.Calls.{open', step, question};
-ghost use Rattle.steps.specs.Answers.{answerOf};
+ghost use Rattle.finish.specs.Answers.{answerOf};
+use finish::Answer;
 use plans::Call;
 use settings::Settings;
-use steps::Answer;
 
 // A fresh core in an area of 65,536 bytes; nothing of the old bytes survives. Answers 0, or 1 with the area untouched.
 #[no_mangle]
@@ -81,9 +81,9 @@ pub extern "C" fn request_keeper_step(
         view,
     );
     if number != 0 {
-        return steps::refused(number);
+        return finish::refused(number);
     }
-    steps::run::run(
+    steps::run(
         state,
         commands,
         call,

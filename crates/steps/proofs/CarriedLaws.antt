@@ -26,8 +26,9 @@ use Rattle.requests.specs.Sent.{sentBytes}
 use Rattle.plans.specs.declared.Plan.{Plan}
 use Rattle.plans.specs.Plans.{isCheckBy, announceTo, sayTo, Sketch, actsBy, remainingBy, retriedBy, stalledBy, headBy, sketchIn, sketchOf, Follows}
 use Rattle.tracker.specs.Worked.{actedBy, countBy, workedBy, fits}
-use Rattle.steps.specs.Carried.{announced, said, carriedBy}
-use Rattle.steps.specs.Finished.{counted}
+use Rattle.finish.specs.Finished.{said}
+use Rattle.carry.specs.Carried.{announced, carriedBy}
+use Rattle.finish.specs.Finished.{counted}
 
 -- ---- messages before and after other acts
 

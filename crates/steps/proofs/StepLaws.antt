@@ -43,11 +43,11 @@ use Rattle.tracker.specs.declared.Performed.the-variants.{Done as Finished, Ful
 use Rattle.tracker.specs.Worked.{regionOf, Worked, countBy, workedBy, fits, performedAs}
 use Rattle.refusals.specs.Refusals.{givenRefusal}
 use Rattle.refusals.proofs.RefusalLaws.{Given, given}
-use Rattle.steps.specs.Carried.{said, carriedBy}
-use Rattle.steps.specs.Finished.{placesOf, stalledThen, stalledCountThen, counted, completed}
+use Rattle.carry.specs.Carried.{carriedBy}
+use Rattle.finish.specs.Finished.{said, placesOf, stalledThen, stalledCountThen, counted, completed}
 use Rattle.steps.proofs.AreaLaws.{area-well, area-encode, places-held}
 use Rattle.steps.proofs.CarriedLaws.{carried-pending, carried-evicted, carried-bytes, carried-retried, carried-abandoned, carried-forgotten, carried-fresh, carried-fits, outcome-is, seen-is, stalled-is, stalled-count, head-after}
-use Rattle.steps.proofs.FinishedLaws.{completed-encode}
+use Rattle.finish.proofs.FinishedLaws.{completed-encode}
 use Rattle.steps.proofs.EndLaws.{untouched, few, ends-9, ends-10, ends-11, passes, ends-finished, full-fails, done-fits}
 
 -- ---- a part of two lists that begin alike, and records by their fields

@@ -1,0 +1,64 @@
+-- The plan follows the model's: `plan-follows`; 9 by `unseen`.
+use borrow.Author.Tests.{not-true, not-false}
+use Rattle.model.specs.Calls as calls
+use Rattle.plans.specs.Plans.{callOf}
+use Rattle.steps.proofs.StepLaws.{unseen}
+use Rattle.steps.proofs.WorkLaws.{area-long, plan-ready, plan-follows}
+use borrow.Author.Needs.{needs}
+use native.Mathlib.Omega.{arith}
+use mathlib.Core.Path.{ap, _∙_}
+use Rattle.steps.proofs.run.Statement.{statement}
+use Rattle.steps.proofs.run.Tie as tie
+
+read-head-requires : tie.Need-read-head-requires
+read-head-requires c κs = let s = c .before .before .before .before .before .before .before .before in let a = s .args in omega (arith, area-long (a .call) (a .ids .now) (a .continuation .now) (a .stored .now) (a .peers .now) (a .view .now) (a .state .now) (a .commands .now) (s .pre))
+
+sub-plan-step : tie.Need-sub-plan-step
+sub-plan-step c = search needs
+
+part-plan-step-start : tie.Need-part-plan-step-start
+part-plan-step-start c = search needs
+
+part-plan-step-end : tie.Need-part-plan-step-end
+part-plan-step-end c = let s = c .before .before .before .before .before .before .before .before .before .before in let a = s .args in omega (arith, area-long (a .call) (a .ids .now) (a .continuation .now) (a .stored .now) (a .peers .now) (a .view .now) (a .state .now) (a .commands .now) (s .pre))
+
+plan-step-requires : tie.Need-plan-step-requires
+plan-step-requires c κs = let s = c .before .before .before .before .before .before .before .before .before .before .before in let a = s .args in plan-ready (a .call) (a .ids .now) (a .continuation .now) (a .stored .now) (a .peers .now) (a .view .now) (a .state .now) (a .commands .now) (s .pre) (c .before .before .read-head .result) (c .before .before .read-head .ensures)
+
+refused-requires : tie.Need-refused-requires
+refused-requires c κs = tt
+
+same-length : tie.Need-same-length
+same-length c = search needs
+
+returns : tie.Need-returns
+returns c = let s = c .before .before .before .before .before .before .before .before .before .before .before .before .before .before .before in let a = s .args in ap (λ (x : calls.Answer). record { answer = x; state = a .state .now; commands = a .commands .now }) (c .refused .ensures) ∙ unseen (a .state .now) (a .commands .now) (callOf (a .call) (a .ids .now) (a .continuation .now) (a .stored .now) (a .peers .now) (a .view .now)) (c .before .before .before .plan-step .result) (s .pre) (plan-follows (a .call) (a .ids .now) (a .continuation .now) (a .stored .now) (a .peers .now) (a .view .now) (a .state .now) (a .commands .now) (s .pre) (c .before .before .before .before .before .before .read-head .result) (c .before .before .before .before .before .before .read-head .ensures) (c .before .before .before .plan-step .result) (c .before .before .before .plan-step .ensures)) (not-true (c .before .before .before .plan-step .result .seen) (c .before .if1 .taken))
+
+work-out-requires : tie.Need-work-out-requires
+work-out-requires c κs = let s = c .before .before .before .before .before .before .before .before .before .before .before .before .before .before .before .before in let a = s .args in (s .pre, (c .before .before .before .before .before .before .before .read-head .ensures, ((plan-follows (a .call) (a .ids .now) (a .continuation .now) (a .stored .now) (a .peers .now) (a .view .now) (a .state .now) (a .commands .now) (s .pre) (c .before .before .before .before .before .before .before .read-head .result) (c .before .before .before .before .before .before .before .read-head .ensures) (c .before .before .before .before .plan-step .result) (c .before .before .before .before .plan-step .ensures)), not-false (c .before .before .before .before .plan-step .result .seen) (c .before .before .if1 .left))))
+
+same-length-2 : tie.Need-same-length-2
+same-length-2 c = c .before .before .before .before .work-out .kept .0
+
+same-length-3 : tie.Need-same-length-3
+same-length-3 c = c .before .before .before .before .work-out .kept .1 .0
+
+returns-2 : tie.Need-returns-2
+returns-2 c = c .before .before .before .before .work-out .ensures
+
+pub run-spec : {M : Type 1} → statement M
+run-spec =
+    tie.close
+    (tie.spec
+    read-head-requires
+    sub-plan-step
+    part-plan-step-start
+    part-plan-step-end
+    plan-step-requires
+    refused-requires
+    same-length
+    returns
+    work-out-requires
+    same-length-2
+    same-length-3
+    returns-2)

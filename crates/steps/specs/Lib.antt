@@ -1,3 +1,0 @@
-pub mod Carried
-pub mod Finished
-pub mod Answers
