@@ -1,0 +1,3 @@
+pub mod ItemLaws
+pub mod FillLaws
+pub mod ListLaws
