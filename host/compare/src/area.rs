@@ -52,13 +52,25 @@ impl Areas {
                 return Err("a refusal changed the state area".to_string());
             }
         }
+        self.unwritten_beyond(length)?;
+        Ok(answer)
+    }
+
+    /// Asks a question: the number and the length.
+    pub fn question(&mut self, keeper: &dyn Keeper, flag: u8) -> Result<(u32, u32), String> {
+        let answer = keeper.question(&self.state, &mut self.commands, flag);
+        self.unwritten_beyond(answer.1 as usize)?;
+        Ok(answer)
+    }
+
+    fn unwritten_beyond(&self, length: usize) -> Result<(), String> {
         // No early exit: this runs over 64 KiB in each step.
         let unwritten = self.commands.get(length..).unwrap_or_default();
         let changed = unwritten.iter().fold(0, |any, byte| any | (byte ^ FILL));
         if length > self.commands.len() || changed != 0 {
             return Err(format!("wrote beyond its {length} command bytes"));
         }
-        Ok(answer)
+        Ok(())
     }
 
     /// The bytes of the last step's commands, taken out of the area.

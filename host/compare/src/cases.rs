@@ -79,9 +79,13 @@ pub fn random_lines(seed: u64, most: usize, damaged: bool) -> Result<Vec<Line>, 
 }
 
 /// A directed stream under the oracle.
-pub fn try_script(keeper: &dyn Keeper, script: &Script, report: &mut Report) -> Result<(), String> {
+pub fn try_script(
+    keepers: &[&dyn Keeper],
+    script: &Script,
+    report: &mut Report,
+) -> Result<(), String> {
     let named = |fault: String| format!("{}: {fault}", script.name);
-    let Some(mut trial) = Trial::new(keeper, &script.opening).map_err(named)? else {
+    let Some(mut trial) = Trial::new(keepers, &script.opening).map_err(named)? else {
         return Err(named("the oracle can't be put there".to_string()));
     };
     report.streams += 1;
@@ -95,9 +99,9 @@ pub fn try_script(keeper: &dyn Keeper, script: &Script, report: &mut Report) -> 
 }
 
 /// A random stream under the oracle.
-pub fn try_random(keeper: &dyn Keeper, seed: u64, report: &mut Report) -> Result<(), String> {
+pub fn try_random(keepers: &[&dyn Keeper], seed: u64, report: &mut Report) -> Result<(), String> {
     let mut random = Random::new(seed);
-    let Some(mut trial) = Trial::new(keeper, random.opening())? else {
+    let Some(mut trial) = Trial::new(keepers, random.opening())? else {
         return Err(format!("seed {seed}: the oracle can't be put there"));
     };
     report.streams += 1;

@@ -1,9 +1,8 @@
 //! The commands.
 
 use keeper_compare::report::Report;
-use keeper_compare::{cases, differences, hostile as hostiles, list, play, tell};
+use keeper_compare::{cases, differences, hostile as hostiles, keepers, list, play, tell};
 use keeper_oracle::SOURCE_FOUND;
-use keeper_reference::Reference;
 use keeper_streams::text::Line;
 use keeper_streams::{directed, exhaustive};
 use std::time::{Duration, Instant, SystemTime, UNIX_EPOCH};
@@ -19,6 +18,9 @@ const NO_SOURCE: &str =
     "oracle: SKIPPED, the original Rust was not found when this was built (shared/docs/src beside \
 the project, or KEEPER_RUST_SRC)";
 
+const NO_CORE: &str =
+    "core: SKIPPED, built with --no-default-features; what follows is of oracle and reference alone";
+
 /// A seed that differs from run to run; it is printed, so that a run can be repeated.
 fn fresh_seed() -> u64 {
     let now = SystemTime::now().duration_since(UNIX_EPOCH);
@@ -31,13 +33,13 @@ fn fixed_list() -> Result<Vec<Line>, String> {
 
 /// Directed and exhaustive streams under the oracle.
 fn known_streams(depth: u32, report: &mut Report) -> Done {
-    let reference = Reference::plain();
+    let keepers = keepers::all();
     for script in directed::scripts() {
-        cases::try_script(&reference, &script, report)?;
+        cases::try_script(&keepers, &script, report)?;
     }
     for depth in 1..=depth {
         for script in exhaustive::scripts(depth) {
-            cases::try_script(&reference, &script, report)?;
+            cases::try_script(&keepers, &script, report)?;
         }
     }
     Ok(())
@@ -50,35 +52,47 @@ fn oracle_quick(seed: u64) -> Done {
     let known = report.steps();
     let mut next = seed;
     let random = Instant::now();
+    let keepers = keepers::all();
     while random.elapsed() < QUICK_RANDOM {
-        cases::try_random(&Reference::plain(), next, &mut report)?;
+        cases::try_random(&keepers, next, &mut report)?;
         next = next.wrapping_add(1);
     }
     println!(
-        "oracle: {known} directed and exhaustive steps, {} random from seed {seed}, no difference, {} s",
+        "{}: {known} directed and exhaustive steps, {} random from seed {seed}, no difference, {} s",
+        keepers::names(),
         report.steps() - known,
         start.elapsed().as_secs()
     );
     Ok(())
 }
 
+fn say_without_core() {
+    if keepers::CORE.is_none() {
+        println!("{NO_CORE}");
+    }
+}
+
 /// All that the gate runs.
 pub fn quick(seed: Option<u64>) -> Done {
     let seed = seed.unwrap_or_else(fresh_seed);
+    say_without_core();
     if SOURCE_FOUND {
         oracle_quick(seed).map_err(|fault| format!("oracle, seed {seed}: {fault}"))?;
-        differences::shown(&Reference::plain())?;
+        for keeper in keepers::all() {
+            differences::shown(keeper)?;
+        }
         println!("differences: D-1 and three overflows are as docs/DIFFERENCES.md says");
     } else {
         println!("{NO_SOURCE}");
     }
     let lines = fixed_list()?;
-    let calls = play::replay(&Reference::plain(), &lines)
-        .map_err(|(line, fault)| format!("fixed list: {}: {fault}", lines[line].write()))?;
-    println!(
-        "fixed list: {} streams, {calls} calls replayed on the reference",
-        list::count(&lines)
-    );
+    let streams = list::count(&lines);
+    for (keeper, name) in keepers::all().into_iter().zip(["reference", "core"]) {
+        let calls = play::replay(keeper, &lines).map_err(|(line, fault)| {
+            format!("fixed list, {name}: {}: {fault}", lines[line].write())
+        })?;
+        println!("fixed list: {streams} streams, {calls} calls replayed on the {name}");
+    }
     hostile_steps(10_000, seed)?;
     let table = tell::table(&keeper_variants::all(), &lines);
     let told = table.iter().filter(|told| told.streams > 0).count();
@@ -97,14 +111,16 @@ pub fn run(steps: u64, seed: Option<u64>) -> Done {
     if !SOURCE_FOUND {
         return Err(NO_SOURCE.to_string());
     }
+    say_without_core();
     let seed = seed.unwrap_or_else(fresh_seed);
     let start = Instant::now();
+    let keepers = keepers::all();
     let mut report = Report::default();
     let mut fault = known_streams(3, &mut report);
     let mut next = seed;
     let mut shown = 0;
     while fault.is_ok() && report.steps() < steps {
-        fault = cases::try_random(&Reference::plain(), next, &mut report);
+        fault = cases::try_random(&keepers, next, &mut report);
         next = next.wrapping_add(1);
         if report.steps() / 100_000 > shown {
             shown = report.steps() / 100_000;
@@ -119,7 +135,8 @@ pub fn run(steps: u64, seed: Option<u64>) -> Done {
     report.differences += u64::from(fault.is_err());
     let seconds = start.elapsed().as_secs();
     println!(
-        "seeds {seed} to {}, {seconds} s\n\n{report}",
+        "{}, seeds {seed} to {}, {seconds} s\n\n{report}",
+        keepers::names(),
         next.wrapping_sub(1)
     );
     fault
@@ -148,17 +165,17 @@ pub fn variants() -> Done {
 
 fn hostile_steps(steps: u64, seed: u64) -> Done {
     let mut report = Report::default();
-    let reference = Reference::plain();
-    hostiles::known(&reference, &mut report).map_err(|fault| format!("hostile: {fault}"))?;
+    let keeper = keepers::on_bytes();
+    hostiles::known(keeper, &mut report).map_err(|fault| format!("hostile: {fault}"))?;
     let known = report.steps();
     let mut next = seed;
     while report.steps() < steps {
-        hostiles::random(&reference, next, &mut report)
-            .map_err(|fault| format!("hostile: {fault}"))?;
+        hostiles::random(keeper, next, &mut report).map_err(|fault| format!("hostile: {fault}"))?;
         next = next.wrapping_add(1);
     }
+    let on = keepers::CORE.map_or("the reference", |_| "core and reference");
     println!(
-        "hostile: {known} calls with a known number, {} damaged from seed {seed}, on the reference",
+        "hostile: {known} calls with a known number, {} damaged from seed {seed}, on {on}",
         report.steps() - known
     );
     Ok(())
@@ -166,6 +183,7 @@ fn hostile_steps(steps: u64, seed: u64) -> Done {
 
 /// Damaged calls.
 pub fn hostile(steps: u64, seed: Option<u64>) -> Done {
+    say_without_core();
     hostile_steps(steps, seed.unwrap_or_else(fresh_seed))
 }
 
@@ -184,7 +202,7 @@ pub fn wrap() -> Done {
     let mut report = Report::default();
     let named = |script: &keeper_streams::Script| script.name.starts_with("sends counted");
     for script in directed::scripts().iter().filter(|script| named(script)) {
-        cases::try_script(&Reference::plain(), script, &mut report)?;
+        cases::try_script(&keepers::all(), script, &mut report)?;
     }
     println!("{report}");
     Ok(())

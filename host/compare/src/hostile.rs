@@ -1,10 +1,11 @@
-//! Damaged calls on bytes: a keeper against the reference, byte for byte.
+//! Damaged calls and random bytes: a keeper against the reference, byte for byte.
 
 use crate::area::FILL;
 use crate::play::Player;
 use crate::report::Report;
 use keeper_reference::{image, Reference, PLAIN};
-use keeper_streams::damage::{damage, Damaged};
+use keeper_streams::damage::{damage, several, Damaged};
+use keeper_streams::noise::{self, noise};
 use keeper_streams::random::Random;
 use keeper_streams::rng::Rng;
 use keeper_streams::text::Line;
@@ -43,9 +44,10 @@ pub fn compare(keeper: &dyn Keeper, damaged: &Damaged, image: &[u8]) -> Result<A
     }
     for flag in [0, 1, 2, 255] {
         let ask = |keeper: &dyn Keeper| {
+            let state = damaged.state(image);
             let mut commands = vec![FILL; damaged.commands_length];
-            let answer = keeper.question(&damaged.state(image), &mut commands, flag);
-            (answer, commands)
+            let answer = keeper.question(&state, &mut commands, flag);
+            (answer, state, commands)
         };
         if ask(keeper) != ask(&Reference::plain()) {
             return Err(format!("question {flag}"));
@@ -68,13 +70,28 @@ pub fn known(keeper: &dyn Keeper, report: &mut Report) -> Result<(), String> {
     Ok(())
 }
 
+/// An opening of any numbers on an area of any length.
+fn opening(keeper: &dyn Keeper, rng: &mut Rng) -> Result<(), String> {
+    let call = noise::opening(rng);
+    let area = noise::bytes(rng, call.length);
+    let open = |keeper: &dyn Keeper| {
+        let mut area = area.clone();
+        let number = keeper.open(&mut area, call.settings, call.clock, call.height);
+        (number, area)
+    };
+    if open(keeper) == open(&Reference::plain()) {
+        return Ok(());
+    }
+    Err(format!("opening of {} bytes", call.length))
+}
+
 /// A random stream with damaged copies of each of its calls.
 pub fn random(keeper: &dyn Keeper, seed: u64, report: &mut Report) -> Result<(), String> {
     let reference = Reference::plain();
     let mut random = Random::new(seed);
     let mut rng = Rng::new(!seed);
     let mut player = Player::new(&reference);
-    let opening = match random.opening() {
+    let opening_line = match random.opening() {
         Opening::Put(state) => Line::Put(state.clone()),
         Opening::Open {
             settings,
@@ -86,7 +103,8 @@ pub fn random(keeper: &dyn Keeper, seed: u64, report: &mut Report) -> Result<(),
             height: *height,
         },
     };
-    player.play(&opening)?;
+    player.play(&opening_line)?;
+    opening(keeper, &mut rng).map_err(|fault| format!("seed {seed}: {fault}"))?;
     report.streams += 1;
     for step in 0..random.length.min(40) {
         let state = player.read()?;
@@ -94,10 +112,11 @@ pub fn random(keeper: &dyn Keeper, seed: u64, report: &mut Report) -> Result<(),
             break;
         }
         let arguments = random.next(&state).to_arguments();
-        for _ in 0..3 {
-            let damaged = damage(&mut rng, player.image(), &arguments);
+        let kinds = [damage, damage, several, noise, noise];
+        for (index, damaged) in kinds.iter().enumerate() {
+            let damaged = damaged(&mut rng, player.image(), &arguments);
             let answer = compare(keeper, &damaged, player.image())
-                .map_err(|fault| format!("seed {seed}, step {step}, {damaged:?}: {fault}"))?;
+                .map_err(|fault| format!("seed {seed}, step {step}, damage {index}: {fault}"))?;
             report.step(state.mode, damaged.arguments.kind, answer.number);
         }
         player.play(&Line::Step(Box::new(arguments), vec![]))?;

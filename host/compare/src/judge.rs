@@ -1,6 +1,7 @@
-//! The oracle against a keeper, step by step.
+//! The oracle against a keeper, step by step, and other keepers against that one.
 
 use crate::area::Areas;
+use crate::beside::Beside;
 use crate::report::Report;
 use keeper_oracle::{Observed, Oracle, Reason, Sent, Verdict};
 use keeper_reference::image;
@@ -9,10 +10,11 @@ use keeper_values::numbers::{kinds, types};
 use keeper_values::{read_commands, Answer, Call, Command, Id, Keeper, Mode, State};
 use std::collections::BTreeSet;
 
-/// A keeper under the oracle's eyes.
+/// A keeper under the oracle's eyes, and others that have to leave the same bytes.
 pub struct Trial<'k> {
     keeper: &'k dyn Keeper,
     areas: Areas,
+    beside: Vec<Beside<'k>>,
     oracle: Oracle,
     pub state: State,
 }
@@ -85,7 +87,10 @@ fn overflows(before: &State, after: &State, call: &Call, refused: bool) -> bool 
 
 impl<'k> Trial<'k> {
     /// `None` if the Rust is not at hand.
-    pub fn new(keeper: &'k dyn Keeper, opening: &Opening) -> Result<Option<Self>, String> {
+    pub fn new(keepers: &[&'k dyn Keeper], opening: &Opening) -> Result<Option<Self>, String> {
+        let Some((&keeper, others)) = keepers.split_first() else {
+            return Err("no keeper".to_string());
+        };
         let oracle = match opening {
             Opening::Open {
                 settings,
@@ -100,19 +105,26 @@ impl<'k> Trial<'k> {
         let areas = Areas::new(keeper, opening)?;
         let state = areas.read()?;
         same("opened state", oracle.state(), &unordered(&state))?;
+        let beside = |other: &&'k dyn Keeper| Beside::new(*other, opening, &areas.state);
+        let beside = others.iter().map(beside).collect::<Result<_, _>>()?;
         Ok(Some(Self {
             keeper,
             areas,
+            beside,
             oracle,
             state,
         }))
     }
 
-    /// Runs one call on both sides and compares everything.
+    /// Runs one call on all sides and compares everything.
     pub fn step(&mut self, call: &Call, report: &mut Report) -> Result<(), String> {
         let before = self.state.clone();
-        let answer = self.areas.step(self.keeper, &call.to_arguments())?;
+        let arguments = call.to_arguments();
+        let answer = self.areas.step(self.keeper, &arguments)?;
         let written = self.areas.take_commands(answer.length);
+        for beside in &mut self.beside {
+            beside.step(&arguments, &answer, &written, &self.areas.state)?;
+        }
         self.state = self.areas.read()?;
         report.step(before.mode, call.kind, answer.number);
         if let Some(number) = refused_before_the_rust(&before, call) {
@@ -185,11 +197,11 @@ impl<'k> Trial<'k> {
             expected = Default::default();
         }
         for (flag, expected) in expected.iter().enumerate() {
-            let areas = &mut self.areas;
-            let (number, length) =
-                self.keeper
-                    .question(&areas.state, &mut areas.commands, flag as u8);
-            let written = areas.take_commands(length);
+            let (number, length) = self.areas.question(self.keeper, flag as u8)?;
+            let written = self.areas.take_commands(length);
+            for beside in &mut self.beside {
+                beside.question(flag as u8, number, &written)?;
+            }
             let expected: Vec<u8> = expected
                 .iter()
                 .flat_map(|(type_id, id)| std::iter::once(*type_id).chain(*id))

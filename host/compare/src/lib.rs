@@ -1,11 +1,13 @@
-//! Oracle, reference and faulty variants held against each other. Any other keeper can take the reference's place: see
-//! `keeper_values::Keeper`.
+//! Oracle, reference, core and faulty variants held against each other. Whatever implements `keeper_values::Keeper` can
+//! take part.
 
 pub mod area;
+pub mod beside;
 pub mod cases;
 pub mod differences;
 pub mod hostile;
 pub mod judge;
+pub mod keepers;
 pub mod list;
 pub mod play;
 pub mod report;

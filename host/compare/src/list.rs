@@ -84,14 +84,14 @@ fn candidates(variants: &[Variant], seeds: u64) -> Result<Vec<Candidate>, String
     let mut report = Report::default();
     let mut all = Vec::new();
     for script in directed::scripts() {
-        try_script(&reference, &script, &mut report)?;
+        try_script(&[&reference], &script, &mut report)?;
         all.push(candidate(variants, &script_lines(&script))?);
     }
     for case in hostile::cases() {
         all.push(candidate(variants, &case.lines())?);
     }
     for seed in 1..=seeds {
-        try_random(&reference, seed, &mut report)?;
+        try_random(&[&reference], seed, &mut report)?;
         all.push(candidate(
             variants,
             &random_lines(seed, 12, seed % 3 == 0)?,

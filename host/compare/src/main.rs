@@ -1,4 +1,4 @@
-//! Commands that hold oracle, reference and variants against each other; without one they are listed.
+//! Commands that hold oracle, reference, core and variants against each other; without one they are listed.
 
 mod commands;
 
@@ -6,10 +6,10 @@ use std::process::ExitCode;
 
 const USAGE: &str = "\
 usage: keeper_compare COMMAND
-  quick [SEED]         oracle against reference, fixed list, hostile bytes, variants; under a minute
-  run STEPS [SEED]     oracle against reference, at least so many steps; prints the report
+  quick [SEED]         oracle, reference and core; fixed list, hostile bytes, variants; under a minute
+  run STEPS [SEED]     oracle, reference and core, at least so many steps; prints the report
   variants             the table of faulty variants and what tells them apart
-  hostile STEPS [SEED] damaged calls on the reference
+  hostile STEPS [SEED] core against reference on damaged calls and random bytes
   make-list            the fixed list, on standard output
   wrap                 sends counted at 2^32 - 1; for a build without overflow checks";
 

@@ -1,7 +1,6 @@
 //! The fixed list: its text form, the reference's answers, and the variants.
 
-use keeper_compare::{list, play, tell};
-use keeper_reference::Reference;
+use keeper_compare::{keepers, list, play, tell};
 
 const LIST: &str = include_str!("../../fixed/streams.txt");
 
@@ -17,9 +16,11 @@ fn written_as_it_is_read() {
 }
 
 #[test]
-fn the_reference_answers_so() {
+fn reference_and_core_answer_so() {
     let lines = list::read(LIST).expect("every line is one");
-    assert!(play::replay(&Reference::plain(), &lines).is_ok());
+    for keeper in keepers::all() {
+        assert!(play::replay(keeper, &lines).is_ok());
+    }
 }
 
 #[test]

@@ -40,17 +40,30 @@ pub fn damage(rng: &mut Rng, image: &[u8], good: &Arguments) -> Damaged {
     let mut damaged = Damaged::none(good);
     let times = if rng.once_in(4) { 2 } else { 1 };
     for _ in 0..times {
-        match rng.below(10) {
-            0 => lengths(rng, &mut damaged),
-            1..=4 => damaged.poke = Some(poke(rng, image)),
-            5 => numbers(rng, &mut damaged.arguments),
-            6 => ids(rng, &mut damaged.arguments),
-            7 => stored(rng, &mut damaged.arguments.stored),
-            8 => peers(rng, &mut damaged.arguments.peers),
-            _ => view(rng, &mut damaged.arguments.view),
-        }
+        fault(rng, image, &mut damaged);
     }
     damaged
+}
+
+/// Damages several things, so that the order of refusals shows.
+pub fn several(rng: &mut Rng, image: &[u8], good: &Arguments) -> Damaged {
+    let mut damaged = Damaged::none(good);
+    for _ in 0..rng.range(2, 6) {
+        fault(rng, image, &mut damaged);
+    }
+    damaged
+}
+
+fn fault(rng: &mut Rng, image: &[u8], damaged: &mut Damaged) {
+    match rng.below(10) {
+        0 => lengths(rng, damaged),
+        1..=4 => damaged.poke = Some(poke(rng, image)),
+        5 => numbers(rng, &mut damaged.arguments),
+        6 => ids(rng, &mut damaged.arguments),
+        7 => stored(rng, &mut damaged.arguments.stored),
+        8 => peers(rng, &mut damaged.arguments.peers),
+        _ => view(rng, &mut damaged.arguments.view),
+    }
 }
 
 fn lengths(rng: &mut Rng, damaged: &mut Damaged) {

@@ -1,0 +1,59 @@
+//! The proved core as a keeper, on the bytes of its boundary, to be held against oracle and reference.
+
+use keeper_values::{Answer, Arguments, Keeper, Settings};
+use request_keeper::boundary;
+
+/// The three entries of the static library.
+#[derive(Debug, Clone, Copy, Default)]
+pub struct Core;
+
+impl Keeper for Core {
+    fn open(&self, state: &mut [u8], settings: Settings, clock: u64, height: u32) -> u32 {
+        boundary::open(
+            state,
+            settings.timeout,
+            settings.max_checks,
+            settings.min_sync_send_interval,
+            settings.stall_timeout,
+            clock,
+            height,
+        )
+    }
+
+    fn step(&self, state: &mut [u8], commands: &mut [u8], arguments: &Arguments) -> Answer {
+        let call = boundary::Arguments {
+            kind: arguments.kind,
+            clock: arguments.clock,
+            gate: arguments.gate,
+            height: arguments.height,
+            peer: arguments.peer,
+            typeid: arguments.type_id,
+            fork: arguments.fork,
+            parsed: arguments.parsed,
+            hastip: arguments.has_tip,
+            tip: arguments.tip,
+            ids: &arguments.ids,
+            continuation: &arguments.continuation,
+            stored: &arguments.stored,
+            peers: &arguments.peers,
+            view: &arguments.view,
+        };
+        let answer = boundary::step(state, commands, &call);
+        Answer {
+            number: answer.number,
+            outcome: answer.outcome,
+            retried: answer.retried,
+            fresh: answer.fresh,
+            abandoned: answer.abandoned,
+            forgotten: answer.forgotten,
+            pending: answer.pending,
+            evicted: answer.evicted,
+            length: answer.length,
+        }
+    }
+
+    fn question(&self, state: &[u8], commands: &mut [u8], flag: u8) -> (u32, u32) {
+        let answer = boundary::question(state, commands, flag);
+        (answer.number, answer.length)
+    }
+}

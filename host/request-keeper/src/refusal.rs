@@ -1,0 +1,118 @@
+use std::error::Error;
+use std::fmt::{self, Display, Formatter};
+
+/// Why a step was turned back (document 01, "Where a step can be turned back"). Nothing has changed.
+///
+/// The first that applies is given, in this order.
+#[derive(Debug, Clone, Copy, PartialEq, Eq, Hash)]
+#[non_exhaustive]
+pub enum Refusal {
+    /// 1: only bytes to restore from can have another length.
+    StateLength,
+    /// 2: only bytes to restore from can be malformed.
+    MalformedImage,
+    /// 3: not met with the areas of a [`RequestKeeper`](crate::RequestKeeper).
+    CommandLength,
+    /// 4
+    ClockWentBack,
+    /// 5
+    WrongStep,
+    /// 6
+    Lists,
+    /// 7
+    Peers,
+    /// 8
+    View,
+    /// 9
+    HeightOutsideView,
+    /// 10
+    TooManyTracked,
+    /// 11
+    TooManyStalled,
+    /// A number that this crate does not know: the library linked is not of its version.
+    Unknown(u32),
+}
+
+impl Refusal {
+    /// The refusal of a number; 0 is a finished step.
+    pub(crate) fn of(number: u32) -> Option<Self> {
+        Some(match number {
+            0 => return None,
+            1 => Self::StateLength,
+            2 => Self::MalformedImage,
+            3 => Self::CommandLength,
+            4 => Self::ClockWentBack,
+            5 => Self::WrongStep,
+            6 => Self::Lists,
+            7 => Self::Peers,
+            8 => Self::View,
+            9 => Self::HeightOutsideView,
+            10 => Self::TooManyTracked,
+            11 => Self::TooManyStalled,
+            other => Self::Unknown(other),
+        })
+    }
+
+    /// Document 01's number.
+    pub fn number(self) -> u32 {
+        match self {
+            Self::StateLength => 1,
+            Self::MalformedImage => 2,
+            Self::CommandLength => 3,
+            Self::ClockWentBack => 4,
+            Self::WrongStep => 5,
+            Self::Lists => 6,
+            Self::Peers => 7,
+            Self::View => 8,
+            Self::HeightOutsideView => 9,
+            Self::TooManyTracked => 10,
+            Self::TooManyStalled => 11,
+            Self::Unknown(number) => number,
+        }
+    }
+
+    /// Document 01's words: what the number is given for, exactly.
+    pub fn words(self) -> &'static str {
+        match self {
+            Self::StateLength => "state not 65,536 bytes",
+            Self::MalformedImage => {
+                "image malformed: mark, version, mode, flags, counts, order of ids, a peer stalled twice, a stamp, \
+                 last progress or last send after the last clock, checks not below demand 3's M, unused bytes not zero"
+            }
+            Self::CommandLength => "commands under 65,536 bytes",
+            Self::ClockWentBack => "clock before the last finished step's or the opening's",
+            Self::WrongStep => {
+                "step unknown or not of this mode, a flag not 0 or 1, or a send failure after anything but an entry \
+                 that sent"
+            }
+            Self::Lists => "id or stored list of bad length, order or size",
+            Self::Peers => "peer list of bad length or size",
+            Self::View => "malformed row or length",
+            Self::HeightOutsideView => "a rule would read a height, up to chain height, outside it",
+            Self::TooManyTracked => "pending + evicted after the step would pass 1,024",
+            Self::TooManyStalled => "a 257th stalled peer",
+            Self::Unknown(_) => "a number that is not document 01's",
+        }
+    }
+}
+
+impl Display for Refusal {
+    fn fmt(&self, out: &mut Formatter<'_>) -> fmt::Result {
+        write!(out, "refused as {}: {}", self.number(), self.words())
+    }
+}
+
+impl Error for Refusal {}
+
+#[cfg(test)]
+mod tests {
+    use super::Refusal;
+
+    #[test]
+    fn each_number_has_its_refusal() {
+        assert_eq!(Refusal::of(0), None);
+        for number in 1..=12 {
+            assert_eq!(Refusal::of(number).map(Refusal::number), Some(number));
+        }
+    }
+}

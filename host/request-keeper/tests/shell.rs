@@ -1,0 +1,229 @@
+//! What the crate does for a shell: dropping the rest of a batch, an entry's failed send, lists of any size handed on,
+//! bytes that are no image.
+
+use request_keeper::{
+    Command, Id, Message, Mode, ModifierType, Outcome, Peer, Refusal, RequestKeeper, Section,
+    Sends, Settings, Step, StoredPairs, Surroundings, View, STATE_BYTES,
+};
+
+const PEERS: &[Peer] = &[Peer(4), Peer(5)];
+
+fn now<'a>(clock: u64) -> Surroundings<'a> {
+    Surroundings {
+        peers: PEERS,
+        ..Surroundings::at(clock)
+    }
+}
+
+/// A keeper in syncing from peer 4.
+fn syncing() -> RequestKeeper {
+    let mut keeper = RequestKeeper::open(Settings::default(), 0, 0).expect("opened");
+    let _ = keeper.step(Step::Start, &now(0)).expect("started");
+    let entry = keeper.step(Step::Pick, &now(1_000)).expect("picked");
+    let sends = entry.send(|_| Ok::<(), ()>(()));
+    let expected = Sends {
+        sent: 1,
+        ..Sends::default()
+    };
+    assert_eq!(sends, expected);
+    keeper
+}
+
+fn many(count: usize) -> Vec<Id> {
+    let id = |number: usize| {
+        let mut id = [0; 32];
+        id[..8].copy_from_slice(&number.to_be_bytes());
+        id
+    };
+    (0..count).map(id).collect()
+}
+
+fn headers(ids: &[Id]) -> Step<'_> {
+    Step::Announced {
+        from: Peer(9),
+        modifier_type: ModifierType::HEADER,
+        ids,
+    }
+}
+
+#[test]
+fn a_failed_send_drops_the_rest_of_its_batch() {
+    let ids = many(801);
+    let mut keeper = syncing();
+    let finished = keeper.step(headers(&ids), &now(1_000)).expect("finished");
+    let mut tried = Vec::new();
+    let sends = finished.send(|command: Command<'_>| {
+        if let Message::Request { ids, .. } = command.message {
+            tried.push(ids.len());
+        }
+        if tried.len() == 2 {
+            Err("full queue")
+        } else {
+            Ok(())
+        }
+    });
+    assert_eq!(tried, [400, 400]);
+    let expected = Sends {
+        sent: 1,
+        failed: 1,
+        dropped: 1,
+        entry_failed: false,
+    };
+    assert_eq!(sends, expected);
+}
+
+#[test]
+fn other_batches_are_sent_nevertheless() {
+    let section = |modifier_type, number| Section {
+        modifier_type,
+        id: [number; 32],
+        stored: false,
+    };
+    let mut view = View::from_height(1);
+    view.push_header(&[
+        section(ModifierType::BLOCK_TRANSACTIONS, 1),
+        section(ModifierType::EXTENSION, 2),
+    ]);
+    let surroundings = Surroundings {
+        chain_height: 1,
+        view: &view,
+        ..now(2_000)
+    };
+    let mut keeper = syncing();
+    let finished = keeper
+        .step(Step::Progress, &surroundings)
+        .expect("finished");
+    let mut outbox = finished.outbox();
+    let mut batches = Vec::new();
+    while let Some(command) = outbox.next() {
+        batches.push(command.batch);
+        outbox.failed();
+    }
+    // Two lists of sections, and the sync info that progress may send: no entry's.
+    assert_eq!(batches, [0, 1, 2]);
+    assert_eq!((outbox.dropped(), outbox.entry_failed()), (0, false));
+}
+
+#[test]
+fn an_entry_that_can_t_send_is_the_next_step() {
+    let mut keeper = RequestKeeper::open(Settings::default(), 0, 0).expect("opened");
+    let _ = keeper.step(Step::Start, &now(0)).expect("started");
+    let entry = keeper.step(Step::Pick, &now(1_000)).expect("picked");
+    assert!(entry.send(|_| Err("reset")).entry_failed);
+    let gone = keeper
+        .step(Step::SendFailure, &now(1_000))
+        .expect("reported");
+    assert_eq!(gone.answer.outcome, Outcome::SyncPeerGone);
+    assert_eq!(keeper.mode(), Mode::Seeking);
+}
+
+#[test]
+fn lists_of_any_size_are_handed_on() {
+    let ids = many(1_025);
+    let stored: StoredPairs = many(1_025)
+        .into_iter()
+        .map(|id| (ModifierType::HEADER, id))
+        .collect();
+    let peers = vec![Peer(1); 129];
+    let section = Section {
+        modifier_type: ModifierType::EXTENSION,
+        id: [1; 32],
+        stored: true,
+    };
+    let mut four = View::from_height(1);
+    four.push_header(&[section; 4]);
+    let mut past_the_top = View::from_height(u32::MAX);
+    past_the_top.push_absent();
+    past_the_top.push_absent();
+    let now = now(2_000);
+    let calls = [
+        (Step::Received { ids: &ids }, now, Refusal::Lists),
+        (
+            Step::Check,
+            Surroundings {
+                stored: &stored,
+                ..now
+            },
+            Refusal::Lists,
+        ),
+        (
+            Step::Check,
+            Surroundings {
+                peers: &peers,
+                ..now
+            },
+            Refusal::Peers,
+        ),
+        (
+            Step::Check,
+            Surroundings { view: &four, ..now },
+            Refusal::View,
+        ),
+        (
+            Step::Check,
+            Surroundings {
+                view: &past_the_top,
+                ..now
+            },
+            Refusal::View,
+        ),
+        (
+            Step::Progress,
+            Surroundings {
+                chain_height: 1,
+                ..now
+            },
+            Refusal::HeightOutsideView,
+        ),
+    ];
+    let mut keeper = syncing();
+    let before = keeper.as_bytes().to_vec();
+    for (step, surroundings, refusal) in calls {
+        assert_eq!(keeper.step(step, &surroundings).err(), Some(refusal));
+        assert!(keeper.as_bytes() == before);
+    }
+}
+
+/// Heights 1 to 100 are complete; the header of `absent` is absent.
+fn view_of(chain_height: u32, absent: u32) -> View {
+    View::of_chain(0, chain_height, |height| {
+        let section = Section {
+            modifier_type: ModifierType::EXTENSION,
+            id: [height as u8; 32],
+            stored: height <= 100,
+        };
+        (height != absent).then(|| vec![section])
+    })
+}
+
+#[test]
+fn a_view_reaches_as_far_as_the_rules_read() {
+    for (chain_height, absent, rows) in [(0, 0, 0), (50, 0, 50), (500, 0, 292), (500, 150, 150)] {
+        let view = view_of(chain_height, absent);
+        assert_eq!(view.rows(), rows);
+        let surroundings = |clock| Surroundings {
+            chain_height,
+            view: &view,
+            ..now(clock)
+        };
+        // Rule 5, then rule 4 from where it got to; a reorg runs both.
+        for step in [Step::Progress, Step::Reorg { fork_point: 0 }] {
+            let mut keeper = syncing();
+            assert!(keeper.step(step, &surroundings(2_000)).is_ok());
+        }
+    }
+    assert_eq!(View::of_chain(u32::MAX, u32::MAX, |_| None).rows(), 0);
+}
+
+#[test]
+fn bytes_that_are_no_image_are_refused() {
+    for length in [0, STATE_BYTES - 1, STATE_BYTES + 1] {
+        let refusal = RequestKeeper::from_bytes(&vec![0; length]).err();
+        assert_eq!(refusal, Some(Refusal::StateLength));
+    }
+    let refusal = RequestKeeper::from_bytes(&[0; STATE_BYTES]).err();
+    assert_eq!(refusal, Some(Refusal::MalformedImage));
+    let keeper = syncing();
+    let restored = RequestKeeper::from_bytes(keeper.as_bytes()).expect("its own bytes");
+    assert!(restored.as_bytes() == keeper.as_bytes());
+}
