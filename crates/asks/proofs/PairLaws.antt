@@ -1,24 +1,24 @@
 -- Pairs of type and id in a room, and the asks that they stand for.
-use Prim.Native.Nat.{ℕ, suc, _+_, _-_, _*_, _/_, _%_, _≤_, _<_, min}
+use Prim.Native.Nat.{ℕ, _+_, _-_, _*_, _/_, _≤_, min}
 use mathlib.Core.Path.{_≡_, refl, sym, ap, _∙_}
 use mathlib.Core.Bool.{Bool, true, false, not, cond, _&&_}
-use mathlib.Core.List.{List, [], _∷_, _++_, map, append-nil}
+use mathlib.Core.List.{List, [], _∷_, map, append-nil}
 use mathlib.Core.Option.{some}
 use native.Mathlib.Omega.{arith}
 use lib.ListN.{length, take, length-map}
 use lib.Dec.{eqb}
 use Rattle.fields.specs.Facts.{All, Bytes}
 use Rattle.fields.specs.Overwrite.{overwritten}
-use Rattle.fields.specs.Entries.{entries, joined, rising}
+use Rattle.fields.specs.Entries.{joined, rising}
 use Rattle.fields.specs.Sort.{sorted}
 use Rattle.fields.proofs.AllLaws.{all-map, all-kept}
 use Rattle.fields.proofs.SortLaws.{all-sorted}
 use Rattle.fields.proofs.OverwriteLaws.{front-read-back}
 use Rattle.fields.proofs.EntriesLaws.{Wide, length-joined, entries-joined}
-use Rattle.model.specs.Protocol.{Id, isTransaction, windowSize}
+use Rattle.model.specs.Protocol.{isTransaction, windowSize}
 use Rattle.model.specs.Delivery.{Request, orphansOf}
-use Rattle.model.specs.Requests.{Act, ask, Pair}
-use Rattle.model.specs.Sections.{Item, Batch, View, join, adjacent, batchesOf, itemBelow, windowWithin, requestSectionsFrom}
+use Rattle.model.specs.Requests.{ask, Pair}
+use Rattle.model.specs.Sections.{Item, Batch, join, adjacent, batchesOf, itemBelow, windowWithin, requestSectionsFrom}
 use Rattle.model.specs.Lists.{viewOf, viewFits, entriesOf, listFits, pairsFit, pairsIn}
 use Rattle.model.specs.Calls.{pairBytes}
 use Rattle.model.proofs.RecordLaws.{Recorded}

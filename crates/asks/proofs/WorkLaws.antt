@@ -1,8 +1,8 @@
 -- Each work with a peer to ask, from what was asked for it.
-use Prim.Native.Nat.{ℕ, _+_, _-_, _*_, _/_, _%_, _^_, _≤_, _<_, min}
-use mathlib.Core.Path.{_≡_, refl, sym, ap, _∙_, subst}
-use mathlib.Core.Bool.{Bool, true, false, not, _&&_}
-use mathlib.Core.List.{List, [], _∷_, _++_, map}
+use Prim.Native.Nat.{ℕ, _+_, _-_, _*_, _/_, _^_, _≤_, _<_, min}
+use mathlib.Core.Path.{_≡_, refl, sym, ap, _∙_}
+use mathlib.Core.Bool.{Bool, true, not, _&&_}
+use mathlib.Core.List.{List, [], _∷_, map}
 use mathlib.Core.Option.{some}
 use native.Mathlib.Omega.{arith}
 use lib.ListN.{length, take, drop, length-drop, length-map}
@@ -11,20 +11,18 @@ use lib.Dec.{eqb}
 use Rattle.fields.specs.Facts.{All, Bytes}
 use Rattle.fields.specs.Overwrite.{overwritten}
 use Rattle.fields.specs.Entries.{entries, rising, joined}
-use Rattle.fields.specs.Filter.{kept}
 use Rattle.fields.proofs.TotalLaws.{total}
 use Rattle.fields.proofs.FilterLaws.{length-kept}
 use Rattle.fields.proofs.OverwriteLaws.{front-read-back}
 use Rattle.fields.proofs.EntriesLaws.{Wide, length-entries}
-use Rattle.model.specs.Protocol.{Id, headerType, isTransaction, trackedLimit, windowSize}
-use Rattle.model.specs.Settings.{Settings}
+use Rattle.model.specs.Protocol.{Id, headerType, isTransaction, windowSize}
 use Rattle.model.specs.Delivery.{Request, purgeAll, purgePeer, orphansOf}
 use Rattle.model.specs.State.{State}
-use Rattle.model.specs.Requests.{Act, ask, Sending, performAll}
-use Rattle.model.specs.Sections.{Item, Batch, batchesOf, windowWithin, requestSectionsFrom, requestNextSections}
-use Rattle.model.specs.Check.{retries, retrySendings}
-use Rattle.model.specs.Image.{idSize, recordSize}
-use Rattle.model.specs.Lists.{idsIn, pairsIn, peersIn, viewOf, viewFits, entriesOf}
+use Rattle.model.specs.Requests.{Act, ask, performAll}
+use Rattle.model.specs.Sections.{Batch, batchesOf, windowWithin, requestSectionsFrom, requestNextSections}
+use Rattle.model.specs.Check.{retrySendings}
+use Rattle.model.specs.Image.{idSize}
+use Rattle.model.specs.Lists.{idsIn, pairsIn, viewOf, viewFits, entriesOf}
 use Rattle.model.specs.Steps as steps
 use Rattle.model.specs.Calls as calls
 use Rattle.model.specs.Calls.{argsOf, pairBytes}
@@ -43,7 +41,6 @@ use Rattle.plans.specs.declared.Work.the-variants.{Ids, Sections, PurgeSections
 use Rattle.plans.specs.Plans.{numbersOf, retriedBy}
 use Rattle.announced.specs.ByType.{asksByType}
 use Rattle.announced.proofs.ByTypeLaws.{asks-well, asks-weight}
-use Rattle.sections.specs.Answers.{itemPair}
 use Rattle.sections.proofs.ItemLaws.{items-most}
 use Rattle.tracker.specs.declared.Counts.{Counts}
 use Rattle.tracker.specs.declared.Performed.{Performed}

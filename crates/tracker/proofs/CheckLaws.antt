@@ -2,11 +2,11 @@
 use Prim.Native.Nat.{ℕ, _+_, _-_, _*_, _^_, _≤_, _<_}
 use mathlib.Core.Path.{_≡_, refl, sym, ap, _∙_}
 use mathlib.Core.Bool.{Bool, true, false, cond}
-use mathlib.Core.List.{List, [], _∷_, _++_, map, append-nil}
+use mathlib.Core.List.{List, [], map, append-nil}
 use native.Mathlib.Nat.{add-zero}
 use native.Mathlib.Omega.{arith}
-use lib.ListN.{length, take, length-map}
-use lib.Dec.{eqb, leb}
+use lib.ListN.{length}
+use lib.Dec.{eqb}
 use borrow.Author.Tests.{le-leb}
 use Rattle.fields.specs.Facts.{All, Bytes}
 use Rattle.fields.specs.Zero.{zeros}
@@ -18,13 +18,13 @@ use Rattle.fields.proofs.OverwriteLaws.{overwritten-nil}
 use Rattle.fields.proofs.EntriesLaws.{entries-wide, entries-bytes}
 use Rattle.model.specs.Protocol.{Id, trackedLimit}
 use Rattle.model.specs.Settings.{Settings}
-use Rattle.model.specs.Delivery.{Request, Verdict, verdict, verdictNumber, retried, abandoned, forgotten, judged, checkTimeouts}
+use Rattle.model.specs.Delivery.{Request, verdict, verdictNumber, retried, abandoned, forgotten, judged}
 use Rattle.model.specs.State.{State}
 use Rattle.model.specs.Requests.{Sending}
 use Rattle.model.specs.Sections.{Item, batchesOf}
 use Rattle.model.specs.Check.{retries, retrySendings}
 use Rattle.model.specs.Lists.{peersIn}
-use Rattle.model.specs.Image.{idSize, recordSize, requestOf}
+use Rattle.model.specs.Image.{recordSize, requestOf}
 use Rattle.model.specs.Calls as calls
 use Rattle.model.proofs.ArgumentLaws.{peers-well}
 use Rattle.model.proofs.SendingLaws.{retries-sent-well, sendings-bytes, retries-weight, retries-count}

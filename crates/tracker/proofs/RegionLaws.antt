@@ -1,10 +1,10 @@
 -- The region that holds some requests and ids: what is read of it, and what an edit makes of it.
-use Prim.Native.Nat.{ℕ, _+_, _-_, _*_, _≤_, _<_, _^_}
-use mathlib.Core.Path.{_≡_, refl, sym, ap, _∙_}
-use mathlib.Core.Bool.{Bool, true, false}
-use mathlib.Core.List.{List, [], _∷_, _++_, map, append-assoc, append-nil}
+use Prim.Native.Nat.{ℕ, _+_, _-_, _*_, _≤_}
+use mathlib.Core.Path.{_≡_, sym, ap, _∙_}
+use mathlib.Core.Bool.{true}
+use mathlib.Core.List.{List, [], _++_, map, append-assoc, append-nil}
 use native.Mathlib.Omega.{arith}
-use lib.ListN.{length, take, drop, length-append, length-map, length-drop, drop-of-length-le}
+use lib.ListN.{length, drop, length-append, length-map, length-drop, drop-of-length-le}
 use lib.Seq.{take-at, drop-at}
 use Rattle.fields.specs.Facts.{All, Bytes}
 use Rattle.fields.specs.Zero.{zeros}

@@ -1,5 +1,5 @@
 -- A check as the delivery check does it: what stays is in width, and the noted places are those of the retried requests.
-use Prim.Native.Nat.{ℕ, suc, _+_, _*_, _^_, _≤_, _<_}
+use Prim.Native.Nat.{ℕ, suc, _+_, _^_, _≤_, _<_}
 use mathlib.Core.Path.{_≡_, refl, sym, ap, _∙_}
 use mathlib.Core.Bool.{Bool, true, false, cond}
 use mathlib.Core.List.{List, [], _∷_, _++_, map}
@@ -13,7 +13,7 @@ use Rattle.fields.specs.Entries.{entries, entry}
 use Rattle.fields.proofs.AllLaws.{all-weaker, all-at, all-map, all-kept, either}
 use Rattle.fields.proofs.FilterLaws.{length-kept}
 use Rattle.fields.proofs.OrderLaws.{and-left, and-right}
-use Rattle.fields.proofs.EntriesLaws.{Wide, entries-at, length-entries}
+use Rattle.fields.proofs.EntriesLaws.{Wide, entries-at}
 use Rattle.model.specs.Settings.{Settings}
 use Rattle.model.specs.Delivery.{Request, Verdict, waiting, retried, abandoned, forgotten, verdict, verdictNumber, judged, restarted, checkTimeouts, idsOf}
 use Rattle.model.specs.Sections.{Item}

@@ -1,9 +1,9 @@
 -- What a work without a peer to ask comes to, and that the region and the counts after it say so.
 use Prim.Native.Nat.{ℕ, _+_, _-_, _*_, _/_, _≤_}
-use mathlib.Core.Path.{_≡_, refl, sym, ap, _∙_, subst}
+use mathlib.Core.Path.{_≡_, refl, sym, ap, _∙_}
 use mathlib.Core.Bool.{Bool, true, false, not, cond, false≢true}
-use mathlib.Core.List.{List, [], _∷_, _++_, map}
-use native.Mathlib.Nat.{add-zero, lt-irrefl}
+use mathlib.Core.List.{List, []}
+use native.Mathlib.Nat.{add-zero}
 use native.Mathlib.Omega.{arith}
 use lib.ListN.{length, length-append, length-map, drop}
 use lib.Dec.{eqb, leb}

@@ -1,6 +1,5 @@
 -- What a check makes of the region's requests, by the header and the call's numbers.
 use Prim.Native.Nat.{ℕ, _+_}
-use mathlib.Core.Bool.{Bool}
 use mathlib.Core.List.{List}
 use lib.ListN.{length}
 use lib.Dec.{eqb}

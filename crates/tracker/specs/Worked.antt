@@ -1,8 +1,8 @@
 -- What a plan's work makes of pending requests and evicted ids, and the region of the state area that holds them.
 use Prim.Native.Nat.{ℕ, _+_, _-_, _*_, _≤_, _<_, _^_}
 use mathlib.Core.Path.{_≡_}
-use mathlib.Core.Bool.{Bool, true, false, cond}
-use mathlib.Core.List.{List, [], _∷_, _++_, map}
+use mathlib.Core.Bool.{Bool, true, cond}
+use mathlib.Core.List.{List, _++_, map}
 use lib.ListN.{length}
 use lib.Dec.{eqb, leb}
 use Rattle.fields.specs.Facts.{All}
@@ -24,7 +24,6 @@ use Rattle.delivery.specs.Region.{evictedIn}
 use Rattle.plans.specs.declared.Call.{Call}
 use Rattle.plans.specs.declared.Work.{Work}
 use Rattle.plans.specs.Plans.{numbersOf, isCheckBy, remainingBy, retriedBy, evictedBy, actsBy}
-use Rattle.tracker.specs.declared.Counts.{Counts}
 use Rattle.tracker.specs.declared.Performed.{Performed}
 use Rattle.tracker.specs.declared.Performed.the-variants.{Done as Finished, Full}
 

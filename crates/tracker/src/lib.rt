@@ -2,7 +2,7 @@
 //
 // Each function is the work of its name (plans::Work) without a peer to ask.
 ghost use mathlib.Core.Path.{_≡_};
-ghost use Prim.Native.Nat.{ℕ, _+_, _%_, _≤_, _<_};
+ghost use Prim.Native.Nat.{ℕ, _%_, _≤_};
 ghost use lib.ListN.{length};
 ghost use Rattle.model.specs.State.{State};
 ghost use Rattle.model.specs.Calls as calls;
@@ -34,7 +34,6 @@ pub enum Performed {
 
 // No work: the region stays.
 pub fn nothing(head: Head, at: usize, batch: u16) -> Performed
-    requires { ⌜ head .pending + head .evicted ≤ 1024 ⌝ }
     ensures { λ r. ⌜ ((st : State) (c : calls.Call) (region ids stored peers view out : List ℕ) (call : Call) → Tracked head (c .clock) region → Given head region call ids stored peers view st c → (downloaded : ℕ) → Performs at batch (workedBy st c downloaded works.Nothing) out r region out) ⌝ }
 {
     Performed::Done(Counts {
@@ -92,8 +91,8 @@ pub fn evicted(
     let gone = head.evicted;
     match delivery::evict::schedule_rerequest(region, head.pending, gone, ids) {
         Evicted::Full => Performed::Full,
-        Evicted::Pending(left) => Performed::Done(Counts {
-            pending: left,
+        Evicted::Pending(stay) => Performed::Done(Counts {
+            pending: stay,
             evicted: gone + ids.len() / 32,
             retried: 0,
             fresh: 0,
@@ -110,10 +109,11 @@ pub fn purge(region: &mut [u8], head: Head, call: Call, at: usize, batch: u16) -
     requires { ⌜ Tracked head (call .clock) (now region) ⌝ }
     ensures { λ r. ⌜ ((st : State) (c : calls.Call) (ids stored peers view out : List ℕ) → Given head (now (region .entry)) call ids stored peers view st c → (downloaded : ℕ) → Performs at batch (workedBy st c downloaded works.Purge) out r (now (region .exit)) out) ⌝ }
 {
+    let spared = head.evicted;
     delivery::purge::purge_all(region, head.pending);
     Performed::Done(Counts {
         pending: 0,
-        evicted: head.evicted,
+        evicted: spared,
         retried: 0,
         fresh: 0,
         abandoned: 0,
@@ -128,9 +128,9 @@ pub fn lose(region: &mut [u8], head: Head, call: Call, at: usize, batch: u16) ->
     requires { ⌜ Tracked head (call .clock) (now region) ⌝ }
     ensures { λ r. ⌜ ((st : State) (c : calls.Call) (ids stored peers view out : List ℕ) → Given head (now (region .entry)) call ids stored peers view st c → (downloaded : ℕ) → Performs at batch (workedBy st c downloaded works.Lose) out r (now (region .exit)) out) ⌝ }
 {
-    let left = delivery::purge::purge_peer(region, head.pending, head.peer);
+    let others = delivery::purge::purge_peer(region, head.pending, head.peer);
     Performed::Done(Counts {
-        pending: left,
+        pending: others,
         evicted: head.evicted,
         retried: 0,
         fresh: 0,

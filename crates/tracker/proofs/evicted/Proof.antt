@@ -12,8 +12,8 @@ schedule-rerequest-requires c κs = let s = c .before .before .before in ((s .pr
 enum-told : tie.Need-enum-told
 enum-told c = search needs
 
-enum-known-left : tie.Need-enum-known-left
-enum-known-left c = search needs
+enum-known-stay : tie.Need-enum-known-stay
+enum-known-stay c = search needs
 
 add-t15 : tie.Need-add-t15
 add-t15 c = search needs
@@ -38,7 +38,7 @@ returns-2 c = let s = c .before .before .before .before .before .before .before 
     let m = c .before .before .before .before .before .schedule-rerequest in
     λ st call stored peers view out g downloaded.
     evicts (a .head) (a .call) (a .region .now) (a .ids .now) stored peers view st call g downloaded (a .at) (a .batch) (a .call .clock) (s .pre .0)
-    (λ i. omega (arith, c .before .before .before .before .before .before .before .before .slice-known .given i)) (λ i. omega (arith, c .before .before .before .before .before .before .before .shared-slice-known .given i)) (m .last .0) out _ _ (sym (c .before .left .given .1) ∙ m .ensures .0) refl (m .ensures .1)
+    (λ i. omega (arith, c .before .before .before .before .before .before .before .before .slice-known .given i)) (λ i. omega (arith, c .before .before .before .before .before .before .before .shared-slice-known .given i)) (m .last .0) out _ _ (sym (c .before .stay .given .1) ∙ m .ensures .0) refl (m .ensures .1)
 
 pub evicted-spec : {M : Type 1} → statement M
-evicted-spec = tie.close (tie.spec schedule-rerequest-requires enum-told enum-known-left add-t15 same-length returns same-length-2 returns-2)
+evicted-spec = tie.close (tie.spec schedule-rerequest-requires enum-told enum-known-stay add-t15 same-length returns same-length-2 returns-2)

@@ -1,6 +1,5 @@
 -- Each arm is the function of its work: `as-work`.
 use borrow.Author.Needs.{needs}
-use native.Mathlib.Omega.{arith}
 use Rattle.tracker.proofs.CheckLaws.{clock-given}
 use Rattle.works.proofs.WorkLaws.{as-work}
 use Rattle.works.proofs.perform.Statement.{statement}
