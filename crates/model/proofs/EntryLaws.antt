@@ -74,22 +74,22 @@ module _ (st : State) (a : Args) where
   unfolding after plan planOf checks unmarked
   check-empties-evicted e = rw e
 
--- How the send clock may go on: it stays, or rule 2 sends, or picking resets the count before rule 2 sends.
-pub data SendClockAfter (settings : Settings) (clock : ℕ) (old : SendClock) : SendClock → Type 0 where
-  stays : SendClockAfter settings clock old old
-  sends : SendClockAfter settings clock old (sendSyncInfo settings clock old)
-  picked : SendClockAfter settings clock old (sendSyncInfo settings clock (resetSends old))
+-- How the send clock may go on in a step: it stays, or rule 2 sends, or a pick resets the count before rule 2 sends.
+pub data SendClockAfter (settings : Settings) (clock : ℕ) (old : SendClock) : Step → SendClock → Type 0 where
+  stays : {step : Step} → SendClockAfter settings clock old step old
+  sends : {step : Step} → SendClockAfter settings clock old step (sendSyncInfo settings clock old)
+  picked : SendClockAfter settings clock old Steps.pick (sendSyncInfo settings clock (resetSends old))
 
 module _ (st : State) (a : Args) where
-  abbrev Goes : Plan → Type 0
-  Goes p = SendClockAfter (st .settings) (a .clock) (st .sync .sendClock) (p .sync .sendClock)
+  abbrev Goes : Step → Plan → Type 0
+  Goes step p = SendClockAfter (st .settings) (a .clock) (st .sync .sendClock) step (p .sync .sendClock)
 
-  goes-picks : (peer : Option ℕ) → Goes (picks st a peer)
+  goes-picks : (peer : Option ℕ) → Goes Steps.pick (picks st a peer)
   unfolding picks entersSyncing unmarked
   goes-picks none = stays
   goes-picks (some peer) = picked
 
-  goes-answers : (peer : ℕ) (acts : List Act) (tip : ℕ) (outcome : Outcome) → Goes (answers st a peer acts tip outcome)
+  goes-answers : {step : Step} (peer : ℕ) (acts : List Act) (tip : ℕ) (outcome : Outcome) → Goes step (answers st a peer acts tip outcome)
   unfolding answers entersSyncing isAtTip continues unmarked sent
   goes-answers peer acts tip Continue = sends
   goes-answers peer acts tip Synced = stays
@@ -98,40 +98,40 @@ module _ (st : State) (a : Args) where
   goes-answers peer acts tip Stalled = stays
   goes-answers peer acts tip EndOfStream = stays
 
-  goes-announced : (peer typeId : ℕ) (ids : List Id) → Goes (hearsAnnounced st a peer typeId ids)
+  goes-announced : {step : Step} (peer typeId : ℕ) (ids : List Id) → Goes step (hearsAnnounced st a peer typeId ids)
   unfolding hearsAnnounced isAtTip continues unmarked
   goes-announced peer typeId [] = go (eqb typeId headerType)
     where
-      go : (t : Bool) → Goes (cond t (isAtTip st a [] (st .sync .knownTip)) (continues st a []))
+      go : {step : Step} (t : Bool) → Goes step (cond t (isAtTip st a [] (st .sync .knownTip)) (continues st a []))
       go true = stays
       go false = stays
   goes-announced peer typeId (id ∷ ids) = stays
 
-  goes-loses : (peer : ℕ) → Goes (loses st a peer)
+  goes-loses : {step : Step} (peer : ℕ) → Goes step (loses st a peer)
   unfolding loses leaves continues withoutPeer unmarked
   goes-loses peer = go (eqb peer (st .sync .syncPeer)) (cond (isMode (st .mode) syncing) (askOrphans st a peer (firstOf (a .peers))) [])
     where
-      go : (t : Bool) (acts : List Act) → Goes (cond t (leaves st a SyncPeerGone seeking acts) (continues st a []))
+      go : {step : Step} (t : Bool) (acts : List Act) → Goes step (cond t (leaves st a SyncPeerGone seeking acts) (continues st a []))
       go true acts = stays
       go false acts = stays
 
-  goes-ticks : (isSyncing late : Bool) (peer : Option ℕ) → Goes (cond isSyncing (ticksSyncing st a late) (ticksSynced st a peer))
+  goes-ticks : {step : Step} (isSyncing late : Bool) (peer : Option ℕ) → Goes step (cond isSyncing (ticksSyncing st a late) (ticksSynced st a peer))
   unfolding ticksSyncing ticksSynced leaves withoutPeer unmarked sent
   goes-ticks true true peer = sends
   goes-ticks true false peer = sends
   goes-ticks false late none = stays
   goes-ticks false late (some peer) = sends
 
-  goes-progresses : (isSyncing : Bool) → Goes (progresses st a isSyncing)
+  goes-progresses : {step : Step} (isSyncing : Bool) → Goes step (progresses st a isSyncing)
   unfolding progresses unmarked sent
   goes-progresses false = stays
   goes-progresses true = go (st .sync .progressUsed)
     where
-      go : (t : Bool) → SendClockAfter (st .settings) (a .clock) (st .sync .sendClock) (cond t (st .sync .sendClock) (sent st a))
+      go : {step : Step} (t : Bool) → SendClockAfter (st .settings) (a .clock) (st .sync .sendClock) step (cond t (st .sync .sendClock) (sent st a))
       go true = stays
       go false = sends
 
-  goes-plan : (step : Step) → Goes (planOf st a step)
+  goes-plan : (step : Step) → Goes step (planOf st a step)
   unfolding planOf advances advancesAndRequests checks evicts leaves continues withoutPeer unmarked hearsSyncInfo
   goes-plan Steps.start = stays
   goes-plan Steps.pick = goes-picks (selectPeer (st .sync .stalledPeers) (a .peers))
@@ -153,6 +153,6 @@ module _ (st : State) (a : Args) where
   goes-plan (Steps.evicted ids) = stays
 
   -- The send clock is "changed only by this rule and by picking".
-  pub after-send-clock : SendClockAfter (st .settings) (a .clock) (st .sync .sendClock) (after st a .sync .sendClock)
+  pub after-send-clock : SendClockAfter (st .settings) (a .clock) (st .sync .sendClock) (a .step) (after st a .sync .sendClock)
   unfolding after plan
   after-send-clock = goes-plan (a .step)
