@@ -34,10 +34,12 @@ use Rattle.model.proofs.Widths.{WellItem}
 use Rattle.model.proofs.SendingLaws.{retries-sent-well, sendings-bytes, retries-weight}
 use Rattle.requests.specs.Sent.{sentBytes}
 use Rattle.requests.proofs.RunLaws.{take-ids, drop-ids}
-use Rattle.delivery_check.specs.Checked.{itemOf}
-use Rattle.delivery_check.specs.declared.group.Batch as declared
-use Rattle.delivery_check.specs.Batches.{Asked, itemAt, itemsAt, idsAt, alike, span, batchAt, sendingsOf}
-use Rattle.delivery_check.proofs.RecordLaws.{entry-bytes, type-read, peer-read}
+use Rattle.batches.specs.Items.{itemOf, Asked, itemAt, itemsAt, alike, span}
+use Rattle.batches.specs.Batches.{batchAt}
+use Rattle.batches.specs.declared.Batch as declared
+use Rattle.batches.proofs.ItemLaws.{item-id, next-mapped, span-le}
+use Rattle.delivery_check.specs.Batches.{idsAt, sendingsOf}
+use Rattle.delivery_check.proofs.RecordLaws.{entry-bytes}
 
 -- ---- a list mapped, from an index on
 
@@ -50,9 +52,6 @@ pub take-map {ℓ κ} : {A : Type ℓ} {B : Type κ} (f : A → B) (i : ℕ) (xs
 take-map f zero xs = refl
 take-map f (suc i) [] = refl
 take-map f (suc i) (x ∷ xs) = ap (λ ys. f x ∷ ys) (take-map f i xs)
-
-pub next-mapped {κ} : {B : Type κ} (f : ℕ → B) (places : List ℕ) (i : ℕ) → i < length places → map f (drop i places) ≡ f (getD places i 0) ∷ map f (drop (i + 1) places)
-next-mapped f places i h = rw (add-one, drop-cons places i 0 h)
 
 -- ---- the first batch of some items
 
@@ -93,14 +92,6 @@ module _ (x : Item) (xs : List Item) where
   pub count-turn : length (sendingsOf (x ∷ xs)) ≡ suc (length (sendingsOf (behind x xs)))
   unfolding sendingsOf
   count-turn = rw (adjacent-turn x xs)
-
-pub span-le : (test : Item → Bool) (items : List Item) → span test items ≤ length items
-span-le test [] = omega arith
-span-le test (i ∷ items) = go (test i) (span-le test items)
-  where
-    go : (t : Bool) → span test items ≤ length items → cond t (suc (span test items)) 0 ≤ suc (length items)
-    go true h = omega arith
-    go false h = omega arith
 
 -- The writer at item i: `out` as it is, the next batch's number and place.
 pub record Sent (items : List Item) (batch at : ℕ) (d out : List ℕ) (place number i : ℕ) : Type 0 where
@@ -182,20 +173,8 @@ all-ids es w =
 -- ---- the records at the places
 
 module _ (t : List ℕ) where
-  pub item-id : (place : ℕ) → itemAt t place .id ≡ take 32 (drop (place * 54) t)
-  unfolding itemAt itemOf requestOf
-  item-id place = entry-front 54 place 32 t (omega arith)
-
-  pub item-type : (place : ℕ) → fromBe (take 2 (drop (place * 54 + 40) t)) ≡ itemAt t place .typeId
-  unfolding itemAt itemOf
-  item-type place = type-read place t
-
-  pub item-peer : (place : ℕ) → fromBe (take 8 (drop (place * 54 + 32) t)) ≡ itemAt t place .peer
-  unfolding itemAt itemOf
-  item-peer place = peer-read place t
-
   id-long : (place : ℕ) → place * 54 + 54 ≤ length t → length (itemAt t place .id) ≡ 32
-  id-long place h = ap length (item-id place) ∙ length-part (place * 54) 32 t (omega arith)
+  id-long place h = ap length (item-id t place) ∙ length-part (place * 54) 32 t (omega arith)
 
   pub ids-wide : (places : List ℕ) → All (Asked t) places → Wide 32 (idsAt t places)
   ids-wide [] w = tt
@@ -207,16 +186,6 @@ module _ (t : List ℕ) where
   ids-of-items : (places : List ℕ) → map (λ (i : Item). i .id) (itemsAt t places) ≡ idsAt t places
   ids-of-items [] = refl
   ids-of-items (place ∷ places) = ap (λ (ids : List Id). itemAt t place .id ∷ ids) (ids-of-items places)
-
-  pub same-batch : (p q p′ q′ a b c d : ℕ) → p′ ≡ p → q′ ≡ q → a ≡ fromBe (take 2 (drop (p′ * 54 + 40) t)) → b ≡ fromBe (take 2 (drop (q′ * 54 + 40) t))
-      → c ≡ fromBe (take 8 (drop (p′ * 54 + 32) t)) → d ≡ fromBe (take 8 (drop (q′ * 54 + 32) t)) → eqb a b && eqb c d ≡ alike (itemAt t p) (itemAt t q)
-  unfolding alike
-  same-batch p q p′ q′ a b c d ep eq ea eb ec ed =
-      let fa : a ≡ itemAt t p .typeId = ea ∙ rw ep (item-type p) in
-      let fb : b ≡ itemAt t q .typeId = eb ∙ rw eq (item-type q) in
-      let fc : c ≡ itemAt t p .peer = ec ∙ rw ep (item-peer p) in
-      let fd : d ≡ itemAt t q .peer = ed ∙ rw eq (item-peer q) in
-      rw (fa, fb, fc, fd)
 
   pub next-item : (places : List ℕ) (i : ℕ) → i < length places → drop i (itemsAt t places) ≡ itemAt t (getD places i 0) ∷ itemsAt t (drop (i + 1) places)
   next-item places i h = drop-map (itemAt t) i places ∙ next-mapped (itemAt t) places i h
@@ -334,77 +303,3 @@ asked-both t (place ∷ places) a b = ((a .0, b .0), asked-both t places (a .1) 
 pub items-plain : (t places : List ℕ) → itemsAt t places ≡ map (λ (place : ℕ). itemOf (requestOf (entry recordSize place t))) places
 unfolding itemAt
 items-plain t places = refl
-
--- ---- the end of a batch
-
-module _ (t : List ℕ) (x : Item) (places : List ℕ) (j : ℕ) where
-  pub span-more : j < length places → alike x (itemAt t (getD places j 0)) ≡ true → span (alike x) (itemsAt t (drop j places)) ≡ suc (span (alike x) (itemsAt t (drop (j + 1) places)))
-  span-more h e = rw (next-mapped (itemAt t) places j h, e)
-
-  pub span-stop : j < length places → alike x (itemAt t (getD places j 0)) ≡ false → span (alike x) (itemsAt t (drop j places)) ≡ 0
-  span-stop h e = rw (next-mapped (itemAt t) places j h, e)
-
-  pub span-end : length places ≤ j → span (alike x) (itemsAt t (drop j places)) ≡ 0
-  span-end h = rw (drop-of-length-le places {i = j} h)
-
--- ---- one batch by value
-
-pub batch-as : (t places : List ℕ) (first place target typeid end : ℕ) → place ≡ getD places first 0
-    → target ≡ fromBe (take 8 (drop (place * 54 + 32) t)) → typeid ≡ fromBe (take 2 (drop (place * 54 + 40) t))
-    → end ≡ first + suc (span (alike (itemAt t (getD places first 0))) (itemsAt t (drop (first + 1) places)))
-    → (target ≡ batchAt t places first .target) × ((typeid ≡ batchAt t places first .typeid) × (end - first ≡ batchAt t places first .count))
-unfolding batchAt
-batch-as t places first place target typeid end e a b c =
-    (a ∙ rw e (item-peer t (getD places first 0)), (b ∙ rw e (item-type t (getD places first 0)), omega arith))
-
-module _ (t places ids : List ℕ) (batch at : ℕ) (d out : List ℕ) (place number i : ℕ) (s : Sent (itemsAt t places) batch at d out place number i) (w : All (Asked t) places)
-    (e : ids ≡ joined (idsAt t places)) (room : at + length (sentBytes batch (sendingsOf (itemsAt t places))) ≤ length d) (h : i < length places)
-    (r : declared.Batch) (q : r ≡ batchAt t places i) where
-  here : drop i (itemsAt t places) ≡ itemAt t (getD places i 0) ∷ itemsAt t (drop (i + 1) places)
-  here = next-item t places i h
-
-  count-is : r .count ≡ suc (span (alike (itemAt t (getD places i 0))) (itemsAt t (drop (i + 1) places)))
-  unfolding batchAt
-  count-is = ap (λ (b : declared.Batch). b .count) q
-
-  type-is : r .typeid ≡ itemAt t (getD places i 0) .typeId
-  unfolding batchAt
-  type-is = ap (λ (b : declared.Batch). b .typeid) q
-
-  target-is : r .target ≡ itemAt t (getD places i 0) .peer
-  unfolding batchAt
-  target-is = ap (λ (b : declared.Batch). b .target) q
-
-  pub one-more : 0 < r .count
-  one-more = omega (arith, count-is)
-
-  pub one-within : i + r .count ≤ length places
-  one-within =
-      omega (arith, batch-within (itemsAt t places) batch at d out place number i s room (itemAt t (getD places i 0)) (itemsAt t (drop (i + 1) places)) here (r .count) count-is, length-map places (itemAt t))
-
-  pub ids-length : length ids ≡ length places * 32
-  ids-length = ap length e ∙ length-ids t places w
-
-  module _ (part : List ℕ) (ep : part ≡ take (i * 32 + r .count * 32 - i * 32) (drop (i * 32) ids)) where
-    part-is : part ≡ take (r .count * 32) (drop (i * 32) ids)
-    part-is = let n : i * 32 + r .count * 32 - i * 32 ≡ r .count * 32 = omega arith in ep ∙ rw n
-
-    pub part-length : length part ≡ r .count * 32
-    part-length =
-        let l : length (drop (i * 32) ids) ≡ length ids - i * 32 = length-drop (i * 32) ids in
-        ap length part-is ∙ length-take-le (r .count * 32) (drop (i * 32) ids) (omega (arith, ids-length, one-within))
-
-    command-is : allCommandBytes (commandsOf number (request (r .typeid) (r .target) (idsIn part)))
-        ≡ allCommandBytes (commandsOf number (request (itemAt t (getD places i 0) .typeId) (itemAt t (getD places i 0) .peer) (ids-with (itemAt t (getD places i 0)) (itemsAt t (drop (i + 1) places)))))
-    command-is =
-        rw (type-is, target-is, part-is, batch-ids t places ids i (r .count) (itemAt t (getD places i 0)) (itemsAt t (drop (i + 1) places)) w e here count-is)
-
-    pub one-room : place + length (allCommandBytes (commandsOf number (request (r .typeid) (r .target) (idsIn part)))) ≤ length out
-    one-room =
-        rw command-is (batch-room (itemsAt t places) batch at d out place number i s room (itemAt t (getD places i 0)) (itemsAt t (drop (i + 1) places)) here (r .count) count-is)
-
-    pub one-sent : (o : List ℕ) (place′ : ℕ) → o ≡ overwritten place (allCommandBytes (commandsOf number (request (r .typeid) (r .target) (idsIn part)))) out
-        → place′ ≡ place + length (allCommandBytes (commandsOf number (request (r .typeid) (r .target) (idsIn part)))) → Sent (itemsAt t places) batch at d o place′ (number + 1) (i + r .count)
-    one-sent o place′ eo el =
-        sent-next (itemsAt t places) batch at d out place number i s room (itemAt t (getD places i 0)) (itemsAt t (drop (i + 1) places)) here (r .count) count-is o place′
-        (eo ∙ ap (λ (x : List ℕ). overwritten place x out) command-is) (el ∙ ap (λ (x : List ℕ). place + length x) command-is)

@@ -2,3 +2,4 @@ pub mod RetryLaws
 pub mod RecordLaws
 pub mod CheckLaws
 pub mod GroupLaws
+pub mod WritingLaws

@@ -21,19 +21,12 @@ use Rattle.model.specs.Settings.{Settings, expired, givenUp}
 use Rattle.model.specs.Delivery.{Request, waiting, retried, abandoned, forgotten, verdict, restarted}
 use Rattle.model.specs.Image.{recordSize, requestOf, requestBytes}
 use Rattle.model.proofs.RecordLaws.{bytes-of-request, length-request}
+use Rattle.batches.proofs.ItemLaws.{peer-read, type-read}
 use Rattle.delivery_check.specs.Turn.{restartedTo}
 
 -- ---- what is read
 
 module _ (i : ℕ) (t : List ℕ) where
-  pub peer-read : fromBe (take 8 (drop (i * 54 + 32) t)) ≡ requestOf (entry recordSize i t) .peer
-  unfolding requestOf
-  peer-read = ap fromBe (sym (entry-field 54 i 32 8 t (omega arith)))
-
-  pub type-read : fromBe (take 2 (drop (i * 54 + 40) t)) ≡ requestOf (entry recordSize i t) .typeId
-  unfolding requestOf
-  type-read = ap fromBe (sym (entry-field 54 i 40 2 t (omega arith)))
-
   pub stamp-read : fromBe (take 8 (drop (i * 54 + 42) t)) ≡ requestOf (entry recordSize i t) .stamp
   unfolding requestOf
   stamp-read = ap fromBe (sym (entry-field 54 i 42 8 t (omega arith)))

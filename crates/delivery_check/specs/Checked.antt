@@ -6,8 +6,8 @@ use lib.ListN.{length}
 use lib.Dec.{eqb}
 use Rattle.model.specs.Settings.{Settings}
 use Rattle.model.specs.Delivery.{Request, Verdict, waiting, retried, abandoned, forgotten, verdict, judged, checkTimeouts}
-use Rattle.model.specs.Sections.{Item}
 use Rattle.model.specs.Check.{retries, markAllRetried}
+pub use Rattle.batches.specs.Items.{itemOf}
 use Rattle.delivery_check.specs.declared.check.Aim.{Aim}
 use Rattle.delivery_check.specs.declared.check.Aim.the-variants.{Same, Other}
 use Rattle.delivery_check.specs.declared.check.Checked.{Checked}
@@ -42,7 +42,3 @@ placedAfter forgotten place others = others place
 abbrev pub retriedPlaces : Settings → ℕ → List Request → ℕ → List ℕ
 retriedPlaces settings clock [] place = []
 retriedPlaces settings clock (r ∷ pending) place = placedAfter (verdict settings clock r) place (retriedPlaces settings clock pending)
-
--- a pending request as an item to ask its peer for
-unfoldable pub itemOf : Request → Item
-itemOf r = record { id = r .id; typeId = r .typeId; peer = r .peer }

@@ -1,8 +1,8 @@
 // The retries in batches by target, then type.
 ghost use mathlib.Core.Path.{_≡_};
 ghost use mathlib.Core.List.{map};
-ghost use Prim.Native.Nat.{ℕ, suc, _+_, _*_, _≤_, _<_};
-ghost use lib.ListN.{length, drop, getD};
+ghost use Prim.Native.Nat.{ℕ, _+_, _*_, _≤_, _<_};
+ghost use lib.ListN.{length};
 ghost use Rattle.fields.specs.Facts.{All};
 ghost use Rattle.fields.specs.Entries.{entry, joined};
 ghost use Rattle.fields.specs.Overwrite.{overwritten};
@@ -10,25 +10,12 @@ ghost use Rattle.model.specs.Image.{requestOf, recordSize};
 ghost use Rattle.model.specs.Check.{retrySendings};
 ghost use Rattle.requests.specs.Sent.{sentBytes};
 ghost use Rattle.delivery_check.specs.Checked.{itemOf};
-ghost use Rattle.delivery_check.specs.Batches.{Asked, itemAt, itemsAt, idsAt, alike, span, batchAt, sendingsOf};
-
-// "each a target, a type, a first place and a count"
-pub struct Batch {
-    pub target: u64,
-    pub typeid: u8,
-    pub first: usize,
-    pub count: usize,
-}
+ghost use Rattle.batches.specs.Items.{Asked, itemsAt};
+ghost use Rattle.delivery_check.specs.Batches.{idsAt, sendingsOf};
 
 pub struct Written {
     pub at: usize,
     pub batch: u16,
-}
-
-fn wide(x: u16) -> usize
-    ensures { λ r. ⌜ r ≡ x ⌝ }
-{
-    x as usize
 }
 
 // The ids of the records at `places`, one after another.
@@ -38,51 +25,10 @@ fn gather(table: &[u8], places: &[u16], ids: &mut [u8])
 {
     let mut i = 0;
     while i < places.len() {
-        let from = wide(places[i]) * 54;
+        let from = batches::wide(places[i]) * 54;
         let end = from + 32;
         moving::overwrite(ids, i * 32, &table[from..end]);
         i += 1;
-    }
-}
-
-// Whether the records at two places go into one batch.
-fn same_batch(table: &[u8], one: u16, other: u16) -> bool
-    requires { ⌜ (one * 54 + 54 ≤ length (now table)) × (other * 54 + 54 ≤ length (now table)) ⌝ }
-    ensures { λ r. ⌜ r ≡ alike (itemAt (now (table .entry)) one) (itemAt (now (table .entry)) other) ⌝ }
-{
-    let a = wide(one) * 54;
-    let b = wide(other) * 54;
-    (fields::read_u16(table, a + 40) == fields::read_u16(table, b + 40))
-        & (fields::read_u64(table, a + 32) == fields::read_u64(table, b + 32))
-}
-
-// Where the batch that starts at `first` ends.
-fn batch_end(table: &[u8], places: &[u16], first: usize) -> usize
-    requires { ⌜ All (Asked (now table)) (now places) × (first < length (now places)) ⌝ }
-    ensures { λ r. ⌜ r ≡ first + suc (span (alike (itemAt (now (table .entry)) (getD (now (places .entry)) first 0))) (itemsAt (now (table .entry)) (drop (first + 1) (now (places .entry))))) ⌝ }
-{
-    let mut end = first + 1;
-    while end < places.len() {
-        if !same_batch(table, places[first], places[end]) {
-            return end;
-        }
-        end += 1;
-    }
-    end
-}
-
-// The batch that starts at `first`.
-pub fn next_batch(table: &[u8], places: &[u16], first: usize) -> Batch
-    requires { ⌜ All (Asked (now table)) (now places) × (first < length (now places)) ⌝ }
-    ensures { λ r. ⌜ r ≡ batchAt (now (table .entry)) (now (places .entry)) first ⌝ }
-{
-    let end = batch_end(table, places, first);
-    let at = wide(places[first]) * 54;
-    Batch {
-        target: fields::read_u64(table, at + 32),
-        typeid: fields::read_u16(table, at + 40) as u8,
-        first,
-        count: end - first,
     }
 }
 
@@ -101,14 +47,16 @@ fn put_batches(
     ensures { λ r. ⌜ r .at ≡ at + length (sentBytes batch (sendingsOf (itemsAt (now (table .entry)) (now (places .entry))))) ⌝ }
     ensures { λ r. ⌜ r .batch ≡ batch + length (sendingsOf (itemsAt (now (table .entry)) (now (places .entry)))) ⌝ }
 {
+    let grouped = batches::grouped(batches::no_batches(), table, places);
+    let list = grouped.list;
+    let count = grouped.count;
     let mut place = at;
     let mut number = batch;
     let mut i = 0;
-    while i < places.len() {
-        let one = next_batch(table, places, i);
-        let count = one.count;
-        let from = i * 32;
-        let end = from + count * 32;
+    while i < count {
+        let one = list[i];
+        let from = one.first * 32;
+        let end = from + one.count * 32;
         place = requests::commands::put_requests(
             out,
             place,
@@ -118,7 +66,7 @@ fn put_batches(
             &ids[from..end],
         );
         number += 1;
-        i += count;
+        i += 1;
     }
     Written {
         at: place,

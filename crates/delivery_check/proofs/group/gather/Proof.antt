@@ -1,6 +1,6 @@
 -- The loop: ids written, then those of the places left, are the whole (`Gathering`).
 use Rattle.fields.proofs.AllLaws.{all-at}
-use Rattle.delivery_check.specs.Batches.{Asked}
+use Rattle.batches.specs.Items.{Asked}
 use Rattle.delivery_check.proofs.GroupLaws.{Gathering, gather-starts, gather-turn, gather-ends}
 use borrow.Author.Needs.{needs}
 use native.Mathlib.Omega.{arith}

@@ -1,97 +1,109 @@
--- The loop: what is written, then the batches of the items left, is the whole (`Sent`).
-use lib.ListN.{length-map}
-use Rattle.delivery_check.specs.Batches.{itemAt, itemsAt}
-use Rattle.delivery_check.proofs.GroupLaws.{Sent, sent-starts, sent-ends, one-more, one-within, ids-length, part-length, one-room, one-sent}
+-- The loop: what is written, then the batches of the list from i on, is the whole (`Writing`); a turn writes batch i (`Turn`).
 use borrow.Author.Needs.{needs}
 use native.Mathlib.Omega.{arith}
-use Prim.Native.Nat.{_+_, _-_, _*_}
-use mathlib.Core.Path.{refl}
-use lib.ListN.{length, take, drop}
+use Prim.Native.Nat.{_+_, _-_, _*_, _<_}
+use mathlib.Core.Path.{_≡_, refl}
+use lib.ListN.{length, take, drop, getD}
+use Rattle.batches.specs.Batches.{batchesIn}
+use Rattle.batches.specs.declared.Batch.{Batch}
+use Rattle.delivery_check.proofs.WritingLaws.{Writing, Turn, writing-starts, writing-ends, turn}
 use Rattle.delivery_check.proofs.group.put_batches.Statement.{statement}
 use Rattle.delivery_check.proofs.group.put_batches.Tie as tie
 
 abbrev Inv-loop : tie.InvT-loop
-Inv-loop table places ids out₀ at batch place₀ number₀ i₀ out place number i = Sent (itemsAt table places) batch at out₀ out place number i
+Inv-loop table places ids out₀ at batch list count place₀ number₀ i₀ out place number i = Writing table places batch at out₀ out place number i
 
 abbrev μ-loop : tie.MeasureT-loop
-μ-loop table places ids out₀ at batch place₀ number₀ i₀ out place number i = length places - i
+μ-loop table places ids out₀ at batch list count place₀ number₀ i₀ out place number i = count - i
+
+-- what reading the list past its end would give
+abbrev nobody : Batch
+nobody = record { target = 0; typeid = 0; first = 0; count = 0 }
+
+abbrev batch-read : (c : tie.In-loop Inv-loop μ-loop) → Batch
+batch-read c = getD (c .before .before .before .grouped .result .list) (c .before .loop .i) nobody
+
+-- the turn that is begun at c
+this-turn : (c : tie.In-loop Inv-loop μ-loop) → let a = c .before .before .before .before .before .before .before .before .before .args in let l = c .before .loop in
+    Turn (a .table .now) (a .places .now) (a .ids .now) (a .batch) (a .at) (a .out .now) (l .out) (l .place) (l .number) (l .i) (batch-read c)
+this-turn c = let s = c .before .before .before .before .before .before .before .before .before in
+    let a = s .args in
+    let l = c .before .loop in
+    let g = c .before .before .before .grouped in
+    let h : l .i < length (batchesIn (a .table .now) (a .places .now)) = omega (arith, g .ensures .1 .0, c .loop-test .taken) in
+    turn (a .table .now) (a .places .now) (a .batch) (a .at) (a .out .now) (l .out) (l .place) (l .number) (l .i) (l .inv) h (g .result .list) (c .before .before .before .before .no-batches .result) (g .ensures .0) nobody (batch-read c) refl
+    (a .ids .now) (s .pre .0 .0) (s .pre .0 .1 .0) (s .pre .1 .0)
+
+no-batches-requires : tie.Need-no-batches-requires Inv-loop μ-loop
+no-batches-requires c κs = tt
+
+grouped-requires : tie.Need-grouped-requires Inv-loop μ-loop
+grouped-requires c κs = let s = c .before .before .before .before .before in (s .pre .0 .0, s .pre .0 .1 .1)
 
 loop-holds : tie.Need-loop-holds Inv-loop μ-loop
-loop-holds c = let s = c .before .before .before .before .args in sent-starts (itemsAt (s .table .now) (s .places .now)) (s .batch) (s .at) (s .out .now)
+loop-holds c = let a = c .before .before .before .before .before .before .before .args in writing-starts (a .table .now) (a .places .now) (a .batch) (a .at) (a .out .now)
 
-next-batch-requires : tie.Need-next-batch-requires Inv-loop μ-loop
-next-batch-requires c κs = (c .before .before .before .before .before .before .pre .0 .0, c .loop-test .taken)
+mul-one : tie.Need-mul-one Inv-loop μ-loop
+mul-one c = let s = c .before .before .before .before .before .before .before .before .before in omega (arith, c .loop-test .taken, c .before .before .before .grouped .ensures .1 .1, s .pre .0 .1 .1)
+
+array-copy-out-one : tie.Need-array-copy-out-one Inv-loop μ-loop
+array-copy-out-one c = let s = c .before .before .before .before .before .before .before .before .before in omega (arith, c .loop-test .taken, c .before .before .before .grouped .ensures .1 .1, s .pre .0 .1 .1)
 
 mul-from : tie.Need-mul-from Inv-loop μ-loop
-mul-from c = search needs
+mul-from c = let s = c .before .before .before .before .before .before .before .before .before .before .before in omega (arith, this-turn (c .before .before) .within, s .pre .0 .1 .1)
 
 mul-end : tie.Need-mul-end Inv-loop μ-loop
-mul-end c = let s = c .before .before .before .before .before .before .before in
-    let a = s .args in
-    let l = c .before .before .loop in
-    let one = c .next-batch in
-    omega (arith, one-within (a .table .now) (a .places .now) (a .ids .now) (a .batch) (a .at) (a .out .now) (l .out) (l .place) (l .number) (l .i) (l .inv) (s .pre .0 .0) (s .pre .0 .1 .0) (s .pre .1 .0) (c .before .loop-test .taken) (one .result) (one .ensures), s .pre .0 .1 .1)
+mul-end c = let s = c .before .before .before .before .before .before .before .before .before .before .before .before in omega (arith, this-turn (c .before .before .before) .within, s .pre .0 .1 .1)
 
 add-end : tie.Need-add-end Inv-loop μ-loop
-add-end c = let s = c .before .before .before .before .before .before .before in
-    let a = s .args in
-    let l = c .before .before .loop in
-    let one = c .next-batch in
-    omega (arith, one-within (a .table .now) (a .places .now) (a .ids .now) (a .batch) (a .at) (a .out .now) (l .out) (l .place) (l .number) (l .i) (l .inv) (s .pre .0 .0) (s .pre .0 .1 .0) (s .pre .1 .0) (c .before .loop-test .taken) (one .result) (one .ensures), s .pre .0 .1 .1)
+add-end c = let s = c .before .before .before .before .before .before .before .before .before .before .before .before in omega (arith, this-turn (c .before .before .before) .within, s .pre .0 .1 .1)
 
 sub-put-requests : tie.Need-sub-put-requests Inv-loop μ-loop
-sub-put-requests c = search needs
+sub-put-requests c = omega arith
 
 part-put-requests-start : tie.Need-part-put-requests-start Inv-loop μ-loop
-part-put-requests-start c = search needs
+part-put-requests-start c = omega arith
 
 part-put-requests-end : tie.Need-part-put-requests-end Inv-loop μ-loop
-part-put-requests-end c = let s = c .before .before .before .before .before .before .before .before in
-    let a = s .args in
-    let l = c .before .before .before .loop in
-    let one = c .before .next-batch in
-    omega (arith, one-within (a .table .now) (a .places .now) (a .ids .now) (a .batch) (a .at) (a .out .now) (l .out) (l .place) (l .number) (l .i) (l .inv) (s .pre .0 .0) (s .pre .0 .1 .0) (s .pre .1 .0) (c .before .before .loop-test .taken) (one .result) (one .ensures), ids-length (a .table .now) (a .places .now) (a .ids .now) (a .batch) (a .at) (a .out .now) (l .out) (l .place) (l .number) (l .i) (l .inv) (s .pre .0 .0) (s .pre .0 .1 .0) (s .pre .1 .0) (c .before .before .loop-test .taken) (one .result) (one .ensures))
+part-put-requests-end c = let k = this-turn (c .before .before .before .before) in omega (arith, k .within, k .ids-long)
 
 put-requests-requires : tie.Need-put-requests-requires Inv-loop μ-loop
-put-requests-requires c κs = let s = c .before .before .before .before .before .before .before .before .before in
-    let a = s .args in
-    let l = c .before .before .before .before .loop in
-    let one = c .before .before .next-batch in
-    let n = part-length (a .table .now) (a .places .now) (a .ids .now) (a .batch) (a .at) (a .out .now) (l .out) (l .place) (l .number) (l .i) (l .inv) (s .pre .0 .0) (s .pre .0 .1 .0) (s .pre .1 .0) (c .before .before .before .loop-test .taken) (one .result) (one .ensures) (take (l .i * 32 + one .result .count * 32 - l .i * 32) (drop (l .i * 32) (a .ids .now))) refl in
-    (omega (arith, n), (omega (arith, n, one-within (a .table .now) (a .places .now) (a .ids .now) (a .batch) (a .at) (a .out .now) (l .out) (l .place) (l .number) (l .i) (l .inv) (s .pre .0 .0) (s .pre .0 .1 .0) (s .pre .1 .0) (c .before .before .before .loop-test .taken) (one .result) (one .ensures), s .pre .0 .1 .1), one-room (a .table .now) (a .places .now) (a .ids .now) (a .batch) (a .at) (a .out .now) (l .out) (l .place) (l .number) (l .i) (l .inv) (s .pre .0 .0) (s .pre .0 .1 .0) (s .pre .1 .0) (c .before .before .before .loop-test .taken) (one .result) (one .ensures) (take (l .i * 32 + one .result .count * 32 - l .i * 32) (drop (l .i * 32) (a .ids .now))) refl))
+put-requests-requires c κs = let t = c .before .before .before .before .before in
+    let s = t .before .before .before .before .before .before .before .before .before in
+    let k = this-turn t in
+    let one = batch-read t in
+    let part = take (one .first * 32 + one .count * 32 - one .first * 32) (drop (one .first * 32) (s .args .ids .now)) in
+    (omega (arith, k .part-long part refl), (omega (arith, k .part-long part refl, k .within, s .pre .0 .1 .1), k .fits part refl))
 
 add-number : tie.Need-add-number Inv-loop μ-loop
-add-number c = let l = c .before .before .before .before .before .before .before .loop in let s = c .before .before .before .before .before .before .before .before .before .before .before .before in omega (arith, l .inv .number-le, c .before .before .before .before .before .before .loop-test .taken, s .pre .1 .1)
+add-number c = let t = c .before .before .before .before .before .before .before .before in
+    let s = t .before .before .before .before .before .before .before .before .before in
+    omega (arith, this-turn t .number-below, s .pre .1 .1)
 
 add-i : tie.Need-add-i Inv-loop μ-loop
-add-i c = let s = c .before .before .before .before .before .before .before .before .before .before .before .before in
-    let a = s .args in
-    let l = c .before .before .before .before .before .before .before .loop in
-    let one = c .before .before .before .before .before .next-batch in
-    omega (arith, one-within (a .table .now) (a .places .now) (a .ids .now) (a .batch) (a .at) (a .out .now) (l .out) (l .place) (l .number) (l .i) (l .inv) (s .pre .0 .0) (s .pre .0 .1 .0) (s .pre .1 .0) (c .before .before .before .before .before .before .loop-test .taken) (one .result) (one .ensures), s .pre .0 .1 .1)
+add-i c = let t = c .before .before .before .before .before .before .before .before in
+    let s = t .before .before .before .before .before .before .before .before .before in
+    omega (arith, t .loop-test .taken, t .before .before .before .grouped .ensures .1 .1, s .pre .0 .1 .1)
 
 loop-less : tie.Need-loop-less Inv-loop μ-loop
-loop-less c = let s = c .before .before .before .before .before .before .before .before .before .before .before .before in
-    let a = s .args in
-    let l = c .before .before .before .before .before .before .before .loop in
-    let one = c .before .before .before .before .before .next-batch in
-    omega (arith, one-more (a .table .now) (a .places .now) (a .ids .now) (a .batch) (a .at) (a .out .now) (l .out) (l .place) (l .number) (l .i) (l .inv) (s .pre .0 .0) (s .pre .0 .1 .0) (s .pre .1 .0) (c .before .before .before .before .before .before .loop-test .taken) (one .result) (one .ensures), c .before .before .before .before .before .before .loop-test .taken)
+loop-less c = let t = c .before .before .before .before .before .before .before .before in omega (arith, t .loop-test .taken)
 
 loop-again : tie.Need-loop-again Inv-loop μ-loop
-loop-again c = let s = c .before .before .before .before .before .before .before .before .before .before .before .before in
-    let a = s .args in
-    let l = c .before .before .before .before .before .before .before .loop in
-    let one = c .before .before .before .before .before .next-batch in
-    one-sent (a .table .now) (a .places .now) (a .ids .now) (a .batch) (a .at) (a .out .now) (l .out) (l .place) (l .number) (l .i) (l .inv) (s .pre .0 .0) (s .pre .0 .1 .0) (s .pre .1 .0) (c .before .before .before .before .before .before .loop-test .taken) (one .result) (one .ensures) (take (l .i * 32 + one .result .count * 32 - l .i * 32) (drop (l .i * 32) (a .ids .now))) refl (c .before .before .put-requests .last .0) (c .before .before .put-requests .result) (c .before .before .put-requests .ensures .0) (c .before .before .put-requests .ensures .1)
+loop-again c = let t = c .before .before .before .before .before .before .before .before in
+    let s = t .before .before .before .before .before .before .before .before .before in
+    let one = batch-read t in
+    let part = take (one .first * 32 + one .count * 32 - one .first * 32) (drop (one .first * 32) (s .args .ids .now)) in
+    let put = c .before .before .put-requests in
+    this-turn t .next part refl (put .last .0) (put .result) (put .ensures .0) (put .ensures .1)
 
 same-length : tie.Need-same-length Inv-loop μ-loop
-same-length c = c .before .loop .inv .long
+same-length c = c .before .loop .inv .sent .long
 
 returns : tie.Need-returns Inv-loop μ-loop
-returns c = let s = c .before .before .before .before .before .before .args in
+returns c = let a = c .before .before .before .before .before .before .before .before .before .args in
     let l = c .before .loop in
-    let e = sent-ends (itemsAt (s .table .now) (s .places .now)) (s .batch) (s .at) (s .out .now) (l .out) (l .place) (l .number) (l .i) (l .inv) (rw (length-map (s .places .now) (itemAt (s .table .now))) (c .loop-test .left)) in
-    (e .0, (e .1 .0, e .1 .1))
+    let g = c .before .before .before .grouped in
+    writing-ends (a .table .now) (a .places .now) (a .batch) (a .at) (a .out .now) (l .out) (l .place) (l .number) (l .i) (l .inv) (omega (arith, g .ensures .1 .0, c .loop-test .left))
 
 pub put-batches-spec : {M : Type 1} → statement M
 put-batches-spec =
@@ -99,8 +111,11 @@ put-batches-spec =
     (tie.spec
     Inv-loop
     μ-loop
+    no-batches-requires
+    grouped-requires
     loop-holds
-    next-batch-requires
+    mul-one
+    array-copy-out-one
     mul-from
     mul-end
     add-end

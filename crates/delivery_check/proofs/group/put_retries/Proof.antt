@@ -8,7 +8,8 @@ use Rattle.model.specs.Requests.{Sending}
 use Rattle.model.specs.Check.{retrySendings}
 use Rattle.requests.specs.Sent.{sentBytes}
 use Rattle.delivery_check.specs.Checked.{itemOf}
-use Rattle.delivery_check.specs.Batches.{itemsAt, sendingsOf}
+use Rattle.batches.specs.Items.{itemsAt}
+use Rattle.delivery_check.specs.Batches.{sendingsOf}
 use Rattle.delivery_check.proofs.GroupLaws.{asked-both, items-plain, sorted-asked, sorted-length, sorted-sendings, sorted-room}
 use borrow.Author.Needs.{needs}
 use native.Mathlib.Omega.{arith}
