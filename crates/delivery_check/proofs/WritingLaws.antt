@@ -162,11 +162,11 @@ module _ (t places : List ℕ) (batch at : ℕ) (d out : List ℕ) (place number
             part-long = part-length t places ids batch at d out place number (w .f) (w .sent) asked e room place-within r batch-is;
             fits = one-room t places ids batch at d out place number (w .f) (w .sent) asked e room place-within r batch-is;
             next = λ part ep o place′ eo el′.
-              record {
-                f = w .f + r .count;
-                u = w .u - 1;
-                enough = next-enough;
-                rest = next-rest;
-                sent = one-sent t places ids batch at d out place number (w .f) (w .sent) asked e room place-within r batch-is part ep o place′ eo el′;
-              };
+                record {
+                  f = w .f + r .count;
+                  u = w .u - 1;
+                  enough = next-enough;
+                  rest = next-rest;
+                  sent = one-sent t places ids batch at d out place number (w .f) (w .sent) asked e room place-within r batch-is part ep o place′ eo el′;
+                };
           }
