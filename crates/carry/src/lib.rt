@@ -3,8 +3,7 @@
 // It costs the announcement's bytes and the work.
 ghost use mathlib.Core.Path.{_≡_};
 ghost use mathlib.Core.Bool.{true};
-ghost use mathlib.Core.List.{List};
-ghost use Prim.Native.Nat.{ℕ, _+_, _%_, _≤_};
+ghost use Prim.Native.Nat.{_+_, _%_, _≤_};
 ghost use lib.ListN.{length};
 ghost use Rattle.fields.specs.Overwrite.{overwritten};
 ghost use Rattle.model.specs.State.{State};

@@ -91,7 +91,7 @@ module _ (st : State) (c : calls.Call) (p : Plan) where
   fresh-few : cond (isCheckBy (p .work)) (length (st .sync .evicted)) 0 ≤ length (st .sync .evicted)
   fresh-few = either (λ (n : ℕ). n ≤ length (st .sync .evicted)) (isCheckBy (p .work)) (length (st .sync .evicted)) 0 (omega arith) (omega arith)
 
-abbrev pub Few : Counts → Type 0
+abbrev Few : Counts → Type 0
 Few counts = (counts .pending ≤ 1024) × ((counts .evicted ≤ 1024) × ((counts .retried ≤ 1024) × ((counts .fresh ≤ 1024) × ((counts .abandoned ≤ 1024) × (counts .forgotten ≤ 1024)))))
 
 stalled-then : (st : State) (c : calls.Call) (s : Stalling) (peers : List ℕ) → st .sync .stalledPeers ≡ peers → stalledThen s peers ≡ stalledBy st c s
@@ -148,7 +148,7 @@ module _ (area commands : List ℕ) (c : calls.Call) (p : Plan) (g : givenRefusa
         counts-are : counts ≡ record { pending = length (w .pending); evicted = length (w .evicted); retried = w .retried; fresh = w .fresh; abandoned = w .abandoned; forgotten = w .forgotten; at = 0 + length (sentBytes 0 (w .sendings)); batch = 0 + length (w .sendings) }
         counts-are = done-fits 0 0 w counts d .1
 
-        pub counts-few : Few counts
+        counts-few : Few counts
         unfolding fits carriedBy workedBy
         counts-few =
             let t : length (old .pending) + length (old .sync .evicted) ≤ 1024 = well .tracked in
@@ -167,7 +167,7 @@ module _ (area commands : List ℕ) (c : calls.Call) (p : Plan) (g : givenRefusa
         end-is : counts .at + length (sentBytes (counts .batch) (said (listedPeer (p .says)))) ≡ length (stepBytes old (argsOf c))
         end-is = rw (bytes-are, length-append (sentBytes 0 (w .sendings)), at-is)
 
-        pub place-few : counts .at ≤ 49152
+        place-few : counts .at ≤ 49152
         place-few = omega (arith, end-is, step-bytes-most old c well width not-refused-call)
 
         -- the stalled set before and after
@@ -175,12 +175,16 @@ module _ (area commands : List ℕ) (c : calls.Call) (p : Plan) (g : givenRefusa
         unfolding headOf
         stalled-before = ap (λ (x : Head). x .stalled) (head-decode area (given-facts .image))
 
-        pub room-stalled : (head : Head) → head ≡ headIn area → stalledCountThen (p .stalling) (head .stalled) ≤ 256
+        room-stalled : (head : Head) → head ≡ headIn area → stalledCountThen (p .stalling) (head .stalled) ≤ 256
         room-stalled head h =
             let n : stalledCountThen (p .stalling) (head .stalled) ≡ length (new .sync .stalledPeers) =
             count-then (p .stalling) (old .sync .stalledPeers) (head .stalled) (stalled-before ∙ sym (ap (λ (x : Head). x .stalled) h))
             ∙ ap length (stalled-then old c (p .stalling) (old .sync .stalledPeers) refl ∙ stalled-is old c p f) in
             omega (arith, stalled-count old c p f)
+
+        -- what finishing requires
+        pub finish-ready : (head : Head) → head ≡ headIn area → ((stalledCountThen (p .stalling) (head .stalled) ≤ 256) × (counts .at ≤ 49152)) × Few counts
+        finish-ready head h = ((room-stalled head h, place-few), counts-few)
 
         -- the image
         module _ (image : List ℕ) (front : take 2560 image ≡ take 2560 area) (back : drop 2560 image ≡ regionOf (w .pending) (w .evicted)) where

@@ -7,7 +7,7 @@ use Rattle.plans.specs.Plans.{callOf}
 use Rattle.finish.specs.Answers.{answerOf}
 use Rattle.carry.specs.Carried.{carriedBy}
 use Rattle.steps.proofs.EndLaws.{done-fits}
-use Rattle.steps.proofs.StepLaws.{too-many, too-stalled, room-stalled, place-few, counts-few, finishes}
+use Rattle.steps.proofs.StepLaws.{too-many, too-stalled, finish-ready, finishes}
 use Rattle.steps.proofs.WorkLaws.{front-kept, tail-put, its-continuation, in-width, area-long, commands-long, lists-whole, stored-fit, view-fits, work-tracked, work-given}
 use borrow.Author.Needs.{needs}
 use native.Mathlib.Omega.{arith}
@@ -63,7 +63,10 @@ slice-aggregate-finish : tie.Need-slice-aggregate-finish
 slice-aggregate-finish c = search needs
 
 finish-requires : tie.Need-finish-requires
-finish-requires c κs = let s = c .before .before .before .before .before .before .before .before .before .before .before .before .before .before .before .before .before .before .before .before .before .before .before .before .before .before .before in let a = s .args in ((area-long (a .call) (a .ids .now) (a .continuation .now) (a .stored .now) (a .peers .now) (a .view .now) (a .state .now) (a .commands .now) (s .pre .0), (same-len-mid 2560 (length (a .image .now) - 2560) (a .image .now) (c .before .before .before .before .before .before .before .before .before .before .before .before .before .before .before .carry-out .last .0) (c .before .before .before .before .before .before .before .before .before .before .before .before .before .before .before .carry-out .kept .0) ∙ ap length (s .pre .1 .0 .0) ∙ area-long (a .call) (a .ids .now) (a .continuation .now) (a .stored .now) (a .peers .now) (a .view .now) (a .state .now) (a .commands .now) (s .pre .0), (commands-long (a .call) (a .ids .now) (a .continuation .now) (a .stored .now) (a .peers .now) (a .view .now) (a .state .now) (a .commands .now) (s .pre .0), omega (arith, s .pre .1 .0 .1 .0, c .before .before .before .before .before .before .before .before .before .before .before .before .before .before .before .carry-out .kept .1 .0)))), ((refl, (room-stalled (a .state .now) (a .commands .now) (callOf (a .call) (a .ids .now) (a .continuation .now) (a .stored .now) (a .peers .now) (a .view .now)) (a .plan) (s .pre .0) (s .pre .1 .1 .0) (s .pre .1 .1 .1) (c .before .before .before .before .before .before .before .before .before .counts .given .0 .0) (sym (c .before .before .before .before .before .before .before .before .before .counts .given .1) ∙ (c .before .before .before .before .before .before .before .before .before .before .before .before .before .before .before .carry-out .ensures (decode (a .state .now)) (callOf (a .call) (a .ids .now) (a .continuation .now) (a .stored .now) (a .peers .now) (a .view .now)) (work-given (a .call) (a .ids .now) (a .continuation .now) (a .stored .now) (a .peers .now) (a .view .now) (a .state .now) (a .commands .now) (s .pre .0) (λ i. omega (arith, c .before .before .before .before .before .before .before .before .before .before .before .before .before .before .before .before .before .before .before .before .before .before .before .before .before .before .slice-known .given i)) (a .image .now) (a .head) (s .pre .1 .0 .0) (s .pre .1 .0 .1 .1)) (its-continuation (a .call) (a .ids .now) (a .continuation .now) (a .stored .now) (a .peers .now) (a .view .now))) .answered) (omega (arith, c .before .before .before .before .before .if1 .left)) (λ i. omega (arith, c .before .before .before .before .before .before .before .before .before .before .before .before .before .before .before .before .before .before .before .before .before .before .before .before .before .before .slice-known .given i)) (in-width (a .call) (a .ids .now) (a .continuation .now) (a .stored .now) (a .peers .now) (a .view .now) (omega (arith, s .good .1 .1 .1 .1 .1 .1 .0)) (omega (arith, s .good .1 .1 .1 .1 .1 .1 .0)) (omega (arith, s .good .1 .1 .1 .1 .1 .1 .0)) (omega (arith, s .good .1 .1 .1 .1 .1 .1 .0)) (omega (arith, s .good .1 .1 .1 .1 .1 .1 .0)) (omega (arith, s .good .1 .1 .1 .1 .1 .1 .0)) (λ i. omega (arith, c .before .before .before .before .before .before .before .before .before .before .before .before .before .before .before .before .before .before .before .before .before .before .shared-slice-known .given i)) (λ i. omega (arith, c .before .before .before .before .before .before .before .before .before .before .before .before .before .before .before .before .before .before .before .before .before .shared-slice-known2 .given i)) (λ i. omega (arith, c .before .before .before .before .before .before .before .before .before .before .before .before .before .before .before .before .before .before .before .before .shared-slice-known3 .given i)) (λ i. omega (arith, c .before .before .before .before .before .before .before .before .before .before .before .before .before .before .before .before .before .before .before .shared-slice-known4 .given i)) (λ i. omega (arith, c .before .before .before .before .before .before .before .before .before .before .before .before .before .before .before .before .before .before .shared-slice-known5 .given i))) (a .head) (s .pre .1 .0 .1 .1), place-few (a .state .now) (a .commands .now) (callOf (a .call) (a .ids .now) (a .continuation .now) (a .stored .now) (a .peers .now) (a .view .now)) (a .plan) (s .pre .0) (s .pre .1 .1 .0) (s .pre .1 .1 .1) (c .before .before .before .before .before .before .before .before .before .counts .given .0 .0) (sym (c .before .before .before .before .before .before .before .before .before .counts .given .1) ∙ (c .before .before .before .before .before .before .before .before .before .before .before .before .before .before .before .carry-out .ensures (decode (a .state .now)) (callOf (a .call) (a .ids .now) (a .continuation .now) (a .stored .now) (a .peers .now) (a .view .now)) (work-given (a .call) (a .ids .now) (a .continuation .now) (a .stored .now) (a .peers .now) (a .view .now) (a .state .now) (a .commands .now) (s .pre .0) (λ i. omega (arith, c .before .before .before .before .before .before .before .before .before .before .before .before .before .before .before .before .before .before .before .before .before .before .before .before .before .before .slice-known .given i)) (a .image .now) (a .head) (s .pre .1 .0 .0) (s .pre .1 .0 .1 .1)) (its-continuation (a .call) (a .ids .now) (a .continuation .now) (a .stored .now) (a .peers .now) (a .view .now))) .answered) (omega (arith, c .before .before .before .before .before .if1 .left)) (λ i. omega (arith, c .before .before .before .before .before .before .before .before .before .before .before .before .before .before .before .before .before .before .before .before .before .before .before .before .before .before .slice-known .given i)) (in-width (a .call) (a .ids .now) (a .continuation .now) (a .stored .now) (a .peers .now) (a .view .now) (omega (arith, s .good .1 .1 .1 .1 .1 .1 .0)) (omega (arith, s .good .1 .1 .1 .1 .1 .1 .0)) (omega (arith, s .good .1 .1 .1 .1 .1 .1 .0)) (omega (arith, s .good .1 .1 .1 .1 .1 .1 .0)) (omega (arith, s .good .1 .1 .1 .1 .1 .1 .0)) (omega (arith, s .good .1 .1 .1 .1 .1 .1 .0)) (λ i. omega (arith, c .before .before .before .before .before .before .before .before .before .before .before .before .before .before .before .before .before .before .before .before .before .before .shared-slice-known .given i)) (λ i. omega (arith, c .before .before .before .before .before .before .before .before .before .before .before .before .before .before .before .before .before .before .before .before .before .shared-slice-known2 .given i)) (λ i. omega (arith, c .before .before .before .before .before .before .before .before .before .before .before .before .before .before .before .before .before .before .before .before .shared-slice-known3 .given i)) (λ i. omega (arith, c .before .before .before .before .before .before .before .before .before .before .before .before .before .before .before .before .before .before .before .shared-slice-known4 .given i)) (λ i. omega (arith, c .before .before .before .before .before .before .before .before .before .before .before .before .before .before .before .before .before .before .shared-slice-known5 .given i))))), counts-few (a .state .now) (a .commands .now) (callOf (a .call) (a .ids .now) (a .continuation .now) (a .stored .now) (a .peers .now) (a .view .now)) (a .plan) (s .pre .0) (s .pre .1 .1 .0) (s .pre .1 .1 .1) (c .before .before .before .before .before .before .before .before .before .counts .given .0 .0) (sym (c .before .before .before .before .before .before .before .before .before .counts .given .1) ∙ (c .before .before .before .before .before .before .before .before .before .before .before .before .before .before .before .carry-out .ensures (decode (a .state .now)) (callOf (a .call) (a .ids .now) (a .continuation .now) (a .stored .now) (a .peers .now) (a .view .now)) (work-given (a .call) (a .ids .now) (a .continuation .now) (a .stored .now) (a .peers .now) (a .view .now) (a .state .now) (a .commands .now) (s .pre .0) (λ i. omega (arith, c .before .before .before .before .before .before .before .before .before .before .before .before .before .before .before .before .before .before .before .before .before .before .before .before .before .before .slice-known .given i)) (a .image .now) (a .head) (s .pre .1 .0 .0) (s .pre .1 .0 .1 .1)) (its-continuation (a .call) (a .ids .now) (a .continuation .now) (a .stored .now) (a .peers .now) (a .view .now))) .answered) (omega (arith, c .before .before .before .before .before .if1 .left)) (λ i. omega (arith, c .before .before .before .before .before .before .before .before .before .before .before .before .before .before .before .before .before .before .before .before .before .before .before .before .before .before .slice-known .given i)) (in-width (a .call) (a .ids .now) (a .continuation .now) (a .stored .now) (a .peers .now) (a .view .now) (omega (arith, s .good .1 .1 .1 .1 .1 .1 .0)) (omega (arith, s .good .1 .1 .1 .1 .1 .1 .0)) (omega (arith, s .good .1 .1 .1 .1 .1 .1 .0)) (omega (arith, s .good .1 .1 .1 .1 .1 .1 .0)) (omega (arith, s .good .1 .1 .1 .1 .1 .1 .0)) (omega (arith, s .good .1 .1 .1 .1 .1 .1 .0)) (λ i. omega (arith, c .before .before .before .before .before .before .before .before .before .before .before .before .before .before .before .before .before .before .before .before .before .before .shared-slice-known .given i)) (λ i. omega (arith, c .before .before .before .before .before .before .before .before .before .before .before .before .before .before .before .before .before .before .before .before .before .shared-slice-known2 .given i)) (λ i. omega (arith, c .before .before .before .before .before .before .before .before .before .before .before .before .before .before .before .before .before .before .before .before .shared-slice-known3 .given i)) (λ i. omega (arith, c .before .before .before .before .before .before .before .before .before .before .before .before .before .before .before .before .before .before .before .shared-slice-known4 .given i)) (λ i. omega (arith, c .before .before .before .before .before .before .before .before .before .before .before .before .before .before .before .before .before .before .shared-slice-known5 .given i)))))
+finish-requires c κs =
+    let s = c .before .before .before .before .before .before .before .before .before .before .before .before .before .before .before .before .before .before .before .before .before .before .before .before .before .before .before in let a = s .args in
+    let ready = finish-ready (a .state .now) (a .commands .now) (callOf (a .call) (a .ids .now) (a .continuation .now) (a .stored .now) (a .peers .now) (a .view .now)) (a .plan) (s .pre .0) (s .pre .1 .1 .0) (s .pre .1 .1 .1) (c .before .before .before .before .before .before .before .before .before .counts .given .0 .0) (sym (c .before .before .before .before .before .before .before .before .before .counts .given .1) ∙ (c .before .before .before .before .before .before .before .before .before .before .before .before .before .before .before .carry-out .ensures (decode (a .state .now)) (callOf (a .call) (a .ids .now) (a .continuation .now) (a .stored .now) (a .peers .now) (a .view .now)) (work-given (a .call) (a .ids .now) (a .continuation .now) (a .stored .now) (a .peers .now) (a .view .now) (a .state .now) (a .commands .now) (s .pre .0) (λ i. omega (arith, c .before .before .before .before .before .before .before .before .before .before .before .before .before .before .before .before .before .before .before .before .before .before .before .before .before .before .slice-known .given i)) (a .image .now) (a .head) (s .pre .1 .0 .0) (s .pre .1 .0 .1 .1)) (its-continuation (a .call) (a .ids .now) (a .continuation .now) (a .stored .now) (a .peers .now) (a .view .now))) .answered) (omega (arith, c .before .before .before .before .before .if1 .left)) (λ i. omega (arith, c .before .before .before .before .before .before .before .before .before .before .before .before .before .before .before .before .before .before .before .before .before .before .before .before .before .before .slice-known .given i)) (in-width (a .call) (a .ids .now) (a .continuation .now) (a .stored .now) (a .peers .now) (a .view .now) (omega (arith, s .good .1 .1 .1 .1 .1 .1 .0)) (omega (arith, s .good .1 .1 .1 .1 .1 .1 .0)) (omega (arith, s .good .1 .1 .1 .1 .1 .1 .0)) (omega (arith, s .good .1 .1 .1 .1 .1 .1 .0)) (omega (arith, s .good .1 .1 .1 .1 .1 .1 .0)) (omega (arith, s .good .1 .1 .1 .1 .1 .1 .0)) (λ i. omega (arith, c .before .before .before .before .before .before .before .before .before .before .before .before .before .before .before .before .before .before .before .before .before .before .shared-slice-known .given i)) (λ i. omega (arith, c .before .before .before .before .before .before .before .before .before .before .before .before .before .before .before .before .before .before .before .before .before .shared-slice-known2 .given i)) (λ i. omega (arith, c .before .before .before .before .before .before .before .before .before .before .before .before .before .before .before .before .before .before .before .before .shared-slice-known3 .given i)) (λ i. omega (arith, c .before .before .before .before .before .before .before .before .before .before .before .before .before .before .before .before .before .before .before .shared-slice-known4 .given i)) (λ i. omega (arith, c .before .before .before .before .before .before .before .before .before .before .before .before .before .before .before .before .before .before .shared-slice-known5 .given i))) (a .head) (s .pre .1 .0 .1 .1) in
+    ((area-long (a .call) (a .ids .now) (a .continuation .now) (a .stored .now) (a .peers .now) (a .view .now) (a .state .now) (a .commands .now) (s .pre .0), (same-len-mid 2560 (length (a .image .now) - 2560) (a .image .now) (c .before .before .before .before .before .before .before .before .before .before .before .before .before .before .before .carry-out .last .0) (c .before .before .before .before .before .before .before .before .before .before .before .before .before .before .before .carry-out .kept .0) ∙ ap length (s .pre .1 .0 .0) ∙ area-long (a .call) (a .ids .now) (a .continuation .now) (a .stored .now) (a .peers .now) (a .view .now) (a .state .now) (a .commands .now) (s .pre .0), (commands-long (a .call) (a .ids .now) (a .continuation .now) (a .stored .now) (a .peers .now) (a .view .now) (a .state .now) (a .commands .now) (s .pre .0), omega (arith, s .pre .1 .0 .1 .0, c .before .before .before .before .before .before .before .before .before .before .before .before .before .before .before .carry-out .kept .1 .0)))), ((refl, ready .0), ready .1))
 
 same-length-5 : tie.Need-same-length-5
 same-length-5 c = c .before .before .before .before .before .before .before .before .finish .kept .0
