@@ -8,16 +8,15 @@ use native.Mathlib.Nat.{add-zero}
 use native.Mathlib.Numerals.{add-one}
 use lib.Dec.{eqb}
 use lib.ListN.{length, take, drop, getD, length-append, length-drop, length-map, drop-of-length-le}
-use lib.Seq.{drop-drop, drop-cons, length-take-le, take-add}
+use lib.Seq.{drop-drop, take-add}
 use borrow.Author.Tests.{eqb-true, le-leb}
 use Rattle.fields.specs.Facts.{All, Bytes}
-use Rattle.fields.specs.Number.{fromBe}
 use Rattle.fields.specs.Entries.{entry, joined}
 use Rattle.fields.specs.Overwrite.{overwritten}
 use Rattle.fields.specs.Sort.{sorted}
 use Rattle.fields.proofs.OrderLaws.{and-left, and-right, before-append, before-number, same-number}
 use Rattle.fields.proofs.OverwriteLaws.{length-overwritten, overwritten-next, overwritten-nil, overwritten-all}
-use Rattle.fields.proofs.EntriesLaws.{length-entry, entry-front, length-joined, entries-joined, Wide}
+use Rattle.fields.proofs.EntriesLaws.{length-entry, length-joined, entries-joined, Wide}
 use Rattle.fields.proofs.NumberLaws.{bytes-take, bytes-drop}
 use Rattle.fields.proofs.PartLaws.{part-below, length-part}
 use Rattle.fields.proofs.SortLaws.{map-sorted, all-sorted, length-sorted}
@@ -25,7 +24,7 @@ use Rattle.fields.proofs.AllLaws.{all-at, all-drop, all-map}
 use Rattle.order.specs.Places.{keyAt, keyBelow}
 use Rattle.model.specs.Protocol.{Id}
 use Rattle.model.specs.Image.{recordSize, requestOf}
-use Rattle.model.specs.Sections.{Item, itemBelow, Batch, join, adjacent, batchesOf}
+use Rattle.model.specs.Sections.{Item, itemBelow, join, adjacent, batchesOf}
 use Rattle.model.specs.Requests.{Command, request, commandsOf, commandsFrom}
 use Rattle.model.specs.Commands.{commandBytes, allCommandBytes}
 use Rattle.model.specs.Check.{retrySendings}
@@ -35,8 +34,6 @@ use Rattle.model.proofs.SendingLaws.{retries-sent-well, sendings-bytes, retries
 use Rattle.requests.specs.Sent.{sentBytes}
 use Rattle.requests.proofs.RunLaws.{take-ids, drop-ids}
 use Rattle.batches.specs.Items.{itemOf, Asked, itemAt, itemsAt, alike, span}
-use Rattle.batches.specs.Batches.{batchAt}
-use Rattle.batches.specs.declared.Batch as declared
 use Rattle.batches.proofs.ItemLaws.{item-id, next-mapped, span-le}
 use Rattle.delivery_check.specs.Batches.{idsAt, sendingsOf}
 use Rattle.delivery_check.proofs.RecordLaws.{entry-bytes}

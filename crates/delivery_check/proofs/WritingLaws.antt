@@ -1,8 +1,8 @@
 -- The batches of a list, written one after another.
 use Prim.Native.Nat.{ℕ, suc, _+_, _-_, _*_, _≤_, _<_}
-use mathlib.Core.Path.{_≡_, refl, sym, ap, subst, _∙_}
+use mathlib.Core.Path.{_≡_, refl, sym, ap, _∙_}
 use mathlib.Core.Bool.{Bool, true, false}
-use mathlib.Core.List.{List, [], _∷_}
+use mathlib.Core.List.{List, _∷_}
 use native.Mathlib.Omega.{arith}
 use native.Mathlib.Numerals.{add-one}
 use lib.Dec.{ltb}
@@ -12,7 +12,6 @@ use borrow.Author.Tests.{ltb-true, ltb-false}
 use Rattle.fields.specs.Facts.{All}
 use Rattle.fields.specs.Entries.{joined}
 use Rattle.fields.specs.Overwrite.{overwritten}
-use Rattle.model.specs.Sections.{Item}
 use Rattle.model.specs.Requests.{request, commandsOf}
 use Rattle.model.specs.Commands.{allCommandBytes}
 use Rattle.model.specs.Lists.{idsIn}

@@ -14,7 +14,6 @@ use Rattle.settings.specs.declared.Settings.{Settings}
 use Rattle.settings.specs.declared.SendClock.{SendClock}
 use Rattle.settings.specs.declared.Sent.{Sent}
 use Rattle.settings.proofs.SendClock as T
-use Rattle.settings.proofs.SendClock.Laws as T′
 use Rattle.settings.proofs.Sent as S
 use Rattle.settings.proofs.Sent.Laws as S′
 

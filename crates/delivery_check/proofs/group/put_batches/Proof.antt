@@ -1,8 +1,7 @@
 -- The loop: what is written, then the batches of the list from i on, is the whole (`Writing`); a turn writes batch i (`Turn`).
-use borrow.Author.Needs.{needs}
 use native.Mathlib.Omega.{arith}
 use Prim.Native.Nat.{_+_, _-_, _*_, _<_}
-use mathlib.Core.Path.{_≡_, refl}
+use mathlib.Core.Path.{refl}
 use lib.ListN.{length, take, drop, getD}
 use Rattle.batches.specs.Batches.{batchesIn}
 use Rattle.batches.specs.declared.Batch.{Batch}
