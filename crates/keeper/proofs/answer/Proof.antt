@@ -1,0 +1,83 @@
+-- What `answer_lines` says of the keeper, the text used and the bytes written.
+use borrow.Author.Needs.{needs}
+use native.Mathlib.Omega.{arith}
+use Prim.Native.Nat.{_-_}
+use mathlib.Core.Path.{sym}
+use mathlib.Core.Bool.{false≢true}
+use lib.ListN.{length}
+use borrow.Author.Tests.{ltb-true}
+use lib.Seq.{length-take-le}
+use Rattle.keeper.proofs.answer.Statement.{statement}
+use Rattle.keeper.proofs.answer.Tie as tie
+
+slice-reshare-prefix-answer-lines : tie.Need-slice-reshare-prefix-answer-lines
+slice-reshare-prefix-answer-lines c = search needs
+
+slice-aggregate-answer-lines : tie.Need-slice-aggregate-answer-lines
+slice-aggregate-answer-lines c = let s = c .before .before .before .before .before in let a = s .args in sym (length-take-le (a .size) (a .text .now) (s .pre .1 .0))
+
+answer-lines-requires : tie.Need-answer-lines-requires
+answer-lines-requires c κs = let s = c .before .before .before .before .before .before in let a = s .args in (s .pre .0, omega (arith, s .pre .1, length-take-le (a .size) (a .text .now) (s .pre .1 .0)))
+
+slice-reshare-prefix-write-all : tie.Need-slice-reshare-prefix-write-all
+slice-reshare-prefix-write-all c = search needs
+
+slice-aggregate-write-all : tie.Need-slice-aggregate-write-all
+slice-aggregate-write-all c = let m = c .before .before .before .before .before .answer-lines in sym (length-take-le (m .result .written) (m .last .1 .1 .1 .0) (omega (arith, m .ensures .place)))
+
+write-all-requires : tie.Need-write-all-requires
+write-all-requires c κs = search needs
+
+sub-held : tie.Need-sub-held
+sub-held c = let s = c .before .before .before .before .before .before .before .before .before .before .before .before .before in let a = s .args in omega (arith, c .before .before .before .before .before .before .answer-lines .ensures .within, length-take-le (a .size) (a .text .now) (s .pre .1 .0))
+
+same-length : tie.Need-same-length
+same-length c = search needs
+
+same-length-2 : tie.Need-same-length-2
+same-length-2 c = search needs
+
+same-length-3 : tie.Need-same-length-3
+same-length-3 c = search needs
+
+returns : tie.Need-returns
+returns c = λ h. absurd (false≢true h)
+
+move-down-requires : tie.Need-move-down-requires
+move-down-requires c κs = let s = c .before .before .before .before .before .before .before .before .before .before .before .before .before .before .before .before in let a = s .args in (omega arith, omega (arith, c .before .before .before .before .before .before .before .before .before .answer-lines .ensures .within, s .pre .1, length-take-le (a .size) (a .text .now) (s .pre .1 .0)))
+
+same-length-4 : tie.Need-same-length-4
+same-length-4 c = search needs
+
+same-length-5 : tie.Need-same-length-5
+same-length-5 c = search needs
+
+same-length-6 : tie.Need-same-length-6
+same-length-6 c = search needs
+
+returns-2 : tie.Need-returns-2
+returns-2 c = let s = c .before .before .before .before .before .before .before .before .before .before .before .before .before .before .before .before .before .before .before in
+    let m = c .before .before .before .before .before .before .before .before .before .before .before .before .answer-lines in
+    let d = c .before .before .move-down in
+    λ h. (m .ensures .kept (c .before .before .before .before .if1 .left), omega (arith, ltb-true (s .args .size - m .result .used) (length (d .last .0)) h, d .kept .0))
+
+pub answer-spec : {M : Type 1} → statement M
+answer-spec =
+    tie.close
+    (tie.spec
+    slice-reshare-prefix-answer-lines
+    slice-aggregate-answer-lines
+    answer-lines-requires
+    slice-reshare-prefix-write-all
+    slice-aggregate-write-all
+    write-all-requires
+    sub-held
+    same-length
+    same-length-2
+    same-length-3
+    returns
+    move-down-requires
+    same-length-4
+    same-length-5
+    same-length-6
+    returns-2)

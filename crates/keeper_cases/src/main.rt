@@ -1,0 +1,60 @@
+// Stored inputs of the program `keeper` and what it prints of each.
+//
+// The input is a list of cases: `%`, the case's name to the end of the line, then the case's input up to the next `%`.
+// For each the name is printed, and then what `keeper` prints.
+ghost use Prim.Native.Nat.{_≤_};
+ghost use lib.ListN.{length};
+
+// The index of the first `stop` from `from` on, or the length.
+fn find(text: &[u8], from: usize, stop: u8) -> usize
+    requires { ⌜ from ≤ length (now text) ⌝ }
+    ensures { λ r. ⌜ (from ≤ r) × (r ≤ length (now (text .entry))) ⌝ }
+{
+    let mut i = from;
+    while i < text.len() {
+        if text[i] == stop {
+            return i;
+        }
+        i += 1;
+    }
+    i
+}
+
+// What the program prints of an input of at most 1,536 bytes.
+fn print(input: &[u8]) {
+    if input.len() > 1536 {
+        return;
+    }
+    let mut table = io::large_buffer();
+    let mut out = io::large_buffer();
+    let end = keeping::text::print_all(&mut table, input, &mut out);
+    io::write_all(1, &out[..end]);
+}
+
+// One case, from its name on.
+fn case(text: &[u8]) {
+    let end = find(text, 0, b'\n');
+    io::write_all(1, b"%");
+    io::write_all(1, &text[..end]);
+    io::write_all(1, b"\n");
+    if end < text.len() {
+        let from = end + 1;
+        print(&text[from..]);
+    }
+}
+
+fn cases(text: &[u8]) {
+    let mut from = find(text, 0, b'%');
+    while from < text.len() {
+        let name = from + 1;
+        let end = find(text, name, b'%');
+        case(&text[name..end]);
+        from = end;
+    }
+}
+
+fn main() {
+    let mut text = io::large_buffer();
+    let size = io::read_full(0, &mut text);
+    cases(&text[..size]);
+}

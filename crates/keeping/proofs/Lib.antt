@@ -1,0 +1,5 @@
+pub mod RowLaws
+pub mod FitLaws
+pub mod KeptLaws
+pub mod LineLaws
+pub mod TextLaws

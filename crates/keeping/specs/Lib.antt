@@ -1,0 +1,4 @@
+pub mod Keeping
+pub mod Printed
+pub mod Kept
+pub mod Progress
