@@ -5,7 +5,7 @@
  * A list is a pointer and then its length in bytes. Any number and any bytes are answered. Of its pointers a caller
  * owes what C can't say otherwise: none is null, also where the length is 0; all the bytes of its length are there; the
  * two areas that a call writes overlap nothing else that it is given; and nobody else writes to any of them meanwhile.
- * A step uses up to 330 KiB of stack.
+ * A step uses up to 350 KiB of stack.
  */
 #ifndef REQUEST_KEEPER_H
 #define REQUEST_KEEPER_H
