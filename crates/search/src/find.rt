@@ -23,7 +23,7 @@ pub fn find(table: &[u8], width: usize, count: usize, key: &[u8]) -> Found
     let mut hi = count;
     while lo < hi {
         let mid = lo + (hi - lo) / 2;
-        if keys::run_before(table, mid * width, key, 0, size) {
+        if keys::comes_before(table, mid * width, key, 0, size) {
             lo = mid + 1;
         } else {
             hi = mid;

@@ -28,14 +28,14 @@ sub-mid c = search needs
 add-mid : tie.Need-add-mid Inv-loop μ-loop
 add-mid c = search needs
 
-mul-run-before : tie.Need-mul-run-before Inv-loop μ-loop
-mul-run-before c = let l = c .before in
+mul-comes-before : tie.Need-mul-comes-before Inv-loop μ-loop
+mul-comes-before c = let l = c .before in
     let s = c .before .before .before .before in
     let m : suc (l .loop .lo + (l .loop .hi - l .loop .lo) / 2) ≤ s .args .count = omega arith in
     omega (arith, mul-le-mul-right (s .args .width) m)
 
-run-before-requires : tie.Need-run-before-requires Inv-loop μ-loop
-run-before-requires c κs = let l = c .before in
+comes-before-requires : tie.Need-comes-before-requires Inv-loop μ-loop
+comes-before-requires c κs = let l = c .before in
     let s = c .before .before .before .before in
     let m : suc (l .loop .lo + (l .loop .hi - l .loop .lo) / 2) ≤ s .args .count = omega arith in
     omega (arith, mul-le-mul-right (s .args .width) m)
@@ -53,7 +53,7 @@ loop-again c = let l = c .before .before .before in
     let m : ℕ = l .loop .lo + (l .loop .hi - l .loop .lo) / 2 in
     let h : m < a .count = omega arith in
     let es : List (List ℕ) = entries (a .width) (a .count) (a .table .now) in
-    let b : Below (a .key .now) es m true = compared-before (a .key .now) (a .table .now) (a .width) (a .count) m h (s .pre .0 .0) true (c .before .run-before .result) (c .before .run-before .ensures) (c .if1 .taken) in (
+    let b : Below (a .key .now) es m true = compared-before (a .key .now) (a .table .now) (a .width) (a .count) m h (s .pre .0 .0) true (c .before .comes-before .result) (c .before .comes-before .ensures) (c .if1 .taken) in (
       omega arith,
       (omega arith, (below-falls (a .key .now) es (s .pre .1) m (rw length-entries h) b, l .loop .inv .1 .1 .1)),
     )
@@ -69,7 +69,7 @@ loop-again-2 c = let l = c .before .before .before in
       omega arith,
       (
         omega arith,
-        (l .loop .inv .1 .1 .0, (λ h. compared-before (a .key .now) (a .table .now) (a .width) (a .count) m h (s .pre .0 .0) false (c .before .run-before .result) (c .before .run-before .ensures) (c .if1 .left))),
+        (l .loop .inv .1 .1 .0, (λ h. compared-before (a .key .now) (a .table .now) (a .width) (a .count) m h (s .pre .0 .0) false (c .before .comes-before .result) (c .before .comes-before .ensures) (c .if1 .left))),
       ),
     )
 
@@ -112,8 +112,8 @@ find-spec =
     loop-holds
     sub-mid
     add-mid
-    mul-run-before
-    run-before-requires
+    mul-comes-before
+    comes-before-requires
     add-lo
     loop-less
     loop-again
