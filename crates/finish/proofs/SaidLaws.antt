@@ -1,6 +1,6 @@
 -- A sync info as bytes, and the place behind it.
 use Prim.Native.Nat.{ℕ, _+_, _≤_, _<_}
-use mathlib.Core.Path.{_≡_, refl, sym}
+use mathlib.Core.Path.{_≡_, refl, sym, ap}
 use mathlib.Core.List.{List, [], _∷_}
 use mathlib.Core.Option.{Option, none, some}
 use native.Mathlib.Nat.{add-zero, lt-irrefl}
@@ -10,10 +10,13 @@ use Rattle.fields.specs.Overwrite.{overwritten}
 use Rattle.fields.proofs.OverwriteLaws.{overwritten-nil}
 use Rattle.model.specs.Lists.{idsIn}
 use Rattle.model.specs.Commands.{commandBytes}
+use Rattle.model.specs.Calls as calls
 use Rattle.peers.specs.Values.{listedPeer}
 use Rattle.peers.specs.declared.Listed.{Listed}
 use Rattle.peers.specs.declared.Listed.the-variants.{Peer, Nobody}
 use Rattle.requests.specs.Sent.{sentBytes}
+use Rattle.finish.specs.declared.Answer.{Answer}
+use Rattle.finish.specs.Answers.{answerOf}
 use Rattle.finish.specs.Finished.{said}
 
 no-ids : (bytes : List ℕ) → length bytes < 1 → idsIn bytes ≡ []
@@ -43,3 +46,8 @@ pub said-short : (batch : ℕ) (peer : Option ℕ) → length (sentBytes batch (
 unfolding sentBytes commandBytes
 said-short batch none = omega arith
 said-short batch (some peer) = omega arith
+
+-- the length among the numbers told
+pub told-length : (r : Answer) (x : calls.Answer) → answerOf r ≡ x → r .length ≡ x .length
+unfolding answerOf
+told-length r x e = ap (λ (y : calls.Answer). y .length) e

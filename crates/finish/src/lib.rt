@@ -65,7 +65,31 @@ fn finished(outcome: u8, counts: Counts, end: usize) -> Answer
     }
 }
 
-// Sync info, image, areas. `none` is an empty list.
+// Sync info, then the image after the step. `none` is an empty list.
+pub fn settle(
+    image: &mut [u8],
+    out: &mut [u8],
+    count: usize,
+    plan: Plan,
+    counts: Counts,
+    none: &[u8],
+) -> Answer
+    requires { ⌜ (length (now image) ≡ 65536) × (65536 ≤ length (now out)) ⌝ }
+    requires { ⌜ (length (now none) ≡ 0) × ((stalledCountThen (plan .stalling) count ≤ 256) × (counts .at ≤ 49152)) ⌝ }
+    requires { ⌜ (counts .pending ≤ 1024) × ((counts .evicted ≤ 1024) × ((counts .retried ≤ 1024) × ((counts .fresh ≤ 1024) × ((counts .abandoned ≤ 1024) × (counts .forgotten ≤ 1024))))) ⌝ }
+    ensures { λ _. ⌜ ((old : List ℕ) → length old ≡ count → take 2048 (drop 512 (now (image .entry))) ≡ placesOf old → now (image .exit) ≡ completed (counted (plan .head) (counts .pending) (counts .evicted)) (placesOf (stalledThen (plan .stalling) old)) (now (image .entry))) ⌝ }
+    ensures { λ _. ⌜ now (out .exit) ≡ overwritten (counts .at) (sentBytes (counts .batch) (said (listedPeer (plan .says)))) (now (out .entry)) ⌝ }
+    ensures { λ r. ⌜ answerOf r ≡ record { number = 0; outcome = plan .outcome; retried = counts .retried; fresh = counts .fresh; abandoned = counts .abandoned; forgotten = counts .forgotten; pending = counts .pending; evicted = counts .evicted; length = counts .at + length (sentBytes (counts .batch) (said (listedPeer (plan .says)))) } ⌝ }
+{
+    let says = plan.says;
+    let stalling = plan.stalling;
+    let head = plan.head;
+    let end = parts::say(out, says, counts.at, counts.batch, none);
+    parts::complete(image, count, stalling, head, counts);
+    finished(plan.outcome, counts, end)
+}
+
+// A step settled on copies, then both areas. `none` is an empty list.
 pub fn finish(
     state: &mut [u8],
     commands: &mut [u8],
@@ -83,12 +107,8 @@ pub fn finish(
     ensures { λ _. ⌜ now (commands .exit) ≡ take (counts .at + length (sentBytes (counts .batch) (said (listedPeer (plan .says))))) (overwritten (counts .at) (sentBytes (counts .batch) (said (listedPeer (plan .says)))) (now (out .entry))) ++ drop (counts .at + length (sentBytes (counts .batch) (said (listedPeer (plan .says))))) (now (commands .entry)) ⌝ }
     ensures { λ r. ⌜ answerOf r ≡ record { number = 0; outcome = plan .outcome; retried = counts .retried; fresh = counts .fresh; abandoned = counts .abandoned; forgotten = counts .forgotten; pending = counts .pending; evicted = counts .evicted; length = counts .at + length (sentBytes (counts .batch) (said (listedPeer (plan .says)))) } ⌝ }
 {
-    let says = plan.says;
-    let stalling = plan.stalling;
-    let head = plan.head;
-    let end = parts::say(out, says, counts.at, counts.batch, none);
-    parts::complete(image, count, stalling, head, counts);
+    let answer = settle(image, out, count, plan, counts, none);
     scratch::copy(image, state);
-    scratch::copy_prefix(out, end, commands);
-    finished(plan.outcome, counts, end)
+    scratch::copy_prefix(out, answer.length as usize, commands);
+    answer
 }

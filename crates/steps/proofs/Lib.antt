@@ -2,4 +2,5 @@ pub mod AreaLaws
 pub mod CarriedLaws
 pub mod EndLaws
 pub mod StepLaws
+pub mod RestLaws
 pub mod WorkLaws

@@ -1,7 +1,8 @@
 // A step on bytes: its plan, the plan carried out on a scratch image, and the areas written only where it finished. It is
 // refused as 9, 10 or 11 with both areas as they were.
 //
-// It costs a copy of the state area and one back, the records and rows that its rules read, and the commands' bytes.
+// With work to do it costs a copy of the state area and one back, the records and rows that its rules read, and the
+// commands' bytes; without, the header's and the commands' bytes alone.
 ghost use mathlib.Core.Path.{_≡_};
 ghost use mathlib.Core.Bool.{true};
 ghost use Prim.Native.Nat.{_≤_};
@@ -16,7 +17,10 @@ use finish::Answer;
 use image::head::Head;
 use plans::Call;
 use plans::Plan;
+use plans::Work;
 use tracker::Performed;
+
+mod rest;
 
 // Room for the commands of a step.
 fn room() -> [u8; 65536]
@@ -132,7 +136,22 @@ pub fn run(
     if !plan.seen {
         return finish::refused(9);
     }
-    work_out(
+    let work = plan.work;
+    let Work::Nothing = work else {
+        return work_out(
+            state,
+            commands,
+            head,
+            plan,
+            call,
+            ids,
+            continuation,
+            stored,
+            peers,
+            view,
+        );
+    };
+    rest::rest(
         state,
         commands,
         head,

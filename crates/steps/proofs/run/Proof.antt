@@ -6,6 +6,7 @@ use Rattle.steps.proofs.StepLaws.{unseen}
 use Rattle.steps.proofs.WorkLaws.{area-long, plan-ready, plan-follows}
 use borrow.Author.Needs.{needs}
 use native.Mathlib.Omega.{arith}
+use Prim.Native.Nat.{_-_}
 use mathlib.Core.Path.{ap, _∙_}
 use Rattle.steps.proofs.run.Statement.{statement}
 use Rattle.steps.proofs.run.Tie as tie
@@ -26,7 +27,7 @@ plan-step-requires : tie.Need-plan-step-requires
 plan-step-requires c κs = let s = c .before .before .before .before .before .before .before .before .before .before .before in let a = s .args in plan-ready (a .call) (a .ids .now) (a .continuation .now) (a .stored .now) (a .peers .now) (a .view .now) (a .state .now) (a .commands .now) (s .pre) (c .before .before .read-head .result) (c .before .before .read-head .ensures)
 
 refused-requires : tie.Need-refused-requires
-refused-requires c κs = tt
+refused-requires c κs = search needs
 
 same-length : tie.Need-same-length
 same-length c = search needs
@@ -34,17 +35,32 @@ same-length c = search needs
 returns : tie.Need-returns
 returns c = let s = c .before .before .before .before .before .before .before .before .before .before .before .before .before .before .before in let a = s .args in ap (λ (x : calls.Answer). record { answer = x; state = a .state .now; commands = a .commands .now }) (c .refused .ensures) ∙ unseen (a .state .now) (a .commands .now) (callOf (a .call) (a .ids .now) (a .continuation .now) (a .stored .now) (a .peers .now) (a .view .now)) (c .before .before .before .plan-step .result) (s .pre) (plan-follows (a .call) (a .ids .now) (a .continuation .now) (a .stored .now) (a .peers .now) (a .view .now) (a .state .now) (a .commands .now) (s .pre) (c .before .before .before .before .before .before .read-head .result) (c .before .before .before .before .before .before .read-head .ensures) (c .before .before .before .plan-step .result) (c .before .before .before .plan-step .ensures)) (not-true (c .before .before .before .plan-step .result .seen) (c .before .if1 .taken))
 
+enum-told : tie.Need-enum-told
+enum-told c = search needs
+
 work-out-requires : tie.Need-work-out-requires
-work-out-requires c κs = let s = c .before .before .before .before .before .before .before .before .before .before .before .before .before .before .before .before in let a = s .args in (s .pre, (c .before .before .before .before .before .before .before .read-head .ensures, ((plan-follows (a .call) (a .ids .now) (a .continuation .now) (a .stored .now) (a .peers .now) (a .view .now) (a .state .now) (a .commands .now) (s .pre) (c .before .before .before .before .before .before .before .read-head .result) (c .before .before .before .before .before .before .before .read-head .ensures) (c .before .before .before .before .plan-step .result) (c .before .before .before .before .plan-step .ensures)), not-false (c .before .before .before .before .plan-step .result .seen) (c .before .before .if1 .left))))
+work-out-requires c κs = let s = c .before .before .before .before .before .before .before .before .before .before .before .before .before .before .before .before .before in let a = s .args in (s .pre, (c .before .before .before .before .before .before .before .before .read-head .ensures, ((plan-follows (a .call) (a .ids .now) (a .continuation .now) (a .stored .now) (a .peers .now) (a .view .now) (a .state .now) (a .commands .now) (s .pre) (c .before .before .before .before .before .before .before .before .read-head .result) (c .before .before .before .before .before .before .before .before .read-head .ensures) (c .before .before .before .before .before .plan-step .result) (c .before .before .before .before .before .plan-step .ensures)), not-false (c .before .before .before .before .before .plan-step .result .seen) (c .before .before .before .if1 .left))))
 
 same-length-2 : tie.Need-same-length-2
-same-length-2 c = c .before .before .before .before .work-out .kept .0
+same-length-2 c = search needs
 
 same-length-3 : tie.Need-same-length-3
-same-length-3 c = c .before .before .before .before .work-out .kept .1 .0
+same-length-3 c = search needs
 
 returns-2 : tie.Need-returns-2
-returns-2 c = c .before .before .before .before .work-out .ensures
+returns-2 c = search needs
+
+rest-requires : tie.Need-rest-requires
+rest-requires c κs = let s = c .before .before .before .before .before .before .before .before .before .before .before .before .before .before .before .before .before .before in let a = s .args in (s .pre, (c .before .before .before .before .before .before .before .before .before .read-head .ensures, ((plan-follows (a .call) (a .ids .now) (a .continuation .now) (a .stored .now) (a .peers .now) (a .view .now) (a .state .now) (a .commands .now) (s .pre) (c .before .before .before .before .before .before .before .before .before .read-head .result) (c .before .before .before .before .before .before .before .before .before .read-head .ensures) (c .before .before .before .before .before .before .plan-step .result) (c .before .before .before .before .before .before .plan-step .ensures)), (not-false (c .before .before .before .before .before .before .plan-step .result .seen) (c .before .before .before .before .if1 .left), c .before .before .enum-told .given .1))))
+
+same-length-4 : tie.Need-same-length-4
+same-length-4 c = search needs
+
+same-length-5 : tie.Need-same-length-5
+same-length-5 c = search needs
+
+returns-3 : tie.Need-returns-3
+returns-3 c = search needs
 
 pub run-spec : {M : Type 1} → statement M
 run-spec =
@@ -58,7 +74,12 @@ run-spec =
     refused-requires
     same-length
     returns
+    enum-told
     work-out-requires
     same-length-2
     same-length-3
-    returns-2)
+    returns-2
+    rest-requires
+    same-length-4
+    same-length-5
+    returns-3)

@@ -1,0 +1,31 @@
+-- Its parts one after another.
+use Rattle.peers.specs.Values.{listedPeer}
+use Rattle.finish.proofs.SaidLaws.{said-short}
+use borrow.Author.Needs.{needs}
+use native.Mathlib.Omega.{arith}
+use Prim.Native.Nat.{_-_}
+use Rattle.finish.proofs.settle.Statement.{statement}
+use Rattle.finish.proofs.settle.Tie as tie
+
+say-requires : tie.Need-say-requires
+say-requires c κs = search needs
+
+complete-requires : tie.Need-complete-requires
+complete-requires c κs = search needs
+
+finished-requires : tie.Need-finished-requires
+finished-requires c κs = let s = c .before .before .before .before .before .before .before .before .before .before .before .before in let m = c .before .before .before .before .before .before .say in let n = said-short (s .args .counts .batch) (listedPeer (s .args .plan .says)) in let k = s .pre .1 .1 in ((omega (arith, k), (omega (arith, k), omega (arith, m .ensures .1, n, s .pre .1 .0 .1 .1))), (omega (arith, k), (omega (arith, k), (omega (arith, k), omega (arith, k)))))
+
+same-length : tie.Need-same-length
+same-length c = search needs
+
+same-length-2 : tie.Need-same-length-2
+same-length-2 c = search needs
+
+returns : tie.Need-returns
+returns c = let m = c .before .before .before .before .before .before .before .say in let w = c .before .before .before .complete in ((λ old l e. w .ensures old l e), (m .ensures .0, rw (← m .ensures .1) (c .finished .ensures)))
+
+pub settle-spec : {M : Type 1} → statement M
+settle-spec =
+    tie.close
+    (tie.spec say-requires complete-requires finished-requires same-length same-length-2 returns)

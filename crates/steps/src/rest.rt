@@ -1,0 +1,57 @@
+// A step without work, on the areas themselves.
+ghost use mathlib.Core.Path.{_≡_};
+ghost use mathlib.Core.Bool.{true};
+ghost use lib.ListN.{length};
+ghost use Rattle.model.specs.Image.{decode};
+ghost use Rattle.model.specs.Calls as calls;
+ghost use Rattle.image.specs.Heads.{headIn};
+ghost use Rattle.plans.specs.declared.Work.the-variants.{Nothing};
+ghost use Rattle.plans.specs.Plans.{callOf, Follows};
+ghost use Rattle.refusals.specs.Refusals.{givenRefusal};
+ghost use Rattle.finish.specs.Answers.{answerOf};
+use finish::Answer;
+use image::head::Head;
+use plans::Call;
+use plans::Plan;
+use tracker::Performed;
+
+// A plan without work needs no copies: only 11 can still refuse it, and it is tested before an area is touched.
+pub fn rest(
+    state: &mut [u8],
+    commands: &mut [u8],
+    head: Head,
+    plan: Plan,
+    call: Call,
+    ids: &[u8],
+    continuation: &[u8],
+    stored: &[u8],
+    peers: &[u8],
+    view: &[u8],
+) -> Answer
+    requires { ⌜ givenRefusal (now state) (length (now commands)) (callOf call (now ids) (now continuation) (now stored) (now peers) (now view)) ≡ 0 ⌝ }
+    requires { ⌜ head ≡ headIn (now state) ⌝ }
+    requires { ⌜ Follows (decode (now state)) (callOf call (now ids) (now continuation) (now stored) (now peers) (now view)) plan ⌝ }
+    requires { ⌜ (plan .seen ≡ true) × (plan .work ≡ Nothing) ⌝ }
+    ensures { λ r. ⌜ record { answer = answerOf r; state = now (state .exit); commands = now (commands .exit) } ≡ calls.step (now (state .entry)) (now (commands .entry)) (callOf call (now (ids .entry)) (now (continuation .entry)) (now (stored .entry)) (now (peers .entry)) (now (view .entry))) ⌝ }
+{
+    let after = plan.head;
+    if 256 < after.stalled {
+        return finish::refused(11);
+    }
+    let Performed::Done(counts) = carry::carry_out(
+        &mut state[2560..],
+        commands,
+        head,
+        plan,
+        call,
+        ids,
+        continuation,
+        stored,
+        peers,
+        view,
+    ) else {
+        // never: as many as before fit
+        return finish::refused(10);
+    };
+    finish::settle(state, commands, head.stalled, plan, counts, &ids[..0])
+}
