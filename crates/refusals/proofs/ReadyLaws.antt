@@ -1,7 +1,7 @@
 -- What a plan by value requires, from what the call has passed.
 use Prim.Native.Nat.{ℕ, _*_, _%_, _≤_}
-use mathlib.Core.Path.{_≡_, refl, sym, _∙_}
-use mathlib.Core.Bool.{true, _&&_}
+use mathlib.Core.Path.{_≡_}
+use mathlib.Core.Bool.{true}
 use mathlib.Core.List.{List, map}
 use native.Mathlib.Omega.{arith}
 use lib.ListN.{length, take, drop, length-drop}

@@ -57,13 +57,13 @@ fn lent_refusal(
     if !call_fits(head, call) {
         return 5;
     }
-    if !inputs::lists_fit(call.kind, ids, continuation, stored) {
+    if !lists::lists_fit(call.kind, ids, continuation, stored) {
         return 6;
     }
-    if !inputs::peers_fit(peers) {
+    if !lists::peers_fit(peers) {
         return 7;
     }
-    if !inputs::view::view_fits(view) {
+    if !view::view_fits(view) {
         return 8;
     }
     0
