@@ -11,8 +11,8 @@ use Rattle.model.specs.Steps as steps
 use Rattle.model.specs.Lists.{peersIn, viewOf}
 use Rattle.model.specs.Calls as calls
 use Rattle.model.specs.Calls.{argsOf}
-use Rattle.sections.specs.Answers.{advanceOf}
-use Rattle.sections.specs.declared.downloaded.Advance.{Advance}
+use Rattle.downloaded.specs.Answers.{advanceOf}
+use Rattle.downloaded.specs.declared.Advance.{Advance}
 use Rattle.plans.specs.declared.Work.{Work}
 use Rattle.plans.specs.Plans.{actsBy, sectionsWork}
 

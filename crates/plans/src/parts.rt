@@ -72,7 +72,7 @@ pub fn advances(head: Head, clock: u64, mode: u8, work: Work, view: &[u8], heigh
     ensures { λ r. ⌜ r .work ≡ work ⌝ }
     ensures { λ r. ⌜ ((st : State) (c : calls.Call) (m : Mode) → headOf st ≡ head → c .clock ≡ clock → c .height ≡ height → c .view ≡ now (view .entry) → state.modeNumber m ≡ mode → ((downloaded : ℕ) → actsBy st c downloaded work ≡ []) → sketchIn st c r ≡ sketchOf st c (steps.advances st (argsOf c) m)) ⌝ }
 {
-    let advance = sections::downloaded::advance_downloaded_height(view, height, head.downloaded);
+    let advance = downloaded::advance_downloaded_height(view, height, head.downloaded);
     let mut after = head;
     after.clock = clock;
     after.mode = mode;
@@ -130,7 +130,7 @@ pub fn advances_and_requests(
     ensures { λ r. ⌜ r .work ≡ sectionsWork purges (firstOf (peersIn (now (peers .entry)))) ⌝ }
     ensures { λ r. ⌜ ((st : State) (c : calls.Call) → headOf st ≡ head → c .clock ≡ clock → c .height ≡ height → c .peers ≡ now (peers .entry) → c .view ≡ now (view .entry) → sketchIn st c r ≡ sketchOf st c (steps.advancesAndRequests st (argsOf c) from)) ⌝ }
 {
-    let advance = sections::downloaded::advance_downloaded_height(view, height, from);
+    let advance = downloaded::advance_downloaded_height(view, height, from);
     let seen = sections_seen(peers, view, height, advance.height);
     let work = sections_work(purges, peers);
     let mut after = head;

@@ -1,5 +1,3 @@
-pub mod RowLaws
-pub mod AdvanceLaws
 pub mod SeenLaws
 pub mod WritingLaws
 pub mod PlaceLaws

@@ -21,9 +21,10 @@ use Rattle.model.specs.Calls.{pairBytes}
 use Rattle.model.specs.Lists.{placeSize, sectionOf, headerOf, firstHeight, rowCount, viewOf}
 use Rattle.model.proofs.Widths.{IfSome, WellSection, WellHeader, WellView}
 use Rattle.model.proofs.SectionLaws.{window-few}
-use Rattle.sections.specs.Rows.{rowAt, isAbsent, sectionsOf, missingPairs, rowPairs}
+use Rattle.view_rows.specs.Rows.{rowAt, isAbsent, sectionsOf}
+use Rattle.sections.specs.Pairs.{missingPairs, rowPairs}
 use Rattle.sections.specs.Answers.{itemPair}
-use Rattle.sections.proofs.RowLaws.{view-none, view-row, present-row}
+use Rattle.view_rows.proofs.RowLaws.{view-none, view-row, present-row}
 use Rattle.sections.proofs.PlaceLaws.{missing-all}
 use Rattle.sections.proofs.WritingLaws.{Writing, writing-room, writing-next, writing-ends}
 

@@ -18,8 +18,9 @@ use Rattle.fields.proofs.EntriesLaws.{Wide, length-entries, entries-at, entries
 use Rattle.model.specs.Sections.{Section}
 use Rattle.model.specs.Calls.{pairBytes}
 use Rattle.model.specs.Lists.{placeSize, rowSize, sectionOf}
-use Rattle.sections.specs.Rows.{rowAt, sectionsOf, missingPairs, rowPairs, placePairs}
-use Rattle.sections.proofs.RowLaws.{row-part, length-row}
+use Rattle.view_rows.specs.Rows.{rowAt, sectionsOf}
+use Rattle.sections.specs.Pairs.{missingPairs, rowPairs, placePairs}
+use Rattle.view_rows.proofs.RowLaws.{row-part, length-row}
 use Rattle.sections.proofs.WritingLaws.{Writing, writing-room, writing-next, writing-ends}
 
 -- ---- any sections

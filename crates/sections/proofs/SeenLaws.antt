@@ -9,8 +9,8 @@ use native.Mathlib.Omega.{arith}
 use lib.Dec.{leb, ltb}
 use Rattle.model.specs.Sections.{Header, absent, present, View, Window, widen, windowWithin}
 use Rattle.model.specs.Lists.{headerOf, firstHeight, rowCount, viewOf}
-use Rattle.sections.specs.Rows.{rowAt, isAbsent}
-use Rattle.sections.proofs.RowLaws.{view-none, view-row}
+use Rattle.view_rows.specs.Rows.{rowAt, isAbsent}
+use Rattle.view_rows.proofs.RowLaws.{view-none, view-row}
 
 seen-row : (header : Header) (peer : ℕ) (further : Window) → widen (some header) peer further .inView ≡ cond (isAbsent header) true (further .inView)
 seen-row absent peer further = refl

@@ -1,2 +1,2 @@
-pub mod Rows
+pub mod Pairs
 pub mod Answers

@@ -1,7 +1,5 @@
-// Rules 4 and 5 on the bytes of a view: how far the blocks are complete, and which sections of the window are missing.
+// Rule 4 on the bytes of a view: which sections of the window are missing.
 //
-// A height costs a few byte reads, wherever its row is. Rule 5 stops at the first height that it does not pass, rule 4
-// at the first absent header; both say whether every height that they read has a row.
-pub mod downloaded;
-mod rows;
+// A height costs a few byte reads, wherever its row is. The rule stops at the first absent header, and says whether every
+// height that it read has a row.
 pub mod window;

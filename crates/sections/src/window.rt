@@ -9,7 +9,8 @@ ghost use Rattle.fields.specs.Overwrite.{overwritten};
 ghost use Rattle.model.specs.Protocol.{windowSize};
 ghost use Rattle.model.specs.Sections.{windowWithin};
 ghost use Rattle.model.specs.Lists.{viewOf, viewFits};
-ghost use Rattle.sections.specs.Rows.{rowAt, rowPairs, placePairs};
+ghost use Rattle.view_rows.specs.Rows.{rowAt};
+ghost use Rattle.sections.specs.Pairs.{rowPairs, placePairs};
 ghost use Rattle.sections.specs.Answers.{itemPair};
 
 // By differences: downloaded + 192 may be above 2^32 - 1.
@@ -30,16 +31,16 @@ pub fn window_seen(view: &[u8], chain: u32, downloaded: u32) -> bool
     requires { ⌜ viewFits (now view) ≡ true ⌝ }
     ensures { λ r. ⌜ ((peer : ℕ) → r ≡ windowWithin (min (downloaded + windowSize) chain - downloaded) (viewOf (now (view .entry))) peer downloaded .inView) ⌝ }
 {
-    let first = crate::rows::first_height(view);
-    let count = crate::rows::row_count(view);
+    let first = view_rows::first_height(view);
+    let count = view_rows::row_count(view);
     let end = window_end(chain, downloaded);
     let mut height = downloaded;
     while height < end {
         let next = height + 1;
-        if !crate::rows::has_row(first, count, next) {
+        if !view_rows::has_row(first, count, next) {
             return false;
         }
-        if crate::rows::is_absent(view, (next - first) as usize) {
+        if view_rows::is_absent(view, (next - first) as usize) {
             return true;
         }
         height = next;
@@ -70,7 +71,7 @@ fn put_row(view: &[u8], i: usize, pairs: &mut [u8], to: usize) -> usize
     ensures { λ r. ⌜ r ≡ to + length (rowPairs i (now (view .entry))) ⌝ }
     ensures { λ _. ⌜ now (pairs .exit) ≡ overwritten (to * 33) (joined (rowPairs i (now (view .entry)))) (now (pairs .entry)) ⌝ }
 {
-    let count = crate::rows::count_at(view, i);
+    let count = view_rows::count_at(view, i);
     let mut found = to;
     let mut k = 0;
     while k < count {
@@ -87,18 +88,18 @@ pub fn missing(view: &[u8], chain: u32, downloaded: u32, pairs: &mut [u8]) -> us
     ensures { λ _. ⌜ ((peer : ℕ) → now (pairs .exit) ≡ overwritten 0 (joined (map itemPair (windowWithin (min (downloaded + windowSize) chain - downloaded) (viewOf (now (view .entry))) peer downloaded .items))) (now (pairs .entry))) ⌝ }
     ensures { λ r. ⌜ ((peer : ℕ) → r ≡ length (windowWithin (min (downloaded + windowSize) chain - downloaded) (viewOf (now (view .entry))) peer downloaded .items)) ⌝ }
 {
-    let first = crate::rows::first_height(view);
-    let count = crate::rows::row_count(view);
+    let first = view_rows::first_height(view);
+    let count = view_rows::row_count(view);
     let end = window_end(chain, downloaded);
     let mut found = 0;
     let mut height = downloaded;
     while height < end {
         let next = height + 1;
-        if !crate::rows::has_row(first, count, next) {
+        if !view_rows::has_row(first, count, next) {
             return found;
         }
         let row = (next - first) as usize;
-        if crate::rows::is_absent(view, row) {
+        if view_rows::is_absent(view, row) {
             return found;
         }
         found = put_row(view, row, pairs, found);

@@ -166,11 +166,7 @@ pub fn checks(head: Head, clock: u64, peers: &[u8], view: &[u8], height: u32) ->
     after.clock = clock;
     after.sent = false;
     if head.mode == 2 {
-        let reached = sections::downloaded::advance_downloaded_height(
-            view,
-            height,
-            head.downloaded,
-        );
+        let reached = downloaded::advance_downloaded_height(view, height, head.downloaded);
         after.downloaded = reached.height;
         return Plan {
             outcome: 0,
@@ -261,7 +257,7 @@ pub fn ticks_synced(head: Head, clock: u64, peers: &[u8], view: &[u8], height: u
     let sent = sending::send_by(before, settings, clock);
     let send = sent.clock;
     let says = plans::parts::says_if(sent.sent, peer);
-    let advance = sections::downloaded::advance_downloaded_height(view, height, head.downloaded);
+    let advance = downloaded::advance_downloaded_height(view, height, head.downloaded);
     let mut after = head;
     after.clock = clock;
     after.send = send;

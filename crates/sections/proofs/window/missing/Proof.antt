@@ -6,7 +6,7 @@ use borrow.Author.Tests.{not-true, not-false}
 use Rattle.model.specs.Protocol.{windowSize}
 use Rattle.model.specs.Lists.{viewOf}
 use Rattle.model.proofs.ArgumentLaws.{view-well}
-use Rattle.sections.proofs.RowLaws.{fits-front, first-le, row-within}
+use Rattle.view_rows.proofs.RowLaws.{fits-front, first-le, row-within}
 use Rattle.sections.proofs.WritingLaws.{Writing, writing-starts}
 use Rattle.sections.proofs.MissingLaws.{pairsWithin, window-room, pairs-end, pairs-outside, pairs-absent, count-few, height-room, height-turn, missing-written}
 use Rattle.sections.proofs.window.missing.Statement.{statement}

@@ -2,7 +2,8 @@
 use borrow.Author.Needs.{needs}
 use Prim.Native.Nat.{_-_}
 use lib.ListN.{drop}
-use Rattle.sections.specs.Rows.{rowAt, sectionsOf, missingPairs, rowPairs}
+use Rattle.view_rows.specs.Rows.{rowAt, sectionsOf}
+use Rattle.sections.specs.Pairs.{missingPairs, rowPairs}
 use Rattle.sections.proofs.WritingLaws.{Writing, writing-starts}
 use Rattle.sections.proofs.PlaceLaws.{row-done, place-within, row-room, row-turn}
 use Rattle.sections.proofs.window.put_row.Statement.{statement}

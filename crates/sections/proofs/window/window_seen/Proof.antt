@@ -6,7 +6,7 @@ use borrow.Author.Tests.{not-true, not-false}
 use Rattle.model.specs.Protocol.{windowSize}
 use Rattle.model.specs.Sections.{windowWithin}
 use Rattle.model.specs.Lists.{viewOf}
-use Rattle.sections.proofs.RowLaws.{fits-front, first-le, row-within}
+use Rattle.view_rows.proofs.RowLaws.{fits-front, first-le, row-within}
 use Rattle.sections.proofs.SeenLaws.{seen-end, seen-outside, seen-absent, seen-further}
 use Rattle.sections.proofs.window.window_seen.Statement.{statement}
 use Rattle.sections.proofs.window.window_seen.Tie as tie
