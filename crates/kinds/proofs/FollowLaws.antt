@@ -21,7 +21,7 @@ use Rattle.plans.specs.declared.Plan.{Plan}
 use Rattle.plans.specs.declared.Work.{Work}
 use Rattle.plans.specs.declared.Work.the-variants.{Nothing, Ids, Sections, Received, Evicted, Purge, PurgeSections, Lose, LoseAsk, Check, CheckFresh}
 use Rattle.plans.specs.Plans.{Follows, isQuiet, isCheckBy, remainingBy, retriedBy, evictedBy, sketchIn, sketchOf, headBy, sectionsWork, checkWork, loseWork}
-use Rattle.kinds.proofs.KindLaws.{last-kind}
+use Rattle.plans.proofs.KindLaws.{last-kind}
 use Rattle.kinds.proofs.KeptLaws.{Kept, picks-kept, sync-info-kept, announced-kept, loses-kept, progresses-kept, tick-kept}
 
 module _ (st : State) (c : Call) where

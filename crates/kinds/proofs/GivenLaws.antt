@@ -17,7 +17,8 @@ use Rattle.plans.specs.declared.Work.the-variants.{Nothing}
 use Rattle.plans.specs.Plans.{Follows, isQuiet, sketchIn, sketchOf, sectionsWork, loseWork}
 use Rattle.image.specs.declared.head.Head.{Head}
 use Rattle.image.specs.Heads.{headOf}
-use Rattle.ticks.proofs.TickLaws.{quiet-sections, peer-of}
+use Rattle.plans.proofs.HeadLaws.{peer-of}
+use Rattle.plans.proofs.HeightLaws.{quiet-sections}
 use Rattle.fields.proofs.OrderLaws.{and-left}
 use borrow.Author.Tests.{eqb-true}
 use Rattle.kinds.proofs.FollowLaws.{pick-follows, needed-follows, reorg-follows, tick-follows, sections-follows, lost-follows}

@@ -1,4 +1,3 @@
-pub mod KindLaws
 pub mod KeptLaws
 pub mod FollowLaws
 pub mod GivenLaws

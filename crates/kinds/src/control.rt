@@ -28,10 +28,10 @@ pub fn handle_control_event(head: Head, call: Call, peers: &[u8], view: &[u8]) -
 {
     let kind = call.kind;
     match kind {
-        3 => plans::parts::continues(head, call.clock, Work::Ids(head.peer)),
+        3 => continuing::continues(head, call.clock, Work::Ids(head.peer)),
         _ => {
             let from = fallen(head.downloaded, call.fork);
-            plans::parts::advances_and_requests(
+            next_sections::advances_and_requests(
                 head,
                 call.clock,
                 from,

@@ -22,6 +22,6 @@ pub fn handle_event(head: Head, call: Call, ids: &[u8], peers: &[u8], view: &[u8
     match kind {
         5 => messages::hears_announced(head, call, ids, peers, view),
         6 => messages::hears_sync_info(head, call, peers, view),
-        _ => plans::parts::continues(head, call.clock, Work::Nothing),
+        _ => continuing::continues(head, call.clock, Work::Nothing),
     }
 }

@@ -25,7 +25,7 @@ pub fn ids_step(head: Head, call: Call, peers: &[u8], view: &[u8]) -> Plan
     let kind = call.kind;
     match kind {
         8 => ticks::loses(head, call.clock, call.peer, peers),
-        9 => plans::parts::advances(
+        9 => continuing::advances(
             head,
             call.clock,
             head.mode,
@@ -33,7 +33,7 @@ pub fn ids_step(head: Head, call: Call, peers: &[u8], view: &[u8]) -> Plan
             view,
             call.height,
         ),
-        _ => plans::parts::continues(head, call.clock, Work::Evicted),
+        _ => continuing::continues(head, call.clock, Work::Evicted),
     }
 }
 
@@ -89,11 +89,11 @@ pub fn mode_step(head: Head, call: Call, places: &[u8], peers: &[u8], view: &[u8
 {
     let kind = call.kind;
     match kind {
-        1 => plans::parts::advances(head, call.clock, 1, Work::Nothing, view, call.height),
+        1 => continuing::advances(head, call.clock, 1, Work::Nothing, view, call.height),
         2 => pick(head, call, places, peers),
         14 => {
             let from = head.downloaded;
-            plans::parts::advances_and_requests(
+            next_sections::advances_and_requests(
                 head,
                 call.clock,
                 from,
@@ -103,10 +103,10 @@ pub fn mode_step(head: Head, call: Call, places: &[u8], peers: &[u8], view: &[u8
                 call.height,
             )
         }
-        15 => plans::parts::leaves(head, call.clock, 3, 1, Work::Nothing),
+        15 => continuing::leaves(head, call.clock, 3, 1, Work::Nothing),
         _ => {
             let mode = ended_mode(head.mode);
-            plans::parts::leaves(head, call.clock, 5, mode, Work::Nothing)
+            continuing::leaves(head, call.clock, 5, mode, Work::Nothing)
         }
     }
 }

@@ -36,12 +36,12 @@ pub fn hears_announced(head: Head, call: Call, ids: &[u8], peers: &[u8], view: &
 {
     if 0 < ids.len() {
         if crate::events::is_announceable(call.typeid) {
-            return plans::parts::continues(head, call.clock, Work::Ids(call.peer));
+            return continuing::continues(head, call.clock, Work::Ids(call.peer));
         }
-        return plans::parts::continues(head, call.clock, Work::Nothing);
+        return continuing::continues(head, call.clock, Work::Nothing);
     }
     if call.typeid == 101 {
-        return plans::parts::is_at_tip(
+        return next_sections::is_at_tip(
             head,
             call.clock,
             head.tip,
@@ -51,7 +51,7 @@ pub fn hears_announced(head: Head, call: Call, ids: &[u8], peers: &[u8], view: &
             call.height,
         );
     }
-    plans::parts::continues(head, call.clock, Work::Nothing)
+    continuing::continues(head, call.clock, Work::Nothing)
 }
 
 // BehindPeer makes that peer the sync peer, empties the stalled set and enters syncing anew, without the resets of picking.
@@ -64,7 +64,7 @@ fn falls_behind(head: Head, clock: u64, tip: u32, peer: u64, announces: Listed) 
     after.tip = tip;
     after.sent = false;
     after.stalled = 0;
-    plans::parts::enters_syncing(after, clock, 2, peer, announces, Stalling::Empty)
+    sync_infos::enters_syncing(after, clock, 2, peer, announces, Stalling::Empty)
 }
 
 // What a sync info leads to: a reply, synced, or syncing anew with its sender.
@@ -82,8 +82,8 @@ fn answers(
     ensures { λ r. ⌜ ((st : State) (c : calls.Call) → headOf st ≡ head → numbersOf c ≡ call → c .peers ≡ now (peers .entry) → c .view ≡ now (view .entry) → sketchIn st c r ≡ sketchOf st c (steps.answers st (argsOf c) (c .peer) (announceTo (listedPeer announces) (idsIn (c .continuation))) tip (outcomeOf heard))) ⌝ }
 {
     match heard {
-        Heard::Continue => plans::parts::replies(head, call.clock, tip, call.peer, announces),
-        Heard::Synced => plans::parts::is_at_tip(
+        Heard::Continue => sync_infos::replies(head, call.clock, tip, call.peer, announces),
+        Heard::Synced => next_sections::is_at_tip(
             head,
             call.clock,
             tip,
@@ -106,7 +106,7 @@ pub fn hears_sync_info(head: Head, call: Call, peers: &[u8], view: &[u8]) -> Pla
     let hastip = parsed & (call.hastip == 1);
     let tip = crate::events::raised_tip(head.tip, hastip, call.tip);
     let goes = crate::events::continues_chain(parsed, call.height, hastip, call.tip);
-    let announces = plans::parts::says_if(goes, call.peer);
+    let announces = sync_infos::says_if(goes, call.peer);
     let heard = crate::events::tip_outcome(call.peer == head.peer, call.height, hastip, call.tip);
     answers(head, call, heard, tip, announces, peers, view)
 }

@@ -14,7 +14,7 @@ use Rattle.model.specs.Calls.{argsOf}
 use Rattle.downloaded.specs.Answers.{advanceOf}
 use Rattle.downloaded.specs.declared.Advance.{Advance}
 use Rattle.plans.specs.declared.Work.{Work}
-use Rattle.plans.specs.Plans.{actsBy, sectionsWork}
+use Rattle.plans.specs.Plans.{actsBy, isQuiet, sectionsWork}
 
 -- Rule 5's answer is the model's from this height on.
 pub record Reached (st : State) (c : calls.Call) (from : ℕ) (r : Advance) : Type 0 where
@@ -51,3 +51,7 @@ pub seen-by : (st : State) (c : calls.Call) (from : ℕ) (seen : Bool) (peers vi
     → seen ≡ steps.sectionsFrom st (argsOf c) from .inView
 unfolding steps.sectionsFrom argsOf
 seen-by st c from seen peers view height eh ep ev e = rw (eh, ep, ev) e
+
+pub quiet-sections : (o : Option ℕ) → isQuiet (sectionsWork false o) ≡ true
+quiet-sections none = refl
+quiet-sections (some peer) = refl

@@ -1,19 +1,12 @@
 -- A plan by value and one of the model have the same sketch if they agree part by part.
-use Prim.{⊥}
-use Prim.Native.Nat.{ℕ}
-use mathlib.Core.Path.{_≡_, sym, ap, _∙_}
-use mathlib.Core.Bool.{true, false}
+use mathlib.Core.Path.{_≡_}
 use mathlib.Core.List.{_++_}
-use lib.Dec.{eqb}
-use borrow.Author.Tests.{eq-eqb, ne-eqb}
-use Rattle.model.specs.State.{State, modeNumber}
+use Rattle.model.specs.State.{State}
 use Rattle.model.specs.Events.{outcomeNumber}
 use Rattle.model.specs.Steps as steps
 use Rattle.model.specs.Calls as calls
 use Rattle.model.specs.Lists.{idsIn}
 use Rattle.peers.specs.Values.{listedPeer}
-use Rattle.image.specs.declared.head.Head.{Head}
-use Rattle.image.specs.Heads.{headOf}
 use Rattle.plans.specs.declared.Plan.{Plan}
 use Rattle.plans.specs.Plans.{announceTo, sayTo, actsBy, stalledBy, headBy, sketchIn, sketchOf}
 
@@ -26,13 +19,3 @@ pub sketched : (st : State) (c : calls.Call) (p : Plan) (q : steps.Plan)
     → sketchIn st c p ≡ sketchOf st c q
 unfolding sketchIn sketchOf
 sketched st c p q o h a s v = rw (o, a, h, s, v)
-
--- A header's mode says which mode the state is in.
-module _ (st : State) (head : Head) (h : headOf st ≡ head) (n : ℕ) where
-  pub is-mode : head .mode ≡ n → eqb (modeNumber (st .mode)) n ≡ true
-  unfolding headOf
-  is-mode e = eq-eqb _ _ (ap (λ (x : Head). x .mode) h ∙ e)
-
-  pub not-mode : (head .mode ≡ n → ⊥) → eqb (modeNumber (st .mode)) n ≡ false
-  unfolding headOf
-  not-mode e = ne-eqb _ _ (λ (x : modeNumber (st .mode) ≡ n). e (sym (ap (λ (x : Head). x .mode) h) ∙ x))

@@ -1,11 +1,9 @@
 // What a step comes to, worked out by value before anything is written.
 //
-// The parts carry the names of the model's plans (model/specs/Steps.antt); the crate `kinds` has a function for each kind of
-// step. A plan costs the view rows that its rules read and nothing else.
+// `specs/Plans.antt` says what a plan stands for in the model. The plans that several steps share are in `continuing`,
+// `sync_infos` and `next_sections`; the crate `kinds` has a function for each kind of step.
 use image::head::Head;
 use peers::Listed;
-
-pub mod parts;
 
 // The numbers of a call.
 pub struct Call {

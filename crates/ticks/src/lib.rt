@@ -74,7 +74,7 @@ pub fn picks(head: Head, clock: u64, stalled: Stalled, peers: &[u8]) -> Plan
     let send = settings::reset_sends(head.send);
     after.send = send;
     after.progress = clock;
-    plans::parts::enters_syncing(after, clock, 0, peer, Listed::Nobody, stalling)
+    sync_infos::enters_syncing(after, clock, 0, peer, Listed::Nobody, stalling)
 }
 
 // Progress in syncing: last progress is now, nobody is stalled, and after rule 4 one send is tried before the next entry or
@@ -84,8 +84,8 @@ fn progresses_syncing(head: Head, clock: u64, peers: &[u8], view: &[u8], height:
     ensures { λ r. ⌜ isQuiet (r .work) ≡ true ⌝ }
     ensures { λ r. ⌜ ((st : State) (c : calls.Call) → headOf st ≡ head → c .clock ≡ clock → c .height ≡ height → c .peers ≡ now (peers .entry) → c .view ≡ now (view .entry) → sketchIn st c r ≡ sketchOf st c (steps.progresses st (argsOf c) true)) ⌝ }
 {
-    let seen = plans::parts::sections_seen(peers, view, height, head.downloaded);
-    let work = plans::parts::sections_work(false, peers);
+    let seen = next_sections::sections_seen(peers, view, height, head.downloaded);
+    let work = next_sections::sections_work(false, peers);
     let mut after = head;
     after.clock = clock;
     after.mode = 2;
@@ -108,7 +108,7 @@ fn progresses_syncing(head: Head, clock: u64, peers: &[u8], view: &[u8], height:
     let before = head.send;
     let sent = sending::send_by(before, settings, clock);
     let send = sent.clock;
-    let says = plans::parts::says_if(sent.sent, head.peer);
+    let says = sync_infos::says_if(sent.sent, head.peer);
     after.send = send;
     Plan {
         outcome: 0,
@@ -130,8 +130,8 @@ pub fn progresses(head: Head, clock: u64, peers: &[u8], view: &[u8], height: u32
     if head.mode == 2 {
         return progresses_syncing(head, clock, peers, view, height);
     }
-    let seen = plans::parts::sections_seen(peers, view, height, head.downloaded);
-    let work = plans::parts::sections_work(false, peers);
+    let seen = next_sections::sections_seen(peers, view, height, head.downloaded);
+    let work = next_sections::sections_work(false, peers);
     let mut after = head;
     after.clock = clock;
     after.sent = false;
@@ -210,7 +210,7 @@ pub fn ticks_syncing(head: Head, clock: u64, stalled: Stalled) -> Plan
     let before = head.send;
     let sent = sending::send_by(before, settings, clock);
     let send = sent.clock;
-    let says = plans::parts::says_if(sent.sent, head.peer);
+    let says = sync_infos::says_if(sent.sent, head.peer);
     let mut after = head;
     after.clock = clock;
     after.send = send;
@@ -250,13 +250,13 @@ pub fn ticks_synced(head: Head, clock: u64, peers: &[u8], view: &[u8], height: u
     ensures { λ r. ⌜ ((st : State) (c : calls.Call) → headOf st ≡ head → c .clock ≡ clock → c .height ≡ height → c .peers ≡ now (peers .entry) → c .view ≡ now (view .entry) → sketchIn st c r ≡ sketchOf st c (steps.ticksSynced st (argsOf c) (firstOf (peersIn (now (peers .entry)))))) ⌝ }
 {
     let Listed::Peer(peer) = peers::first_listed(peers) else {
-        return plans::parts::leaves(head, clock, 3, 1, Work::Nothing);
+        return continuing::leaves(head, clock, 3, 1, Work::Nothing);
     };
     let settings = head.settings;
     let before = head.send;
     let sent = sending::send_by(before, settings, clock);
     let send = sent.clock;
-    let says = plans::parts::says_if(sent.sent, peer);
+    let says = sync_infos::says_if(sent.sent, peer);
     let advance = downloaded::advance_downloaded_height(view, height, head.downloaded);
     let mut after = head;
     after.clock = clock;
@@ -289,11 +289,11 @@ pub fn loses(head: Head, clock: u64, peer: u64, peers: &[u8]) -> Plan
     ensures { λ r. ⌜ ((st : State) (c : calls.Call) → headOf st ≡ head → c .clock ≡ clock → c .peers ≡ now (peers .entry) → sketchIn st c r ≡ sketchOf st c (steps.loses st (argsOf c) peer)) ⌝ }
 {
     if peer != head.peer {
-        return plans::parts::continues(head, clock, Work::Nothing);
+        return continuing::continues(head, clock, Work::Nothing);
     }
     if head.mode != 2 {
-        return plans::parts::leaves(head, clock, 3, 1, Work::Nothing);
+        return continuing::leaves(head, clock, 3, 1, Work::Nothing);
     }
     let work = lose_work(peers);
-    plans::parts::leaves(head, clock, 3, 1, work)
+    continuing::leaves(head, clock, 3, 1, work)
 }

@@ -8,7 +8,7 @@ use Rattle.model.specs.Peers.{firstOf}
 use Rattle.model.specs.Lists.{peersIn}
 use lib.Dec.{eqb}
 use Rattle.model.specs.Steps as steps
-use Rattle.messages.proofs.CallLaws.{numbers}
+use Rattle.plans.proofs.CallLaws.{numbers}
 use Rattle.messages.proofs.answers.Statement.{statement}
 use Rattle.messages.proofs.answers.Tie as tie
 

@@ -7,7 +7,7 @@ use Rattle.model.specs.Peers.{firstOf}
 use Rattle.model.specs.Lists.{peersIn}
 use lib.Dec.{eqb}
 use Rattle.image.specs.Heads.{headOf}
-use Rattle.messages.proofs.CallLaws.{numbers}
+use Rattle.plans.proofs.CallLaws.{numbers}
 use Rattle.messages.proofs.hears_announced.Statement.{statement}
 use Rattle.messages.proofs.hears_announced.Tie as tie
 

@@ -6,7 +6,7 @@ use Rattle.plans.specs.Plans.{sketchOf}
 use Rattle.messages.specs.Heard.{outcomeOf}
 use Rattle.messages.proofs.MessageLaws.{heard-by}
 use Rattle.image.specs.Heads.{headOf}
-use Rattle.messages.proofs.CallLaws.{numbers}
+use Rattle.plans.proofs.CallLaws.{numbers}
 use Rattle.messages.proofs.hears_sync_info.Statement.{statement}
 use Rattle.messages.proofs.hears_sync_info.Tie as tie
 

@@ -9,9 +9,10 @@ use Rattle.model.specs.Peers.{firstOf}
 use Rattle.model.specs.Lists.{peersIn}
 use Rattle.image.specs.Heads.{headOf}
 use Rattle.plans.specs.Plans.{actsBy, headBy}
-use Rattle.plans.proofs.SketchLaws.{sketched, is-mode, not-mode}
+use Rattle.plans.proofs.SketchLaws.{sketched}
+use Rattle.plans.proofs.HeadLaws.{is-mode, not-mode, downloaded-of}
 use Rattle.plans.proofs.HeightLaws.{reached}
-use Rattle.ticks.proofs.TickLaws.{fresh-asked, downloaded-of}
+use Rattle.ticks.proofs.TickLaws.{fresh-asked}
 use Rattle.ticks.proofs.checks.Statement.{statement}
 use Rattle.ticks.proofs.checks.Tie as tie
 

@@ -12,8 +12,8 @@ use Rattle.model.specs.Events.{SyncPeerGone}
 use Rattle.model.specs.Steps as steps
 use Rattle.model.specs.Calls.{argsOf}
 use Rattle.plans.specs.Plans.{actsBy, sketchOf}
-use Rattle.plans.proofs.SketchLaws.{is-mode, not-mode}
-use Rattle.ticks.proofs.TickLaws.{lost-asked, peer-of}
+use Rattle.plans.proofs.HeadLaws.{is-mode, not-mode, peer-of}
+use Rattle.ticks.proofs.TickLaws.{lost-asked}
 use Rattle.ticks.proofs.loses.Statement.{statement}
 use Rattle.ticks.proofs.loses.Tie as tie
 

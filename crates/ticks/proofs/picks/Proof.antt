@@ -14,8 +14,8 @@ use Rattle.settings.specs.Values.{sendClockOf}
 use Rattle.image.specs.Heads.{headOf}
 use Rattle.plans.specs.Plans.{headBy, stalledBy}
 use Rattle.plans.proofs.SketchLaws.{sketched}
+use Rattle.plans.proofs.HeadLaws.{stalled-of}
 use Rattle.plans.proofs.SendLaws.{clockFrom, clock-from, headed}
-use Rattle.ticks.proofs.TickLaws.{stalled-of}
 use Rattle.ticks.proofs.picks.Statement.{statement}
 use Rattle.ticks.proofs.picks.Tie as tie
 

@@ -9,9 +9,9 @@ use Rattle.model.specs.Peers.{firstOf}
 use Rattle.model.specs.Lists.{peersIn}
 use Rattle.image.specs.Heads.{headOf}
 use Rattle.plans.specs.Plans.{actsBy, headBy}
-use Rattle.plans.proofs.SketchLaws.{sketched, is-mode, not-mode}
-use Rattle.plans.proofs.HeightLaws.{asked, seen-by}
-use Rattle.ticks.proofs.TickLaws.{quiet-sections, downloaded-of}
+use Rattle.plans.proofs.SketchLaws.{sketched}
+use Rattle.plans.proofs.HeadLaws.{is-mode, not-mode, downloaded-of}
+use Rattle.plans.proofs.HeightLaws.{asked, seen-by, quiet-sections}
 use Rattle.ticks.proofs.progresses.Statement.{statement}
 use Rattle.ticks.proofs.progresses.Tie as tie
 

@@ -11,9 +11,10 @@ use Rattle.peers.specs.Values.{listedPeer}
 use Rattle.image.specs.Heads.{headOf}
 use Rattle.plans.specs.Plans.{actsBy, headBy}
 use Rattle.plans.proofs.SketchLaws.{sketched}
-use Rattle.plans.proofs.HeightLaws.{asked, seen-by}
+use Rattle.plans.proofs.HeadLaws.{downloaded-of, used-of, peer-of}
+use Rattle.plans.proofs.HeightLaws.{asked, seen-by, quiet-sections}
+use Rattle.ticks.proofs.TickLaws.{not-again, once}
 use Rattle.plans.proofs.SendLaws.{clockFrom, answered-in, said}
-use Rattle.ticks.proofs.TickLaws.{quiet-sections, not-again, once, downloaded-of, used-of, peer-of}
 use Rattle.ticks.proofs.progresses_syncing.Statement.{statement}
 use Rattle.ticks.proofs.progresses_syncing.Tie as tie
 

@@ -12,9 +12,9 @@ use Rattle.peers.specs.Values.{listedPeer}
 use Rattle.image.specs.Heads.{headOf}
 use Rattle.plans.specs.Plans.{headBy}
 use Rattle.plans.proofs.SketchLaws.{sketched}
+use Rattle.plans.proofs.HeadLaws.{downloaded-of}
 use Rattle.plans.proofs.HeightLaws.{reached}
 use Rattle.plans.proofs.SendLaws.{clockFrom, answered-in, said}
-use Rattle.ticks.proofs.TickLaws.{downloaded-of}
 use Rattle.ticks.proofs.ticks_synced.Statement.{statement}
 use Rattle.ticks.proofs.ticks_synced.Tie as tie
 

@@ -11,8 +11,8 @@ use Rattle.peers.specs.Values.{listedPeer}
 use Rattle.image.specs.Heads.{headOf}
 use Rattle.plans.specs.Plans.{headBy, stalledBy}
 use Rattle.plans.proofs.SketchLaws.{sketched}
+use Rattle.plans.proofs.HeadLaws.{peer-of, stalled-of, has-stalled}
 use Rattle.plans.proofs.SendLaws.{clockFrom, answered-in, said}
-use Rattle.ticks.proofs.TickLaws.{peer-of, stalled-of, has-stalled}
 use Rattle.ticks.proofs.ticks_syncing.Statement.{statement}
 use Rattle.ticks.proofs.ticks_syncing.Tie as tie
 

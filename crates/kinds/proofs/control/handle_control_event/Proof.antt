@@ -3,10 +3,10 @@ use borrow.Author.Needs.{needs}
 use mathlib.Core.Path.{sym, _∙_}
 use Rattle.model.specs.Peers.{firstOf}
 use Rattle.model.specs.Lists.{peersIn}
-use Rattle.ticks.proofs.TickLaws.{peer-of, downloaded-of}
-use Rattle.kinds.proofs.KindLaws.{second}
+use Rattle.plans.proofs.HeadLaws.{peer-of, downloaded-of}
+use Rattle.plans.proofs.KindLaws.{second}
 use Rattle.kinds.proofs.GivenLaws.{needed, reorged}
-use Rattle.messages.proofs.CallLaws.{numbers}
+use Rattle.plans.proofs.CallLaws.{numbers}
 use Rattle.kinds.proofs.control.handle_control_event.Statement.{statement}
 use Rattle.kinds.proofs.control.handle_control_event.Tie as tie
 

@@ -1,7 +1,7 @@
 -- By the group of kinds.
 use borrow.Author.Needs.{needs}
 use mathlib.Core.Logic.{inl, inr, ⊎-elim}
-use Rattle.messages.proofs.CallLaws.{numbers}
+use Rattle.plans.proofs.CallLaws.{numbers}
 use Rattle.kinds.proofs.step.plan_step.Statement.{statement}
 use Rattle.kinds.proofs.step.plan_step.Tie as tie
 

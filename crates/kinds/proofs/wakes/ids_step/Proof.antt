@@ -4,10 +4,10 @@ use mathlib.Core.Path.{refl, ap, _∙_}
 use Rattle.model.specs.Peers.{firstOf}
 use Rattle.model.specs.Lists.{peersIn}
 use Rattle.image.specs.Heads.{headOf}
-use Rattle.kinds.proofs.KindLaws.{third}
+use Rattle.plans.proofs.KindLaws.{third}
 use Rattle.kinds.proofs.FollowLaws.{received-follows, evicted-follows}
 use Rattle.kinds.proofs.GivenLaws.{lost}
-use Rattle.messages.proofs.CallLaws.{numbers}
+use Rattle.plans.proofs.CallLaws.{numbers}
 use Rattle.kinds.proofs.wakes.ids_step.Statement.{statement}
 use Rattle.kinds.proofs.wakes.ids_step.Tie as tie
 

@@ -7,11 +7,11 @@ use mathlib.Core.Bool.{cond}
 use Rattle.model.specs.State.{isMode, seeking, ended}
 use Rattle.model.specs.Events.{SyncPeerGone, EndOfStream}
 use Rattle.image.specs.Heads.{headOf}
-use Rattle.ticks.proofs.TickLaws.{downloaded-of}
-use Rattle.kinds.proofs.KindLaws.{outermost}
+use Rattle.plans.proofs.HeadLaws.{downloaded-of}
+use Rattle.plans.proofs.KindLaws.{outermost}
 use Rattle.kinds.proofs.FollowLaws.{start-follows, failure-follows, end-follows}
 use Rattle.kinds.proofs.GivenLaws.{sectioned}
-use Rattle.messages.proofs.CallLaws.{numbers}
+use Rattle.plans.proofs.CallLaws.{numbers}
 use Rattle.kinds.proofs.wakes.mode_step.Statement.{statement}
 use Rattle.kinds.proofs.wakes.mode_step.Tie as tie
 

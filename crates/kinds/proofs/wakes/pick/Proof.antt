@@ -2,7 +2,7 @@
 use borrow.Author.Needs.{needs}
 use mathlib.Core.Path.{sym, _∙_}
 use Rattle.kinds.proofs.GivenLaws.{picked}
-use Rattle.messages.proofs.CallLaws.{numbers}
+use Rattle.plans.proofs.CallLaws.{numbers}
 use Rattle.kinds.proofs.wakes.pick.Statement.{statement}
 use Rattle.kinds.proofs.wakes.pick.Tie as tie
 

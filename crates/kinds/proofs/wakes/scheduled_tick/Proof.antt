@@ -1,9 +1,9 @@
 -- By the mode.
 use borrow.Author.Needs.{needs}
 use mathlib.Core.Path.{sym, _∙_}
-use Rattle.plans.proofs.SketchLaws.{is-mode, not-mode}
+use Rattle.plans.proofs.HeadLaws.{is-mode, not-mode}
 use Rattle.kinds.proofs.GivenLaws.{ticked-syncing, ticked-synced}
-use Rattle.messages.proofs.CallLaws.{numbers}
+use Rattle.plans.proofs.CallLaws.{numbers}
 use Rattle.kinds.proofs.wakes.scheduled_tick.Statement.{statement}
 use Rattle.kinds.proofs.wakes.scheduled_tick.Tie as tie
 

@@ -4,9 +4,9 @@ use mathlib.Core.Path.{ap, _∙_}
 use Rattle.model.specs.Peers.{firstOf}
 use Rattle.model.specs.Lists.{peersIn}
 use Rattle.peers.specs.Values.{listedPeer}
-use Rattle.kinds.proofs.KindLaws.{third}
+use Rattle.plans.proofs.KindLaws.{third}
 use Rattle.kinds.proofs.FollowLaws.{progress-follows, check-follows}
-use Rattle.messages.proofs.CallLaws.{numbers}
+use Rattle.plans.proofs.CallLaws.{numbers}
 use Rattle.kinds.proofs.wakes.timed_step.Statement.{statement}
 use Rattle.kinds.proofs.wakes.timed_step.Tie as tie
 
