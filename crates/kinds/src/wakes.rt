@@ -44,7 +44,7 @@ fn scheduled_tick(head: Head, call: Call, places: &[u8], peers: &[u8], view: &[u
 {
     if head.mode == 2 {
         let stalled = stalled::read_stalled(places, head.stalled);
-        return ticks::ticks_syncing(head, call.clock, stalled);
+        return picking::ticks_syncing(head, call.clock, stalled);
     }
     ticks::ticks_synced(head, call.clock, peers, view, call.height)
 }
@@ -57,7 +57,7 @@ pub fn timed_step(head: Head, call: Call, places: &[u8], peers: &[u8], view: &[u
 {
     let kind = call.kind;
     match kind {
-        11 => ticks::progresses(head, call.clock, peers, view, call.height),
+        11 => progress::progresses(head, call.clock, peers, view, call.height),
         12 => ticks::checks(head, call.clock, peers, view, call.height),
         _ => scheduled_tick(head, call, places, peers, view),
     }
@@ -68,7 +68,7 @@ fn pick(head: Head, call: Call, places: &[u8], peers: &[u8]) -> Plan
     ensures { λ r. ⌜ ((st : State) (c : calls.Call) → headOf st ≡ head → numbersOf c ≡ call → c .peers ≡ now (peers .entry) → st .sync .stalledPeers ≡ map fromBe (entries 8 (head .stalled) (now (places .entry))) → c .kind ≡ 2 → Follows st c r) ⌝ }
 {
     let stalled = stalled::read_stalled(places, head.stalled);
-    ticks::picks(head, call.clock, stalled, peers)
+    picking::picks(head, call.clock, stalled, peers)
 }
 
 // The mode after the end of the stream: from seeking ended, else seeking.

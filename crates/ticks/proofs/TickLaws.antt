@@ -1,11 +1,8 @@
 -- What the works of a tick ask for.
 use Prim.Native.Nat.{ℕ}
 use mathlib.Core.Path.{_≡_, refl}
-use mathlib.Core.Bool.{Bool, true, false, cond}
-use mathlib.Core.List.{List, [], _++_}
 use mathlib.Core.Option.{Option, none, some}
 use Rattle.model.specs.State.{State}
-use Rattle.model.specs.Requests.{Act}
 use Rattle.model.specs.Check.{askFresh}
 use Rattle.model.specs.Lists.{pairsIn}
 use Rattle.model.specs.Steps as steps
@@ -22,10 +19,3 @@ module _ (st : State) (c : calls.Call) (height : ℕ) where
   unfolding steps.askOrphans
   lost-asked none = refl
   lost-asked (some peer) = refl
-
--- Progress sends after what it asks for, unless it has sent before.
-pub not-again : (used : Bool) (x y z : List Act) → used ≡ true → x ≡ y → x ++ [] ≡ y ++ cond used [] z
-not-again used x y z u e = rw (u, e)
-
-pub once : (used : Bool) (x y s z : List Act) → used ≡ false → x ≡ y → s ≡ z → x ++ s ≡ y ++ cond used [] z
-once used x y s z u e f = rw (u, e, f)

@@ -3,8 +3,8 @@ use borrow.Author.Needs.{needs}
 use mathlib.Core.Path.{_≡_, sym, ap, _∙_}
 use mathlib.Core.Bool.{true, false}
 use Rattle.model.specs.Peers.{isListed, joinStalled}
-use Rattle.ticks.proofs.joining.Statement.{statement}
-use Rattle.ticks.proofs.joining.Tie as tie
+use Rattle.picking.proofs.joining.Statement.{statement}
+use Rattle.picking.proofs.joining.Tie as tie
 
 contains-requires : tie.Need-contains-requires
 contains-requires c κs = search needs

@@ -13,10 +13,10 @@ use Rattle.plans.specs.Plans.{actsBy, headBy}
 use Rattle.plans.proofs.SketchLaws.{sketched}
 use Rattle.plans.proofs.HeadLaws.{downloaded-of, used-of, peer-of}
 use Rattle.plans.proofs.HeightLaws.{asked, seen-by, quiet-sections}
-use Rattle.ticks.proofs.TickLaws.{not-again, once}
+use Rattle.progress.proofs.ProgressLaws.{not-again, once}
 use Rattle.plans.proofs.SendLaws.{clockFrom, answered-in, said}
-use Rattle.ticks.proofs.progresses_syncing.Statement.{statement}
-use Rattle.ticks.proofs.progresses_syncing.Tie as tie
+use Rattle.progress.proofs.progresses_syncing.Statement.{statement}
+use Rattle.progress.proofs.progresses_syncing.Tie as tie
 
 sections-seen-requires : tie.Need-sections-seen-requires
 sections-seen-requires c κs = search needs

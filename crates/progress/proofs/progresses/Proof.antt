@@ -12,8 +12,8 @@ use Rattle.plans.specs.Plans.{actsBy, headBy}
 use Rattle.plans.proofs.SketchLaws.{sketched}
 use Rattle.plans.proofs.HeadLaws.{is-mode, not-mode, downloaded-of}
 use Rattle.plans.proofs.HeightLaws.{asked, seen-by, quiet-sections}
-use Rattle.ticks.proofs.progresses.Statement.{statement}
-use Rattle.ticks.proofs.progresses.Tie as tie
+use Rattle.progress.proofs.progresses.Statement.{statement}
+use Rattle.progress.proofs.progresses.Tie as tie
 
 progresses-syncing-requires : tie.Need-progresses-syncing-requires
 progresses-syncing-requires c κs = search needs

@@ -5,8 +5,8 @@ use mathlib.Core.Path.{_≡_, sym, ap, _∙_}
 use mathlib.Core.Bool.{true, false}
 use Rattle.model.specs.Lists.{peersIn}
 use Rattle.model.specs.Peers.{firstUnstalled, isSome, stalledAfterSelect}
-use Rattle.ticks.proofs.selecting.Statement.{statement}
-use Rattle.ticks.proofs.selecting.Tie as tie
+use Rattle.picking.proofs.selecting.Statement.{statement}
+use Rattle.picking.proofs.selecting.Tie as tie
 
 all-stalled-requires : tie.Need-all-stalled-requires
 all-stalled-requires c κs = search needs

@@ -2,8 +2,8 @@
 use borrow.Author.Needs.{needs}
 use mathlib.Core.Path.{sym}
 use lib.ListN.{length-append}
-use Rattle.ticks.proofs.stalled_after.Statement.{statement}
-use Rattle.ticks.proofs.stalled_after.Tie as tie
+use Rattle.picking.proofs.stalled_after.Statement.{statement}
+use Rattle.picking.proofs.stalled_after.Tie as tie
 
 enum-told : tie.Need-enum-told
 enum-told c = search needs

@@ -13,8 +13,8 @@ use Rattle.plans.specs.Plans.{headBy, stalledBy}
 use Rattle.plans.proofs.SketchLaws.{sketched}
 use Rattle.plans.proofs.HeadLaws.{peer-of, stalled-of, has-stalled}
 use Rattle.plans.proofs.SendLaws.{clockFrom, answered-in, said}
-use Rattle.ticks.proofs.ticks_syncing.Statement.{statement}
-use Rattle.ticks.proofs.ticks_syncing.Tie as tie
+use Rattle.picking.proofs.ticks_syncing.Statement.{statement}
+use Rattle.picking.proofs.ticks_syncing.Tie as tie
 
 send-by-requires : tie.Need-send-by-requires
 send-by-requires c κs = search needs

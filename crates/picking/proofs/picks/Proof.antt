@@ -16,8 +16,8 @@ use Rattle.plans.specs.Plans.{headBy, stalledBy}
 use Rattle.plans.proofs.SketchLaws.{sketched}
 use Rattle.plans.proofs.HeadLaws.{stalled-of}
 use Rattle.plans.proofs.SendLaws.{clockFrom, clock-from, headed}
-use Rattle.ticks.proofs.picks.Statement.{statement}
-use Rattle.ticks.proofs.picks.Tie as tie
+use Rattle.picking.proofs.picks.Statement.{statement}
+use Rattle.picking.proofs.picks.Tie as tie
 
 selecting-requires : tie.Need-selecting-requires
 selecting-requires c κs = search needs
