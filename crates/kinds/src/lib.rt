@@ -4,4 +4,3 @@
 mod control;
 mod events;
 pub mod step;
-mod wakes;

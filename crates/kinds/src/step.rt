@@ -32,8 +32,8 @@ pub fn plan_step(
     match kind {
         3..=4 => crate::control::handle_control_event(head, call, peers, view),
         5..=7 => crate::events::handle_event(head, call, ids, peers, view),
-        8..=10 => crate::wakes::ids_step(head, call, peers, view),
-        11..=13 => crate::wakes::timed_step(head, call, places, peers, view),
-        _ => crate::wakes::mode_step(head, call, places, peers, view),
+        8..=10 => wakes::ids_step(head, call, peers, view),
+        11..=13 => wakes::timed_step(head, call, places, peers, view),
+        _ => wakes::mode_step(head, call, places, peers, view),
     }
 }

@@ -4,3 +4,6 @@ pub mod HeightLaws
 pub mod KindLaws
 pub mod SendLaws
 pub mod SketchLaws
+pub mod KeptLaws
+pub mod FollowLaws
+pub mod GivenLaws

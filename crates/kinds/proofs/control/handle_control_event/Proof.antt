@@ -5,7 +5,7 @@ use Rattle.model.specs.Peers.{firstOf}
 use Rattle.model.specs.Lists.{peersIn}
 use Rattle.plans.proofs.HeadLaws.{peer-of, downloaded-of}
 use Rattle.plans.proofs.KindLaws.{second}
-use Rattle.kinds.proofs.GivenLaws.{needed, reorged}
+use Rattle.plans.proofs.GivenLaws.{needed, reorged}
 use Rattle.plans.proofs.CallLaws.{numbers}
 use Rattle.kinds.proofs.control.handle_control_event.Statement.{statement}
 use Rattle.kinds.proofs.control.handle_control_event.Tie as tie

@@ -2,7 +2,7 @@
 use borrow.Author.Needs.{needs}
 use mathlib.Core.Path.{_∙_}
 use Rattle.plans.proofs.KindLaws.{third}
-use Rattle.kinds.proofs.FollowLaws.{announced-follows, sync-info-follows, other-follows}
+use Rattle.plans.proofs.FollowLaws.{announced-follows, sync-info-follows, other-follows}
 use Rattle.plans.proofs.CallLaws.{numbers}
 use Rattle.kinds.proofs.events.handle_event.Statement.{statement}
 use Rattle.kinds.proofs.events.handle_event.Tie as tie

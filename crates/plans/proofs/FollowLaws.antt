@@ -17,12 +17,12 @@ use Rattle.model.specs.Steps as steps
 use Rattle.model.specs.Steps.{Step, isCheck, planOf, remaining}
 use Rattle.model.specs.Calls.{Call, stepOf, argsOf}
 use Rattle.peers.specs.Values.{listedPeer}
 use Rattle.plans.specs.declared.Plan.{Plan}
 use Rattle.plans.specs.declared.Work.{Work}
 use Rattle.plans.specs.declared.Work.the-variants.{Nothing, Ids, Sections, Received, Evicted, Purge, PurgeSections, Lose, LoseAsk, Check, CheckFresh}
 use Rattle.plans.specs.Plans.{Follows, isQuiet, isCheckBy, remainingBy, retriedBy, evictedBy, sketchIn, sketchOf, headBy, sectionsWork, checkWork, loseWork}
 use Rattle.plans.proofs.KindLaws.{last-kind}
-use Rattle.kinds.proofs.KeptLaws.{Kept, picks-kept, sync-info-kept, announced-kept, loses-kept, progresses-kept, tick-kept}
+use Rattle.plans.proofs.KeptLaws.{Kept, picks-kept, sync-info-kept, announced-kept, loses-kept, progresses-kept, tick-kept}
 
 module _ (st : State) (c : Call) where
   -- quiet work takes nothing out

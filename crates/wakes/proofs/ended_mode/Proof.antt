@@ -1,8 +1,8 @@
 -- The two cases.
 use mathlib.Core.Path.{sym, _∙_}
 use borrow.Author.Tests.{eq-eqb, ne-eqb}
-use Rattle.kinds.proofs.wakes.ended_mode.Statement.{statement}
-use Rattle.kinds.proofs.wakes.ended_mode.Tie as tie
+use Rattle.wakes.proofs.ended_mode.Statement.{statement}
+use Rattle.wakes.proofs.ended_mode.Tie as tie
 
 returns : tie.Need-returns
 returns c = λ st e. rw (eq-eqb _ 1 (e ∙ c .if1 .taken))

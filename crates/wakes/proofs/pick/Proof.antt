@@ -1,10 +1,10 @@
 -- By `picks`, with the set that the places hold.
 use borrow.Author.Needs.{needs}
 use mathlib.Core.Path.{sym, _∙_}
-use Rattle.kinds.proofs.GivenLaws.{picked}
+use Rattle.plans.proofs.GivenLaws.{picked}
 use Rattle.plans.proofs.CallLaws.{numbers}
-use Rattle.kinds.proofs.wakes.pick.Statement.{statement}
-use Rattle.kinds.proofs.wakes.pick.Tie as tie
+use Rattle.wakes.proofs.pick.Statement.{statement}
+use Rattle.wakes.proofs.pick.Tie as tie
 
 read-stalled-requires : tie.Need-read-stalled-requires
 read-stalled-requires c κs = search needs

@@ -5,10 +5,10 @@ use Rattle.model.specs.Peers.{firstOf}
 use Rattle.model.specs.Lists.{peersIn}
 use Rattle.peers.specs.Values.{listedPeer}
 use Rattle.plans.proofs.KindLaws.{third}
-use Rattle.kinds.proofs.FollowLaws.{progress-follows, check-follows}
+use Rattle.plans.proofs.FollowLaws.{progress-follows, check-follows}
 use Rattle.plans.proofs.CallLaws.{numbers}
-use Rattle.kinds.proofs.wakes.timed_step.Statement.{statement}
-use Rattle.kinds.proofs.wakes.timed_step.Tie as tie
+use Rattle.wakes.proofs.timed_step.Statement.{statement}
+use Rattle.wakes.proofs.timed_step.Tie as tie
 
 progresses-requires : tie.Need-progresses-requires
 progresses-requires c κs = search needs

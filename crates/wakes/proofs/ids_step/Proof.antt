@@ -5,11 +5,11 @@ use Rattle.model.specs.Peers.{firstOf}
 use Rattle.model.specs.Lists.{peersIn}
 use Rattle.image.specs.Heads.{headOf}
 use Rattle.plans.proofs.KindLaws.{third}
-use Rattle.kinds.proofs.FollowLaws.{received-follows, evicted-follows}
-use Rattle.kinds.proofs.GivenLaws.{lost}
+use Rattle.plans.proofs.FollowLaws.{received-follows, evicted-follows}
+use Rattle.plans.proofs.GivenLaws.{lost}
 use Rattle.plans.proofs.CallLaws.{numbers}
-use Rattle.kinds.proofs.wakes.ids_step.Statement.{statement}
-use Rattle.kinds.proofs.wakes.ids_step.Tie as tie
+use Rattle.wakes.proofs.ids_step.Statement.{statement}
+use Rattle.wakes.proofs.ids_step.Tie as tie
 
 loses-requires : tie.Need-loses-requires
 loses-requires c κs = search needs

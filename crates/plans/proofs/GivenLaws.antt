@@ -1,4 +1,4 @@
--- The same by the numbers and the header that the code was given.
+-- A plan follows the model, by the numbers and the header that the code was given.
 use Prim.Native.Nat.{ℕ, min}
 use mathlib.Core.Path.{_≡_, sym, ap, _∙_}
 use mathlib.Core.Bool.{Bool, true, false, cond, _&&_}
@@ -12,16 +12,16 @@ use Rattle.model.specs.Peers.{firstOf, selectPeer}
 use Rattle.model.specs.Lists.{idsIn, peersIn, pairsIn}
 use Rattle.model.specs.Steps as steps
 use Rattle.model.specs.Calls.{Call, argsOf}
 use Rattle.plans.specs.declared.Plan.{Plan}
 use Rattle.plans.specs.declared.Work.the-variants.{Nothing}
 use Rattle.plans.specs.Plans.{Follows, isQuiet, sketchIn, sketchOf, sectionsWork, loseWork}
 use Rattle.image.specs.declared.head.Head.{Head}
 use Rattle.image.specs.Heads.{headOf}
 use Rattle.plans.proofs.HeadLaws.{peer-of}
 use Rattle.plans.proofs.HeightLaws.{quiet-sections}
 use Rattle.fields.proofs.OrderLaws.{and-left}
 use borrow.Author.Tests.{eqb-true}
-use Rattle.kinds.proofs.FollowLaws.{pick-follows, needed-follows, reorg-follows, tick-follows, sections-follows, lost-follows}
+use Rattle.plans.proofs.FollowLaws.{pick-follows, needed-follows, reorg-follows, tick-follows, sections-follows, lost-follows}
 
 module _ (st : State) (c : Call) (p : Plan) where
   pub picked : (peers : List ℕ) → c .kind ≡ 2 → c .peers ≡ peers → isQuiet (p .work) ≡ true

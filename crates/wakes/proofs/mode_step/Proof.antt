@@ -9,11 +9,11 @@ use Rattle.model.specs.Events.{SyncPeerGone, EndOfStream}
 use Rattle.image.specs.Heads.{headOf}
 use Rattle.plans.proofs.HeadLaws.{downloaded-of}
 use Rattle.plans.proofs.KindLaws.{outermost}
-use Rattle.kinds.proofs.FollowLaws.{start-follows, failure-follows, end-follows}
-use Rattle.kinds.proofs.GivenLaws.{sectioned}
+use Rattle.plans.proofs.FollowLaws.{start-follows, failure-follows, end-follows}
+use Rattle.plans.proofs.GivenLaws.{sectioned}
 use Rattle.plans.proofs.CallLaws.{numbers}
-use Rattle.kinds.proofs.wakes.mode_step.Statement.{statement}
-use Rattle.kinds.proofs.wakes.mode_step.Tie as tie
+use Rattle.wakes.proofs.mode_step.Statement.{statement}
+use Rattle.wakes.proofs.mode_step.Tie as tie
 
 advances-requires : tie.Need-advances-requires
 advances-requires c κs = search needs

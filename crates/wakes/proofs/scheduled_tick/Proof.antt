@@ -2,10 +2,10 @@
 use borrow.Author.Needs.{needs}
 use mathlib.Core.Path.{sym, _∙_}
 use Rattle.plans.proofs.HeadLaws.{is-mode, not-mode}
-use Rattle.kinds.proofs.GivenLaws.{ticked-syncing, ticked-synced}
+use Rattle.plans.proofs.GivenLaws.{ticked-syncing, ticked-synced}
 use Rattle.plans.proofs.CallLaws.{numbers}
-use Rattle.kinds.proofs.wakes.scheduled_tick.Statement.{statement}
-use Rattle.kinds.proofs.wakes.scheduled_tick.Tie as tie
+use Rattle.wakes.proofs.scheduled_tick.Statement.{statement}
+use Rattle.wakes.proofs.scheduled_tick.Tie as tie
 
 read-stalled-requires : tie.Need-read-stalled-requires
 read-stalled-requires c κs = search needs

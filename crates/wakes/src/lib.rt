@@ -1,4 +1,6 @@
-// The steps that are no message and no control event (rule 9).
+// The plans of the steps that are no message and no control event (rule 9).
+//
+// Each follows the model's plan, remaining requests, retries and evicted ids for the calls of its kinds.
 ghost use mathlib.Core.Path.{_≡_};
 ghost use mathlib.Core.Bool.{true, cond};
 ghost use mathlib.Core.List.{map};

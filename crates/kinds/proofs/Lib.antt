@@ -1,3 +1,0 @@
-pub mod KeptLaws
-pub mod FollowLaws
-pub mod GivenLaws
