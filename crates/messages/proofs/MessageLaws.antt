@@ -21,8 +21,8 @@ use Rattle.model.specs.Calls.{Call, argsOf}
 use Rattle.plans.specs.declared.Plan.{Plan}
 use Rattle.plans.specs.declared.Work.the-variants.{Nothing}
 use Rattle.plans.specs.Plans.{announceTo, isQuiet, sectionsWork, sketchIn, sketchOf}
-use Rattle.fields.proofs.OrderLaws.{and-left, and-right}
-use borrow.Author.Tests.{eq-eqb, ne-eqb, ltb-true, ltb-false, lt-leb, le-leb}
+use Rattle.plans.proofs.HeightLaws.{quiet-sections}
+use borrow.Author.Tests.{eq-eqb, ne-eqb}
 
 length-ids : (bytes : List ℕ) → length (idsIn bytes) ≡ length bytes / 32
 unfolding idsIn
@@ -119,28 +119,5 @@ pub answered-alike : (st : State) (c : Call) (p : Plan) (before : List Act) (tip
 answered-alike st c p before tip peer peer′ o o′ k e f = rw (e, f) k
 
 pub quiet-tip : (t : Bool) (o : Option ℕ) → isQuiet (cond t (sectionsWork false o) Nothing) ≡ true
-quiet-tip true none = refl
-quiet-tip true (some peer) = refl
+quiet-tip true o = quiet-sections o
 quiet-tip false o = refl
-
--- ---- whether continuation ids go out
-
-no-and : (a b : Bool) → false ≡ (a && (b && false))
-no-and true true = refl
-no-and true false = refl
-no-and false b = refl
-
-all-and : (a b : Bool) → (a && b) ≡ (a && (b && true))
-all-and true true = refl
-all-and true false = refl
-all-and false b = refl
-
-pub chain-stops : (parsed some-height hastip : Bool) (ours tip : ℕ) → hastip && ltb ours tip ≡ true
-    → false ≡ (parsed && (some-height && notAbove ours (cond hastip (some tip) none)))
-chain-stops parsed b hastip ours tip e =
-    rw (and-left hastip (ltb ours tip) e, lt-leb tip ours (ltb-true ours tip (and-right hastip (ltb ours tip) e))) (no-and parsed b)
-
-pub chain-goes : (parsed some-height hastip : Bool) (ours tip : ℕ) → hastip && ltb ours tip ≡ false
-    → (parsed && some-height) ≡ (parsed && (some-height && notAbove ours (cond hastip (some tip) none)))
-chain-goes parsed b true ours tip e = rw (le-leb tip ours (ltb-false ours tip e)) (all-and parsed b)
-chain-goes parsed b false ours tip e = all-and parsed b

@@ -8,7 +8,7 @@ ghost use Prim.Native.Nat.{_%_, _≤_};
 ghost use lib.ListN.{length};
 ghost use lib.Dec.{eqb};
 ghost use Rattle.model.specs.State.{State};
-ghost use Rattle.model.specs.Events as events;
+ghost use Rattle.model.specs.Events.{BehindPeer};
 ghost use Rattle.model.specs.Steps as steps;
 ghost use Rattle.model.specs.Lists.{idsIn, viewFits};
 ghost use Rattle.model.specs.Calls as calls;
@@ -17,16 +17,14 @@ ghost use Rattle.peers.specs.Values.{listedPeer};
 ghost use Rattle.image.specs.Heads.{headOf};
 ghost use Rattle.plans.specs.Plans.{isQuiet, announceTo, numbersOf, sketchIn, sketchOf};
 ghost use Rattle.plans.specs.declared.Work.the-variants.{Nothing};
-ghost use Rattle.messages.specs.Heard.{outcomeOf};
-use crate::events::Heard;
+ghost use Rattle.events.specs.Heard.{outcomeOf};
+use events::Heard;
 use image::head::Head;
 use peers::Listed;
 use plans::Call;
 use plans::Plan;
 use plans::Stalling;
 use plans::Work;
-
-mod events;
 
 // Headers, sections and transactions use rule 3, to the sender. An empty header list gives Synced, from any peer.
 pub fn hears_announced(head: Head, call: Call, ids: &[u8], peers: &[u8], view: &[u8]) -> Plan
@@ -35,7 +33,7 @@ pub fn hears_announced(head: Head, call: Call, ids: &[u8], peers: &[u8], view: &
     ensures { λ r. ⌜ ((st : State) (c : calls.Call) → headOf st ≡ head → numbersOf c ≡ call → c .ids ≡ now (ids .entry) → c .peers ≡ now (peers .entry) → c .view ≡ now (view .entry) → sketchIn st c r ≡ sketchOf st c (steps.hearsAnnounced st (argsOf c) (c .peer) (c .typeid) (idsIn (c .ids)))) ⌝ }
 {
     if 0 < ids.len() {
-        if crate::events::is_announceable(call.typeid) {
+        if events::is_announceable(call.typeid) {
             return continuing::continues(head, call.clock, Work::Ids(call.peer));
         }
         return continuing::continues(head, call.clock, Work::Nothing);
@@ -58,7 +56,7 @@ pub fn hears_announced(head: Head, call: Call, ids: &[u8], peers: &[u8], view: &
 fn falls_behind(head: Head, clock: u64, tip: u32, peer: u64, announces: Listed) -> Plan
     requires { ⌜ head .send .last ≤ clock ⌝ }
     ensures { λ r. ⌜ r .work ≡ Nothing ⌝ }
-    ensures { λ r. ⌜ ((st : State) (c : calls.Call) → headOf st ≡ head → c .clock ≡ clock → sketchIn st c r ≡ sketchOf st c (steps.answers st (argsOf c) peer (announceTo (listedPeer announces) (idsIn (c .continuation))) tip events.BehindPeer)) ⌝ }
+    ensures { λ r. ⌜ ((st : State) (c : calls.Call) → headOf st ≡ head → c .clock ≡ clock → sketchIn st c r ≡ sketchOf st c (steps.answers st (argsOf c) peer (announceTo (listedPeer announces) (idsIn (c .continuation))) tip BehindPeer)) ⌝ }
 {
     let mut after = head;
     after.tip = tip;
@@ -104,9 +102,9 @@ pub fn hears_sync_info(head: Head, call: Call, peers: &[u8], view: &[u8]) -> Pla
 {
     let parsed = call.parsed == 1;
     let hastip = parsed & (call.hastip == 1);
-    let tip = crate::events::raised_tip(head.tip, hastip, call.tip);
-    let goes = crate::events::continues_chain(parsed, call.height, hastip, call.tip);
+    let tip = events::raised_tip(head.tip, hastip, call.tip);
+    let goes = events::continues_chain(parsed, call.height, hastip, call.tip);
     let announces = sync_infos::says_if(goes, call.peer);
-    let heard = crate::events::tip_outcome(call.peer == head.peer, call.height, hastip, call.tip);
+    let heard = events::tip_outcome(call.peer == head.peer, call.height, hastip, call.tip);
     answers(head, call, heard, tip, announces, peers, view)
 }

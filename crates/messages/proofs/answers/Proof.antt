@@ -2,7 +2,7 @@
 use borrow.Author.Needs.{needs}
 use mathlib.Core.Path.{ap}
 use Rattle.model.specs.Events as events
-use Rattle.messages.specs.Heard.{outcomeOf}
+use Rattle.events.specs.Heard.{outcomeOf}
 use Rattle.messages.proofs.MessageLaws.{answered-alike, quiet-tip}
 use Rattle.model.specs.Peers.{firstOf}
 use Rattle.model.specs.Lists.{peersIn}

@@ -3,7 +3,7 @@ use borrow.Author.Needs.{needs}
 use mathlib.Core.Path.{ap, _∙_}
 use Rattle.peers.specs.Values.{listedPeer}
 use Rattle.plans.specs.Plans.{sketchOf}
-use Rattle.messages.specs.Heard.{outcomeOf}
+use Rattle.events.specs.Heard.{outcomeOf}
 use Rattle.messages.proofs.MessageLaws.{heard-by}
 use Rattle.image.specs.Heads.{headOf}
 use Rattle.plans.proofs.CallLaws.{numbers}

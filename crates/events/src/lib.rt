@@ -1,11 +1,11 @@
-// Rule 7's decisions on a message.
+// Rule 7's decisions on a message: what is served, what a sync info comes to, and what goes out to its sender.
 ghost use mathlib.Core.Path.{_≡_};
 ghost use mathlib.Core.Bool.{cond, _&&_};
 ghost use mathlib.Core.Option.{none, some};
 ghost use lib.Dec.{ltb};
 ghost use Rattle.model.specs.Protocol as model;
 ghost use Rattle.model.specs.Events.{tipOutcome, raisedTip, notAbove};
-ghost use Rattle.messages.specs.Heard.{outcomeOf};
+ghost use Rattle.events.specs.Heard.{outcomeOf};
 
 // What a sync info comes to.
 pub enum Heard {

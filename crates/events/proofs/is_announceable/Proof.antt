@@ -1,8 +1,8 @@
 -- The five types, and any other.
 use borrow.Author.Tests.{ne-eqb}
 use Rattle.model.specs.Protocol.{isAnnounceable}
-use Rattle.messages.proofs.events.is_announceable.Statement.{statement}
-use Rattle.messages.proofs.events.is_announceable.Tie as tie
+use Rattle.events.proofs.is_announceable.Statement.{statement}
+use Rattle.events.proofs.is_announceable.Tie as tie
 
 returns : tie.Need-returns
 unfolding isAnnounceable

@@ -2,8 +2,8 @@
 use native.Mathlib.Omega.{arith}
 use borrow.Author.Tests.{not-true, not-false}
 use Rattle.model.specs.Events.{raisedTip}
-use Rattle.messages.proofs.events.raised_tip.Statement.{statement}
-use Rattle.messages.proofs.events.raised_tip.Tie as tie
+use Rattle.events.proofs.raised_tip.Statement.{statement}
+use Rattle.events.proofs.raised_tip.Tie as tie
 
 returns : tie.Need-returns
 unfolding raisedTip

@@ -2,8 +2,8 @@
 use borrow.Author.Needs.{needs}
 use borrow.Author.Tests.{not-true, not-false, lt-ltb, le-ltb}
 use Rattle.model.specs.Events.{tipOutcome}
-use Rattle.messages.proofs.events.tip_outcome.Statement.{statement}
-use Rattle.messages.proofs.events.tip_outcome.Tie as tie
+use Rattle.events.proofs.tip_outcome.Statement.{statement}
+use Rattle.events.proofs.tip_outcome.Tie as tie
 
 returns : tie.Need-returns
 unfolding tipOutcome

@@ -1,8 +1,8 @@
 -- By whether a tip is above ours.
 use lib.Dec.{ltb}
-use Rattle.messages.proofs.MessageLaws.{chain-stops, chain-goes}
-use Rattle.messages.proofs.events.continues_chain.Statement.{statement}
-use Rattle.messages.proofs.events.continues_chain.Tie as tie
+use Rattle.events.proofs.ChainLaws.{chain-stops, chain-goes}
+use Rattle.events.proofs.continues_chain.Statement.{statement}
+use Rattle.events.proofs.continues_chain.Tie as tie
 
 returns : tie.Need-returns
 returns c =

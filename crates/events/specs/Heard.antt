@@ -1,7 +1,7 @@
 -- Document 01's outcomes of a sync info.
 use Rattle.model.specs.Events as model
-use Rattle.messages.specs.declared.events.Heard.{Heard}
-use Rattle.messages.specs.declared.events.Heard.the-variants.{Continue, Synced, Behind}
+use Rattle.events.specs.declared.Heard.{Heard}
+use Rattle.events.specs.declared.Heard.the-variants.{Continue, Synced, Behind}
 
 abbrev pub outcomeOf : Heard → model.Outcome
 outcomeOf Continue = model.Continue
