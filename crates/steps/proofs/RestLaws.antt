@@ -1,4 +1,4 @@
--- A plan without work, carried out on the areas themselves.
+-- A plan whose work may not grow, carried out on the areas themselves.
 use Prim.Native.Nat.{ℕ, _+_, _≤_, _<_}
 use mathlib.Core.Path.{_≡_, sym, ap, _∙_}
 use mathlib.Core.Bool.{Bool, true, false}
@@ -6,14 +6,9 @@ use mathlib.Core.List.{List, _++_}
 use native.Mathlib.Nat.{zero-add, lt-irrefl}
 use native.Mathlib.Omega.{arith}
 use lib.ListN.{length, take, drop, take-append-drop}
-use borrow.Author.Tests.{le-leb}
 use Rattle.fields.specs.Facts.{Bytes}
 use Rattle.fields.specs.Overwrite.{overwritten}
 use Rattle.fields.proofs.OverwriteLaws.{length-overwritten, drop-after}
-use Rattle.model.specs.Protocol.{trackedLimit}
-use Rattle.model.specs.State.{State}
-use Rattle.model.specs.Check.{retrySendings}
-use Rattle.model.specs.Sections.{batchesOf}
 use Rattle.model.specs.Image.{decode}
 use Rattle.model.specs.Calls as calls
 use Rattle.model.specs.Demand3.{InWidth}
@@ -22,23 +17,19 @@ use Rattle.image.specs.Heads.{headIn}
 use Rattle.peers.specs.Values.{listedPeer}
 use Rattle.requests.specs.Sent.{sentBytes}
 use Rattle.plans.specs.declared.Plan.{Plan}
-use Rattle.plans.specs.declared.Work.the-variants.{Nothing}
-use Rattle.plans.specs.Plans.{retriedBy, Follows}
+use Rattle.plans.specs.Plans.{Follows}
 use Rattle.tracker.specs.declared.Counts.{Counts}
 use Rattle.tracker.specs.declared.Performed.the-variants.{Done as Finished, Full}
-use Rattle.tracker.specs.Worked.{regionOf, Worked, actedBy, workedBy, fits, performedAs}
+use Rattle.tracker.specs.Worked.{regionOf, Worked, fits, performedAs}
 use Rattle.refusals.specs.Refusals.{givenRefusal}
 use Rattle.refusals.proofs.RefusalLaws.{Given, given}
 use Rattle.carry.specs.Carried.{carriedBy}
 use Rattle.finish.specs.Finished.{said, placesOf, stalledThen, counted, completed}
+use Rattle.steps.specs.Growing.{mayGrow}
 use Rattle.steps.proofs.AreaLaws.{area-well}
+use Rattle.steps.proofs.GrowingLaws.{shrunk-fits}
 use Rattle.steps.proofs.EndLaws.{untouched, full-fails, done-fits}
 use Rattle.steps.proofs.StepLaws.{too-stalled, finishes}
-
--- It leaves as many as there were.
-rest-fits : (st : State) (c : calls.Call) (p : Plan) → p .work ≡ Nothing → length (st .pending) + length (st .sync .evicted) ≤ trackedLimit → fits (carriedBy st c p) ≡ true
-unfolding fits carriedBy workedBy actedBy retriedBy retrySendings batchesOf
-rest-fits st c p e h = rw e (le-leb (length (st .pending) + length (st .sync .evicted)) trackedLimit h)
 
 -- what is answered where there is room
 performed : (at batch : ℕ) (w : Worked) → fits w ≡ true
@@ -58,7 +49,7 @@ behind-both a b s s₁ s₂ at n room e f =
     f ∙ sym (take-append-drop (at + length b) (overwritten at b s₁)) ∙ ap (λ (x : List ℕ). take (at + length b) (overwritten at b s₁) ++ x) d
 
 module _ (area commands : List ℕ) (c : calls.Call) (p : Plan) (g : givenRefusal area (length commands) c ≡ 0) (f : Follows (decode area) c p)
-    (seen : p .seen ≡ true) (idle : p .work ≡ Nothing) (bytes : Bytes area) where
+    (seen : p .seen ≡ true) (small : mayGrow (p .work) ≡ false) (bytes : Bytes area) where
   abbrev w : Worked
   w = carriedBy (decode area) c p
 
@@ -66,7 +57,7 @@ module _ (area commands : List ℕ) (c : calls.Call) (p : Plan) (g : givenRefusa
   facts = given area (length commands) c g
 
   pub room : fits w ≡ true
-  room = rest-fits (decode area) c p idle (area-well area (facts .stateSize) bytes (facts .image) .tracked)
+  room = shrunk-fits (decode area) c p small (area-well area (facts .stateSize) bytes (facts .image) .tracked)
 
   pub not-full : {A : Type 0} → Full ≡ performedAs 0 0 w → A
   not-full h = let z : _≡_ {A = Bool} true false = sym room ∙ full-fails 0 0 w h in absurd (lt-irrefl 0 (let y : _≡_ {A = ℕ} 0 1 = cc in omega arith))

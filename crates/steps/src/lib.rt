@@ -1,8 +1,8 @@
 // A step on bytes: its plan, the plan carried out on a scratch image, and the areas written only where it finished. It is
 // refused as 9, 10 or 11 with both areas as they were.
 //
-// With work to do it costs a copy of the state area and one back, the records and rows that its rules read, and the
-// commands' bytes; without, the header's and the commands' bytes alone.
+// It costs the records and rows that its rules read and the bytes that it writes; where it may still be refused as 10,
+// also a copy of the state area and one back.
 ghost use mathlib.Core.Path.{_≡_};
 ghost use mathlib.Core.Bool.{true};
 ghost use Prim.Native.Nat.{_≤_};
@@ -17,7 +17,6 @@ use finish::Answer;
 use image::head::Head;
 use plans::Call;
 use plans::Plan;
-use plans::Work;
 use tracker::Performed;
 
 mod rest;
@@ -137,7 +136,7 @@ pub fn run(
         return finish::refused(9);
     }
     let work = plan.work;
-    let Work::Nothing = work else {
+    if rest::may_grow(work) {
         return work_out(
             state,
             commands,
@@ -150,7 +149,7 @@ pub fn run(
             peers,
             view,
         );
-    };
+    }
     rest::rest(
         state,
         commands,
