@@ -169,6 +169,14 @@ fn main() {
             "#[allow(warnings, clippy::all)]\n#[path = {copy:?}]\nmod {};\n",
             source.name
         ));
+        if source.name == "delivery" {
+            // With its own maps, to be timed.
+            let as_published = out.join("delivery_as_published.rs");
+            fs::write(&as_published, text).expect("the build folder can be written");
+            modules.push_str(&format!(
+                "#[allow(warnings, clippy::all)]\n#[path = {as_published:?}]\nmod delivery_as_published;\n"
+            ));
+        }
     }
     fs::write(out.join("modules.rs"), modules).expect("the build folder can be written");
     println!("cargo::rustc-cfg=oracle");

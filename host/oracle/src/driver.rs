@@ -201,6 +201,14 @@ impl Oracle {
         }))
     }
 
+    /// How long the Rust's loop takes over one step, with the stand-ins that it calls. Nothing is read off.
+    pub fn time(mut self, call: &Call) -> Duration {
+        self.lay_out(call);
+        let start = std::time::Instant::now();
+        let _ = self.parked.poll();
+        start.elapsed()
+    }
+
     /// Sets clock, gate and scene, and arms the one wake.
     fn lay_out(&mut self, call: &Call) {
         tokio::driver::set_clock(call.clock);

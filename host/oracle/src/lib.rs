@@ -3,8 +3,10 @@
 //!
 //! Where the source is not at hand the crate still builds, and `Oracle` can't be made.
 
+mod tracker;
 mod verdict;
 
+pub use tracker::{Maps, Tracker};
 pub use verdict::{Observed, Reason, Sent, Verdict};
 
 #[cfg(oracle)]
@@ -22,6 +24,8 @@ mod scene;
 mod standins;
 #[cfg(oracle)]
 mod stubs;
+#[cfg(oracle)]
+mod trackers;
 
 #[cfg(oracle)]
 use stubs::{
@@ -30,11 +34,13 @@ use stubs::{
 
 #[cfg(oracle)]
 pub use driver::Oracle;
+#[cfg(oracle)]
+pub use trackers::{set_clock, tracker};
 
 #[cfg(not(oracle))]
 mod absent;
 #[cfg(not(oracle))]
-pub use absent::Oracle;
+pub use absent::{set_clock, tracker, Oracle};
 
 /// Whether the original Rust was found when this was built.
 pub const SOURCE_FOUND: bool = cfg!(oracle);
