@@ -45,10 +45,10 @@ use Rattle.sections.proofs.ItemLaws.{items-most}
 use Rattle.tracker.specs.declared.Counts.{Counts}
 use Rattle.tracker.specs.declared.Performed.{Performed}
 use Rattle.tracker.specs.Worked.{regionSize, regionOf, Tracked, Given, actedBy, countBy, workedBy, Performs}
-use Rattle.tracker.specs.Checking.{checkedPending, checkedSendings, judgedCount, checkedCounts}
+use Rattle.region_check.specs.Checking.{checkedPending, checkedSendings, judgedCount, checkedCounts}
 use Rattle.tracker.proofs.RegionLaws.{Stands, tracked-stands, stands-size, stands-requests, stands-rising}
-use Rattle.tracker.proofs.WorkedLaws.{length-requests, length-evicted, taken-stands, kept-stands, peer-given}
-use Rattle.tracker.proofs.CheckLaws.{settings-given, clock-given, gate-given, checked-stands, checked-count, checked-bytes}
+use Rattle.tracker.proofs.WorkedLaws.{length-requests, length-evicted, taken-stands, kept-stands, peer-given, settings-given, clock-given, gate-given}
+use Rattle.region_check.proofs.CheckLaws.{checked-stands, checked-count, checked-bytes}
 use Rattle.asks.specs.Asked.{unasked, Asks}
 use Rattle.asks.proofs.AskedLaws.{asking, asks-done, first-done}
 use Rattle.asks.proofs.PairLaws.{orphanPairs, orphan-asks, orphans-wide, front-length, front-pairs}

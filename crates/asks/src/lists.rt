@@ -100,7 +100,7 @@ fn check_fresh_with(
     let size = head.evicted * 32;
     let from = region.len() - size;
     moving::overwrite(fresh, 0, &region[from..]);
-    let before = tracker::check::check_region(region, head, call, peers, out, at, batch);
+    let before = region_check::check_region(region, head, call, peers, out, at, batch);
     crate::asked::ask_list(region, before, call, 101, peer, stored, &fresh[..size], out)
 }
 

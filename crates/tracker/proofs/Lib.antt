@@ -1,4 +1,2 @@
 pub mod RegionLaws
 pub mod WorkedLaws
-pub mod RetriedLaws
-pub mod CheckLaws

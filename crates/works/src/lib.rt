@@ -50,9 +50,9 @@ pub fn perform(
             at,
             batch,
         ),
-        Work::Received => tracker::received(region, head, call, ids, at, batch),
-        Work::Evicted => tracker::evicted(region, head, call, ids, at, batch),
-        Work::Purge => tracker::purge(region, head, call, at, batch),
+        Work::Received => removals::received(region, head, call, ids, at, batch),
+        Work::Evicted => removals::evicted(region, head, call, ids, at, batch),
+        Work::Purge => removals::purge(region, head, call, at, batch),
         Work::PurgeSections(peer) => asks::window::purge_sections(
             region,
             head,
@@ -64,7 +64,7 @@ pub fn perform(
             at,
             batch,
         ),
-        Work::Lose => tracker::lose(region, head, call, at, batch),
+        Work::Lose => removals::lose(region, head, call, at, batch),
         Work::LoseAsk(peer) => asks::lists::lose_ask(
             region,
             head,
@@ -75,7 +75,7 @@ pub fn perform(
             at,
             batch,
         ),
-        Work::Check => tracker::check::check(region, head, call, peers, out, at, batch),
+        Work::Check => region_check::check(region, head, call, peers, out, at, batch),
         Work::CheckFresh(peer) => asks::lists::check_fresh(
             region,
             head,

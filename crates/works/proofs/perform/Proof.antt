@@ -1,6 +1,6 @@
 -- Each arm is the function of its work: `as-work`.
 use borrow.Author.Needs.{needs}
-use Rattle.tracker.proofs.CheckLaws.{clock-given}
+use Rattle.tracker.proofs.WorkedLaws.{clock-given}
 use Rattle.works.proofs.WorkLaws.{as-work}
 use Rattle.works.proofs.perform.Statement.{statement}
 use Rattle.works.proofs.perform.Tie as tie

@@ -1,0 +1,2 @@
+pub mod RetriedLaws
+pub mod CheckLaws
