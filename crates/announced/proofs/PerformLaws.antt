@@ -80,7 +80,7 @@ performed-longer gate clock (act ∷ acts) rs =
     let b = performed-longer gate clock acts (perform gate clock act rs .pending) in
     omega arith
 
-act-recorded : (gate : Bool) (clock : ℕ) → clock < 2 ^ 64 → (act : Act) (rs : List Request) → WellAct act → All Recorded rs → All Recorded (perform gate clock act rs .pending)
+pub act-recorded : (gate : Bool) (clock : ℕ) → clock < 2 ^ 64 → (act : Act) (rs : List Request) → WellAct act → All Recorded rs → All Recorded (perform gate clock act rs .pending)
 act-recorded true clock c (ask typeId peer pairs ids) rs w h =
     marked-recorded clock typeId peer c (w .typeId) (w .peer) (wanted rs typeId pairs ids) rs (wanted-well rs typeId peer pairs ids w .ids) h
 act-recorded false clock c (ask typeId peer pairs ids) rs w h = h
@@ -110,7 +110,7 @@ sent-append batch (s ∷ one) others =
     (ap (λ (x : List ℕ). allCommandBytes (commandsOf batch s) ++ x) (sent-append (suc batch) one others))
 
 -- the bytes of acts, at most
-sent-within : (gate : Bool) (clock batch : ℕ) (acts : List Act) (rs : List Request) → All WellAct acts → length (sentBytes batch (performAll gate clock acts rs .sendings)) ≤ total actWeight acts
+pub sent-within : (gate : Bool) (clock batch : ℕ) (acts : List Act) (rs : List Request) → All WellAct acts → length (sentBytes batch (performAll gate clock acts rs .sendings)) ≤ total actWeight acts
 unfolding sentBytes
 sent-within gate clock batch acts rs w =
     let a = sendings-bytes batch (performAll gate clock acts rs .sendings) (performed-sends-well gate clock acts rs w) in

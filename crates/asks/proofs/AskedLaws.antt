@@ -14,21 +14,20 @@ use Rattle.fields.proofs.TotalLaws.{total}
 use Rattle.fields.proofs.OverwriteLaws.{overwritten-nil, overwritten-next}
 use Rattle.model.specs.Protocol.{Id, trackedLimit}
 use Rattle.model.specs.Delivery.{Request}
-use Rattle.model.specs.Requests.{Act, ask, send, Sending, Done, wanted, perform, performAll}
+use Rattle.model.specs.Requests.{Act, Sending, Done, perform, performAll}
 use Rattle.model.proofs.Widths.{WellAct}
 use Rattle.model.proofs.RecordLaws.{Recorded}
-use Rattle.model.proofs.PendingLaws.{rising-performed, wanted-well}
-use Rattle.model.proofs.SendingLaws.{actWeight, sendings-bytes, performed-sends-well, performed-weight}
+use Rattle.model.proofs.PendingLaws.{rising-performed}
+use Rattle.model.proofs.SendingLaws.{actWeight}
 use Rattle.requests.specs.Pending.{requestsIn, holding}
 use Rattle.requests.specs.Sent.{sentBytes}
 use Rattle.marking.specs.Marking.{heldWithin}
 use Rattle.marking.proofs.AnswerLaws.{few-held}
-use Rattle.announced.proofs.RecordedLaws.{marked-recorded}
 use Rattle.announced.specs.declared.request.Requested.{Requested}
 use Rattle.announced.specs.declared.request.Requested.the-variants as requested
 use Rattle.announced.specs.Requested.{requestedAs, sentWithin}
 use Rattle.announced.proofs.RequestedLaws.{few-sent}
-use Rattle.announced.proofs.PerformLaws.{sent-append}
+use Rattle.announced.proofs.PerformLaws.{act-recorded, sent-append, sent-within}
 use Rattle.tracker.specs.declared.Counts.{Counts}
 use Rattle.tracker.specs.declared.Performed.{Performed}
 use Rattle.tracker.specs.declared.Performed.the-variants.{Done as Finished, Full}
@@ -60,20 +59,9 @@ list-asked gate clock act before region out r answer after out′ a b h o =
 
 -- ---- acts keep requests in width
 
-act-recorded : (gate : Bool) (clock : ℕ) → clock < 2 ^ 64 → (act : Act) (rs : List Request) → WellAct act → All Recorded rs → All Recorded (perform gate clock act rs .pending)
-act-recorded true clock c (ask typeId peer pairs ids) rs w h =
-    marked-recorded clock typeId peer c (w .typeId) (w .peer) (wanted rs typeId pairs ids) rs (wanted-well rs typeId peer pairs ids w .ids) h
-act-recorded false clock c (ask typeId peer pairs ids) rs w h = h
-act-recorded gate clock c (send s) rs w h = h
-
 performed-recorded : (gate : Bool) (clock : ℕ) → clock < 2 ^ 64 → (acts : List Act) (rs : List Request) → All WellAct acts → All Recorded rs → All Recorded (performAll gate clock acts rs .pending)
 performed-recorded gate clock c [] rs w h = h
 performed-recorded gate clock c (act ∷ acts) rs w h = performed-recorded gate clock c acts (perform gate clock act rs .pending) (w .1) (act-recorded gate clock c act rs (w .0) h)
-
-sent-within : (gate : Bool) (clock batch : ℕ) (acts : List Act) (rs : List Request) → All WellAct acts → length (sentBytes batch (performAll gate clock acts rs .sendings)) ≤ total actWeight acts
-unfolding sentBytes
-sent-within gate clock batch acts rs w =
-    omega (arith, sendings-bytes batch (performAll gate clock acts rs .sendings) (performed-sends-well gate clock acts rs w), performed-weight gate clock acts rs)
 
 same-room : (n gone e : ℕ) → gone ≡ e → e ≤ trackedLimit → leb n (trackedLimit - gone) ≡ leb (n + e) trackedLimit
 same-room n gone e h l = go (leb n (trackedLimit - gone)) refl

@@ -1,3 +1,2 @@
 pub mod AskedLaws
 pub mod PairLaws
-pub mod WorkLaws

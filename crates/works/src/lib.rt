@@ -1,7 +1,7 @@
 // A plan's work on the region of a scratch image, whichever it is.
 //
-// The works without a peer to ask stand in tracker, those with one in asks. Where there is no room, the answer is Full and
-// the scratch is of no use.
+// The works without a peer to ask stand in tracker, removals and region_check, those with one in asked_ids and
+// asked_sections. Where there is no room, the answer is Full and the scratch is of no use.
 ghost use mathlib.Core.Path.{_≡_};
 ghost use mathlib.Core.Bool.{true};
 ghost use Prim.Native.Nat.{_+_, _%_, _≤_, _<_};
@@ -38,8 +38,8 @@ pub fn perform(
 {
     match work {
         Work::Nothing => tracker::nothing(head, at, batch),
-        Work::Ids(peer) => asks::lists::ids(region, head, call, peer, ids, stored, out, at, batch),
-        Work::Sections(peer) => asks::window::sections(
+        Work::Ids(peer) => asked_ids::ids(region, head, call, peer, ids, stored, out, at, batch),
+        Work::Sections(peer) => asked_sections::sections(
             region,
             head,
             call,
@@ -53,7 +53,7 @@ pub fn perform(
         Work::Received => removals::received(region, head, call, ids, at, batch),
         Work::Evicted => removals::evicted(region, head, call, ids, at, batch),
         Work::Purge => removals::purge(region, head, call, at, batch),
-        Work::PurgeSections(peer) => asks::window::purge_sections(
+        Work::PurgeSections(peer) => asked_sections::purge_sections(
             region,
             head,
             call,
@@ -65,7 +65,7 @@ pub fn perform(
             batch,
         ),
         Work::Lose => removals::lose(region, head, call, at, batch),
-        Work::LoseAsk(peer) => asks::lists::lose_ask(
+        Work::LoseAsk(peer) => asked_ids::lose_ask(
             region,
             head,
             call,
@@ -76,7 +76,7 @@ pub fn perform(
             batch,
         ),
         Work::Check => region_check::check(region, head, call, peers, out, at, batch),
-        Work::CheckFresh(peer) => asks::lists::check_fresh(
+        Work::CheckFresh(peer) => asked_ids::check_fresh(
             region,
             head,
             call,
