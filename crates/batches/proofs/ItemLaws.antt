@@ -8,8 +8,10 @@ use native.Mathlib.Numerals.{add-one}
 use lib.Dec.{eqb}
 use lib.ListN.{length, take, drop, getD, drop-of-length-le}
 use lib.Seq.{drop-cons}
+use Rattle.fields.specs.Facts.{Bytes}
 use Rattle.fields.specs.Number.{fromBe}
 use Rattle.fields.specs.Entries.{entry}
+use Rattle.fields.proofs.NumberLaws.{bytes-take, bytes-drop}
 use Rattle.fields.proofs.EntriesLaws.{entry-field, entry-front}
 use Rattle.model.specs.Image.{recordSize, requestOf}
 use Rattle.model.specs.Sections.{Item}
@@ -17,6 +19,10 @@ use Rattle.batches.specs.Items.{itemOf, itemAt, itemsAt, alike, span}
 use Rattle.batches.specs.Batches.{batchAt}
 
 -- ---- what is read
+
+pub entry-bytes : (width i : ℕ) (t : List ℕ) → Bytes t → Bytes (entry width i t)
+unfolding entry
+entry-bytes width i t f = bytes-take width (drop (i * width) t) (bytes-drop (i * width) t f)
 
 module _ (i : ℕ) (t : List ℕ) where
   pub peer-read : fromBe (take 8 (drop (i * 54 + 32) t)) ≡ requestOf (entry recordSize i t) .peer

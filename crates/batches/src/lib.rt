@@ -97,14 +97,3 @@ pub fn grouped(list: [Batch; 1024], table: &[u8], places: &[u16]) -> Batches
     let count = fill(&mut own, table, places);
     Batches { list: own, count }
 }
-
-// A list to fill.
-pub fn no_batches() -> [Batch; 1024] {
-    let none = Batch {
-        target: 0,
-        typeid: 0,
-        first: 0,
-        count: 0,
-    };
-    [none; 1024]
-}

@@ -1,5 +1,3 @@
 pub mod RetryLaws
 pub mod RecordLaws
 pub mod CheckLaws
-pub mod GroupLaws
-pub mod WritingLaws

@@ -13,7 +13,6 @@ use Rattle.fields.specs.Facts.{Bytes}
 use Rattle.fields.specs.Number.{fromBe, toBe}
 use Rattle.fields.specs.Entries.{entry}
 use Rattle.fields.specs.Overwrite.{overwritten}
-use Rattle.fields.proofs.NumberLaws.{bytes-take, bytes-drop}
 use Rattle.fields.proofs.OverwriteLaws.{length-overwritten, overwritten-within, overwritten-again, read-back}
 use Rattle.fields.proofs.EntriesLaws.{length-entry, entry-field}
 use Rattle.model.specs.Protocol.{isTransaction}
@@ -21,7 +20,7 @@ use Rattle.model.specs.Settings.{Settings, expired, givenUp}
 use Rattle.model.specs.Delivery.{Request, waiting, retried, abandoned, forgotten, verdict, restarted}
 use Rattle.model.specs.Image.{recordSize, requestOf, requestBytes}
 use Rattle.model.proofs.RecordLaws.{bytes-of-request, length-request}
-use Rattle.batches.proofs.ItemLaws.{peer-read, type-read}
+use Rattle.batches.proofs.ItemLaws.{entry-bytes, peer-read, type-read}
 use Rattle.delivery_check.specs.Turn.{restartedTo}
 
 -- ---- what is read
@@ -134,10 +133,6 @@ three-fields width i a b c x y z t o₁ o₂ o₃ hx hy hz l e₁ e₂ e₃ =
     let s₁ : o₁ ≡ overwritten (i * width) one t = e₁ ∙ overwritten-within (i * width) width a x t hx l in
     let s₂ : o₂ ≡ overwritten (i * width) two t = e₂ ∙ field-again width i b y one t o₁ s₁ l₁ hy l in
     e₃ ∙ field-again width i c z two t o₂ s₂ l₂ hz l
-
-pub entry-bytes : (width i : ℕ) (t : List ℕ) → Bytes t → Bytes (entry width i t)
-unfolding entry
-entry-bytes width i t f = bytes-take width (drop (i * width) t) (bytes-drop (i * width) t f)
 
 -- what `restart` writes
 pub restarts : (i clock : ℕ) (target : ℕ → ℕ) (t o₁ o₂ o₃ : List ℕ) (peer checks asked : ℕ) → i * 54 + 54 ≤ length t → Bytes t

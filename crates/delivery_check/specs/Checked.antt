@@ -7,7 +7,6 @@ use lib.Dec.{eqb}
 use Rattle.model.specs.Settings.{Settings}
 use Rattle.model.specs.Delivery.{Request, Verdict, waiting, retried, abandoned, forgotten, verdict, judged, checkTimeouts}
 use Rattle.model.specs.Check.{retries, markAllRetried}
-unfoldable pub use Rattle.batches.specs.Items.{itemOf}
 use Rattle.delivery_check.specs.declared.check.Aim.{Aim}
 use Rattle.delivery_check.specs.declared.check.Aim.the-variants.{Same, Other}
 use Rattle.delivery_check.specs.declared.check.Checked.{Checked}

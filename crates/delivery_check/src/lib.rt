@@ -1,6 +1,4 @@
-// The delivery check: check_timeouts on the table of pending requests, and its retries in batches by target and type.
+// The delivery check: check_timeouts on the table of pending requests, in one pass.
 //
-// One pass over the table, one sort of the retried places, one pass over their ids. Equal to rule 6's part in
-// model/specs/Check.antt.
+// Equal to rule 6's part in model/specs/Check.antt. The retries go out by the crate of that name.
 pub mod check;
-pub mod group;

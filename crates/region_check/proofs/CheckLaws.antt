@@ -1,9 +1,8 @@
 -- A check on the region: what each part of it may be asked, and that the whole is the work.
 use Prim.Native.Nat.{ℕ, _+_, _-_, _*_, _^_, _≤_, _<_}
-use mathlib.Core.Path.{_≡_, refl, sym, ap, _∙_}
-use mathlib.Core.Bool.{Bool, true, false, cond}
+use mathlib.Core.Path.{_≡_, refl, ap, _∙_}
+use mathlib.Core.Bool.{Bool, cond}
 use mathlib.Core.List.{List, [], map, append-nil}
-use native.Mathlib.Nat.{add-zero}
 use native.Mathlib.Omega.{arith}
 use lib.ListN.{length}
 use lib.Dec.{eqb}
@@ -14,14 +13,13 @@ use Rattle.fields.specs.Overwrite.{overwritten}
 use Rattle.fields.specs.Entries.{entries, entry}
 use Rattle.fields.proofs.AllLaws.{all-weaker}
 use Rattle.fields.proofs.FilterLaws.{length-kept}
-use Rattle.fields.proofs.OverwriteLaws.{overwritten-nil}
 use Rattle.fields.proofs.EntriesLaws.{entries-wide, entries-bytes}
 use Rattle.model.specs.Protocol.{Id, trackedLimit}
 use Rattle.model.specs.Settings.{Settings}
 use Rattle.model.specs.Delivery.{Request, verdict, verdictNumber, retried, abandoned, forgotten, judged}
 use Rattle.model.specs.State.{State}
 use Rattle.model.specs.Requests.{Sending}
-use Rattle.model.specs.Sections.{Item, batchesOf}
+use Rattle.model.specs.Sections.{Item}
 use Rattle.model.specs.Check.{retries, retrySendings}
 use Rattle.model.specs.Lists.{peersIn}
 use Rattle.model.specs.Image.{recordSize, requestOf}
@@ -33,7 +31,8 @@ use Rattle.image.specs.declared.head.Head.{Head}
 use Rattle.requests.specs.Pending.{requestsIn, holding}
 use Rattle.requests.specs.Sent.{sentBytes}
 use Rattle.delivery.specs.Region.{evictedIn}
-use Rattle.delivery_check.specs.Checked.{pendingAfterCheck, checkedAs, retriedPlaces, itemOf}
+use Rattle.batches.specs.Items.{itemOf}
+use Rattle.delivery_check.specs.Checked.{pendingAfterCheck, checkedAs, retriedPlaces}
 use Rattle.delivery_check.specs.declared.check.Checked.{Checked}
 use Rattle.plans.specs.declared.Call.{Call}
 use Rattle.plans.specs.declared.Work.the-variants.{Check}
@@ -152,21 +151,6 @@ module _ (head : Head) (call : Call) (peers region : List ℕ) (t : Tracked head
   pub checked-few : length (checkedPending head call peers region) ≤ trackedLimit
   unfolding checkedPending
   checked-few = omega (arith, after-stands .few)
-
--- ---- sent or not
-
-module _ (gate : Bool) (items : List Item) (at batch : ℕ) (out : List ℕ) where
-  pub unsent : gate ≡ false
-      → (out ≡ overwritten at (sentBytes batch (retrySendings (cond gate items []))) out)
-      × ((at ≡ at + length (sentBytes batch (retrySendings (cond gate items [])))) × (batch ≡ batch + length (retrySendings (cond gate items []))))
-  unfolding retrySendings batchesOf sentBytes
-  unsent e = rw e (sym (overwritten-nil at out), (sym (add-zero at), sym (add-zero batch)))
-
-  pub sent : (at′ batch′ : ℕ) (out′ : List ℕ) → gate ≡ true
-      → (out′ ≡ overwritten at (sentBytes batch (retrySendings items)) out) × ((at′ ≡ at + length (sentBytes batch (retrySendings items))) × (batch′ ≡ batch + length (retrySendings items)))
-      → (out′ ≡ overwritten at (sentBytes batch (retrySendings (cond gate items []))) out)
-      × ((at′ ≡ at + length (sentBytes batch (retrySendings (cond gate items [])))) × (batch′ ≡ batch + length (retrySendings (cond gate items []))))
-  sent at′ batch′ out′ e h = rw e h
 
 -- ---- what the work comes to
 

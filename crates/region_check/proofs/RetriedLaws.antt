@@ -24,7 +24,8 @@ use Rattle.model.proofs.Widths.{WellPeer, WellItem}
 use Rattle.model.proofs.RecordLaws.{Recorded, narrow-type}
 use Rattle.model.proofs.PendingLaws.{rising-checked, rising-retried}
 use Rattle.requests.specs.Pending.{requestsIn}
-use Rattle.delivery_check.specs.Checked.{pendingAfterCheck, placedAfter, retriedPlaces, itemOf}
+use Rattle.batches.specs.Items.{itemOf}
+use Rattle.delivery_check.specs.Checked.{pendingAfterCheck, placedAfter, retriedPlaces}
 use Rattle.delivery_check.specs.Turn.{restartedTo}
 use Rattle.delivery_check.proofs.RetryLaws.{staysTo, checkedTo, length-checked, pending-after}
 

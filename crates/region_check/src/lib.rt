@@ -1,94 +1,20 @@
 // The delivery check on the region: requests judged, retries sent, the evicted list emptied.
 ghost use mathlib.Core.Path.{_≡_};
-ghost use mathlib.Core.Bool.{cond};
-ghost use mathlib.Core.List.{List, [], map};
+ghost use mathlib.Core.List.{List, []};
 ghost use Prim.Native.Nat.{ℕ, _+_, _-_, _*_, _≤_, _<_};
-ghost use lib.ListN.{length, take};
-ghost use Rattle.fields.specs.Facts.{All};
+ghost use lib.ListN.{length};
 ghost use Rattle.fields.specs.Zero.{zeros};
-ghost use Rattle.fields.specs.Entries.{entry};
 ghost use Rattle.fields.specs.Overwrite.{overwritten};
 ghost use Rattle.model.specs.State.{State};
-ghost use Rattle.model.specs.Image.{recordSize, requestOf};
-ghost use Rattle.model.specs.Check.{retrySendings};
 ghost use Rattle.model.specs.Calls as calls;
 ghost use Rattle.requests.specs.Sent.{sentBytes};
-ghost use Rattle.delivery_check.specs.Checked.{itemOf};
 ghost use Rattle.tracker.specs.Worked.{regionOf, Tracked, Given, Performs, workedBy};
 ghost use Rattle.region_check.specs.Checking.{checkedPending, checkedSendings, checkedCounts};
 ghost use Rattle.plans.specs.declared.Work.the-variants as works;
-use delivery_check::group::Written;
 use image::head::Head;
 use plans::Call;
 use tracker::Counts;
 use tracker::Performed;
-
-// `spare` and `ids` have room for all places.
-fn put_with_room(
-    table: &[u8],
-    places: &mut [u16],
-    spare: &mut [u16],
-    ids: &mut [u8],
-    out: &mut [u8],
-    at: usize,
-    batch: u16,
-) -> Written
-    requires { ⌜ All (λ (place : ℕ). place * 54 + 54 ≤ length (now table)) (now places) ⌝ }
-    requires { ⌜ All (λ (place : ℕ). requestOf (entry recordSize place (now table)) .typeId < 256) (now places) ⌝ }
-    requires { ⌜ (length (now places) ≤ length (now spare)) × (length (now places) * 32 ≤ length (now ids)) ⌝ }
-    requires { ⌜ (length (now places) ≤ 1024) × ((at + 49152 ≤ length (now out)) × (batch + 1026 < 65536)) ⌝ }
-    ensures { λ _. ⌜ now (out .exit) ≡ overwritten at (sentBytes batch (retrySendings (map (λ (place : ℕ). itemOf (requestOf (entry recordSize place (now (table .entry))))) (now (places .entry))))) (now (out .entry)) ⌝ }
-    ensures { λ r. ⌜ r .at ≡ at + length (sentBytes batch (retrySendings (map (λ (place : ℕ). itemOf (requestOf (entry recordSize place (now (table .entry))))) (now (places .entry))))) ⌝ }
-    ensures { λ r. ⌜ r .batch ≡ batch + length (retrySendings (map (λ (place : ℕ). itemOf (requestOf (entry recordSize place (now (table .entry))))) (now (places .entry)))) ⌝ }
-{
-    let number = places.len();
-    let size = number * 32;
-    delivery_check::group::put_retries(
-        table,
-        places,
-        &mut spare[..number],
-        &mut ids[..size],
-        out,
-        at,
-        batch,
-    )
-}
-
-fn put_places(table: &[u8], places: &mut [u16], out: &mut [u8], at: usize, batch: u16) -> Written
-    requires { ⌜ All (λ (place : ℕ). place * 54 + 54 ≤ length (now table)) (now places) ⌝ }
-    requires { ⌜ All (λ (place : ℕ). requestOf (entry recordSize place (now table)) .typeId < 256) (now places) ⌝ }
-    requires { ⌜ (length (now places) ≤ 1024) × ((at + 49152 ≤ length (now out)) × (batch + 1026 < 65536)) ⌝ }
-    ensures { λ _. ⌜ now (out .exit) ≡ overwritten at (sentBytes batch (retrySendings (map (λ (place : ℕ). itemOf (requestOf (entry recordSize place (now (table .entry))))) (now (places .entry))))) (now (out .entry)) ⌝ }
-    ensures { λ r. ⌜ r .at ≡ at + length (sentBytes batch (retrySendings (map (λ (place : ℕ). itemOf (requestOf (entry recordSize place (now (table .entry))))) (now (places .entry))))) ⌝ }
-    ensures { λ r. ⌜ r .batch ≡ batch + length (retrySendings (map (λ (place : ℕ). itemOf (requestOf (entry recordSize place (now (table .entry))))) (now (places .entry)))) ⌝ }
-{
-    let mut spare = [0u16; 1024];
-    let mut ids = [0u8; 32768];
-    put_with_room(table, places, &mut spare, &mut ids, out, at, batch)
-}
-
-// The first `count` places; behind a shut gate nothing is sent.
-fn send_retries(
-    table: &[u8],
-    places: &mut [u16],
-    count: usize,
-    gate: bool,
-    out: &mut [u8],
-    at: usize,
-    batch: u16,
-) -> Written
-    requires { ⌜ All (λ (place : ℕ). place * 54 + 54 ≤ length (now table)) (take count (now places)) ⌝ }
-    requires { ⌜ All (λ (place : ℕ). requestOf (entry recordSize place (now table)) .typeId < 256) (take count (now places)) ⌝ }
-    requires { ⌜ (count ≤ length (now places)) × ((length (now places) ≤ 1024) × ((at + 49152 ≤ length (now out)) × (batch + 1026 < 65536))) ⌝ }
-    ensures { λ _. ⌜ now (out .exit) ≡ overwritten at (sentBytes batch (retrySendings (cond gate (map (λ (place : ℕ). itemOf (requestOf (entry recordSize place (now (table .entry))))) (take count (now (places .entry)))) []))) (now (out .entry)) ⌝ }
-    ensures { λ r. ⌜ r .at ≡ at + length (sentBytes batch (retrySendings (cond gate (map (λ (place : ℕ). itemOf (requestOf (entry recordSize place (now (table .entry))))) (take count (now (places .entry)))) []))) ⌝ }
-    ensures { λ r. ⌜ r .batch ≡ batch + length (retrySendings (cond gate (map (λ (place : ℕ). itemOf (requestOf (entry recordSize place (now (table .entry))))) (take count (now (places .entry)))) [])) ⌝ }
-{
-    if !gate {
-        return Written { at, batch };
-    }
-    put_places(table, &mut places[..count], out, at, batch)
-}
 
 // The evicted ids at the region's end.
 fn clear_evicted(region: &mut [u8], evicted: usize)
@@ -126,7 +52,7 @@ fn check_noting(
         peers,
         places,
     );
-    let sent = send_retries(region, places, made.retried, gate, out, at, batch);
+    let sent = retries::send_retries(region, places, made.retried, gate, out, at, batch);
     clear_evicted(region, head.evicted);
     Counts {
         pending: made.pending,

@@ -20,8 +20,8 @@ use Rattle.batches.specs.Items.{Asked, itemAt, itemsAt, alike, span}
 use Rattle.batches.specs.Batches.{batchAt, batchesFrom, batchesIn, filledWith}
 use Rattle.batches.specs.declared.Batch as declared
 use Rattle.batches.proofs.FillLaws.{batches-next, batches-end}
-use Rattle.delivery_check.specs.Batches.{idsAt, sendingsOf}
-use Rattle.delivery_check.proofs.GroupLaws.{ids-with, Sent, sent-starts, sent-ends, batch-within, batch-room, sent-next, length-ids, next-item, batch-ids}
+use Rattle.retries.specs.Batches.{idsAt, sendingsOf}
+use Rattle.retries.proofs.GroupLaws.{ids-with, Sent, sent-starts, sent-ends, batch-within, batch-room, sent-next, length-ids, next-item, batch-ids}
 
 -- ---- one batch, at place i
 

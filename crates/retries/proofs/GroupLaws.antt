@@ -34,9 +34,8 @@ use Rattle.model.proofs.SendingLaws.{retries-sent-well, sendings-bytes, retries
 use Rattle.requests.specs.Sent.{sentBytes}
 use Rattle.requests.proofs.RunLaws.{take-ids, drop-ids}
 use Rattle.batches.specs.Items.{itemOf, Asked, itemAt, itemsAt, alike, span}
-use Rattle.batches.proofs.ItemLaws.{item-id, next-mapped, span-le}
-use Rattle.delivery_check.specs.Batches.{idsAt, sendingsOf}
-use Rattle.delivery_check.proofs.RecordLaws.{entry-bytes}
+use Rattle.batches.proofs.ItemLaws.{entry-bytes, item-id, next-mapped, span-le}
+use Rattle.retries.specs.Batches.{idsAt, sendingsOf}
 
 -- ---- a list mapped, from an index on
 
@@ -234,6 +233,15 @@ module _ (t places d ids : List ℕ) (i : ℕ) (g : Gathering t places d ids i) 
       let a : overwritten (i * 32) [] ids ≡ overwritten 0 (joined (idsAt t places)) d = rw z at (g .rest) in
       sym (overwritten-nil (i * 32) ids) ∙ a ∙ overwritten-all (joined (idsAt t places)) d (length-ids t places w ∙ sym room)
 
+pub asked-both : (t places : List ℕ) → All (λ (place : ℕ). place * 54 + 54 ≤ length t) places → All (λ (place : ℕ). requestOf (entry recordSize place t) .typeId < 256) places → All (Asked t) places
+asked-both t [] a b = tt
+asked-both t (place ∷ places) a b = ((a .0, b .0), asked-both t places (a .1) (b .1))
+
+-- the items as the contract writes them
+items-plain : (t places : List ℕ) → itemsAt t places ≡ map (λ (place : ℕ). itemOf (requestOf (entry recordSize place t))) places
+unfolding itemAt
+items-plain t places = refl
+
 -- ---- sorted by ten bytes is sorted by target, then type
 
 module _ (t : List ℕ) (f : Bytes t) where
@@ -279,7 +287,7 @@ module _ (t : List ℕ) (f : Bytes t) where
     pub sorted-length : length now′ ≡ length places
     sorted-length = ap length e ∙ length-sorted (keyBelow 54 32 10 t) places
 
-    pub sorted-sendings : sendingsOf (itemsAt t now′) ≡ retrySendings (itemsAt t places)
+    sorted-sendings : sendingsOf (itemsAt t now′) ≡ retrySendings (itemsAt t places)
     unfolding sendingsOf retrySendings batchesOf
     sorted-sendings = rw (e, map-sorted (keyBelow 54 32 10 t) itemBelow (itemAt t) (Asked t) keys-agree places w)
 
@@ -292,11 +300,14 @@ module _ (t : List ℕ) (f : Bytes t) where
         let c : length (itemsAt t places) ≡ length places = length-map places (itemAt t) in
         rw sorted-sendings (omega arith)
 
-pub asked-both : (t places : List ℕ) → All (λ (place : ℕ). place * 54 + 54 ≤ length t) places → All (λ (place : ℕ). requestOf (entry recordSize place t) .typeId < 256) places → All (Asked t) places
-asked-both t [] a b = tt
-asked-both t (place ∷ places) a b = ((a .0, b .0), asked-both t places (a .1) (b .1))
+    sorted-plain : sendingsOf (itemsAt t now′) ≡ retrySendings (map (λ (place : ℕ). itemOf (requestOf (entry recordSize place t))) places)
+    sorted-plain = sorted-sendings ∙ ap retrySendings (items-plain t places)
 
--- the items as the contract writes them
-pub items-plain : (t places : List ℕ) → itemsAt t places ≡ map (λ (place : ℕ). itemOf (requestOf (entry recordSize place t))) places
-unfolding itemAt
-items-plain t places = refl
+    -- written in that order
+    pub sorted-written : (at batch at′ batch′ : ℕ) (out out′ : List ℕ)
+        → (out′ ≡ overwritten at (sentBytes batch (sendingsOf (itemsAt t now′))) out)
+        × ((at′ ≡ at + length (sentBytes batch (sendingsOf (itemsAt t now′)))) × (batch′ ≡ batch + length (sendingsOf (itemsAt t now′))))
+        → (out′ ≡ overwritten at (sentBytes batch (retrySendings (map (λ (place : ℕ). itemOf (requestOf (entry recordSize place t))) places))) out)
+        × ((at′ ≡ at + length (sentBytes batch (retrySendings (map (λ (place : ℕ). itemOf (requestOf (entry recordSize place t))) places))))
+        × (batch′ ≡ batch + length (retrySendings (map (λ (place : ℕ). itemOf (requestOf (entry recordSize place t))) places))))
+    sorted-written at batch at′ batch′ out out′ h = rw sorted-plain at h

@@ -1,14 +1,14 @@
 -- The loop: ids written, then those of the places left, are the whole (`Gathering`).
 use Rattle.fields.proofs.AllLaws.{all-at}
 use Rattle.batches.specs.Items.{Asked}
-use Rattle.delivery_check.proofs.GroupLaws.{Gathering, gather-starts, gather-turn, gather-ends}
+use Rattle.retries.proofs.GroupLaws.{Gathering, gather-starts, gather-turn, gather-ends}
 use borrow.Author.Needs.{needs}
 use native.Mathlib.Omega.{arith}
 use Prim.Native.Nat.{_+_, _-_, _*_}
 use mathlib.Core.Path.{_≡_}
 use lib.ListN.{length, take, drop}
-use Rattle.delivery_check.proofs.group.gather.Statement.{statement}
-use Rattle.delivery_check.proofs.group.gather.Tie as tie
+use Rattle.retries.proofs.gather.Statement.{statement}
+use Rattle.retries.proofs.gather.Tie as tie
 
 abbrev Inv-loop : tie.InvT-loop
 Inv-loop table places ids₀ i₀ ids i = Gathering table places ids₀ ids i

@@ -1,8 +1,8 @@
 -- Rooms for 1,024 places.
 use borrow.Author.Needs.{needs}
 use native.Mathlib.Omega.{arith}
-use Rattle.region_check.proofs.put_places.Statement.{statement}
-use Rattle.region_check.proofs.put_places.Tie as tie
+use Rattle.retries.proofs.put_places.Statement.{statement}
+use Rattle.retries.proofs.put_places.Tie as tie
 
 slice-aggregate-put-with-room : tie.Need-slice-aggregate-put-with-room
 slice-aggregate-put-with-room c = search needs

@@ -5,8 +5,8 @@ use Prim.Native.Nat.{_*_}
 use mathlib.Core.Path.{sym}
 use lib.ListN.{length}
 use lib.Seq.{length-take-le}
-use Rattle.region_check.proofs.put_with_room.Statement.{statement}
-use Rattle.region_check.proofs.put_with_room.Tie as tie
+use Rattle.retries.proofs.put_with_room.Statement.{statement}
+use Rattle.retries.proofs.put_with_room.Tie as tie
 
 mul-size : tie.Need-mul-size
 mul-size c = search needs

@@ -5,9 +5,9 @@ use mathlib.Core.Path.{refl}
 use lib.ListN.{length, take, drop, getD}
 use Rattle.batches.specs.Batches.{batchesIn}
 use Rattle.batches.specs.declared.Batch.{Batch}
-use Rattle.delivery_check.proofs.WritingLaws.{Writing, Turn, writing-starts, writing-ends, turn}
-use Rattle.delivery_check.proofs.group.put_batches.Statement.{statement}
-use Rattle.delivery_check.proofs.group.put_batches.Tie as tie
+use Rattle.retries.proofs.WritingLaws.{Writing, Turn, writing-starts, writing-ends, turn}
+use Rattle.retries.proofs.put_batches.Statement.{statement}
+use Rattle.retries.proofs.put_batches.Tie as tie
 
 abbrev Inv-loop : tie.InvT-loop
 Inv-loop table places ids out₀ at batch list count place₀ number₀ i₀ out place number i = Writing table places batch at out₀ out place number i
