@@ -54,8 +54,8 @@ fn lose_ask_with(
     requires { ⌜ (at + 49152 ≤ length (now out)) × (batch + 1026 < 65536) ⌝ }
     ensures { λ r. ⌜ ((st : State) (c : calls.Call) (ids peers view : List ℕ) → Given head (now (region .entry)) call ids (now (stored .entry)) peers view st c → (downloaded : ℕ) → Performs at batch (workedBy st c downloaded (works.LoseAsk peer)) (now (out .entry)) r (now (region .exit)) (now (out .exit))) ⌝ }
 {
-    let number = delivery::purge::orphans(region, head.pending, head.peer, pairs);
-    let left = delivery::purge::purge_peer(region, head.pending, head.peer);
+    let number = orphans::orphans(region, head.pending, head.peer, pairs);
+    let left = purge::purge_peer(region, head.pending, head.peer);
     let before = asks::unasked_counts(left, head.evicted, at, batch);
     let size = number * 33;
     asks::ask_pairs(region, before, call, peer, stored, &pairs[..size], out)

@@ -108,7 +108,7 @@ pub fn purge_sections(
     requires { ⌜ (at + 49152 ≤ length (now out)) × (batch + 1026 < 65536) ⌝ }
     ensures { λ r. ⌜ ((st : State) (c : calls.Call) (ids stored peers : List ℕ) → Given head (now (region .entry)) call ids stored peers (now (view .entry)) st c → Performs at batch (workedBy st c downloaded (works.PurgeSections peer)) (now (out .entry)) r (now (region .exit)) (now (out .exit))) ⌝ }
 {
-    delivery::purge::purge_all(region, head.pending);
+    purge::purge_all(region, head.pending);
     let before = asks::unasked_counts(0, head.evicted, at, batch);
     ask_sections(region, before, call, peer, downloaded, view, out)
 }

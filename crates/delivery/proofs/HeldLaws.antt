@@ -2,32 +2,30 @@
 use Prim.Native.Nat.{ℕ, _+_, _-_, _*_, _/_, _%_, _≤_, _<_, max}
 use mathlib.Core.Path.{_≡_, sym, ap, _∙_}
 use mathlib.Core.Bool.{Bool, true, false, not}
-use mathlib.Core.List.{List, [], _++_}
+use mathlib.Core.List.{List, _++_}
 use native.Mathlib.Omega.{arith}
 use lib.Dec.{eqb, leb}
 use lib.ListN.{length, take, drop, length-append, length-map}
 use lib.Seq.{take-all}
 use borrow.Author.Tests.{le-leb, lt-leb}
 use Rattle.fields.specs.Facts.{All, Bytes}
-use Rattle.fields.specs.Zero.{zeros}
 use Rattle.fields.specs.Overwrite.{overwritten}
 use Rattle.fields.specs.Entries.{entries, joined, replaced}
 use Rattle.fields.specs.Filter.{kept, marked}
-use Rattle.fields.proofs.ZeroLaws.{length-zeros}
 use Rattle.fields.proofs.AllLaws.{all-kept}
 use Rattle.fields.proofs.FilterLaws.{length-kept}
 use Rattle.fields.proofs.MarkLaws.{kept-map, length-marks-left}
 use Rattle.fields.proofs.OverwriteLaws.{overwritten-next}
-use Rattle.fields.proofs.EntriesLaws.{Wide, length-entries, entries-wide, entries-bytes, joined-entries, joined-append, replaced-fewer, drop-replaced, length-replaced}
+use Rattle.fields.proofs.EntriesLaws.{Wide, length-entries, entries-wide, entries-bytes, joined-entries, joined-append, drop-replaced, length-replaced}
 use Rattle.moving.specs.Move.{moved}
 use Rattle.moving.proofs.MoveLaws.{length-part}
 use Rattle.model.specs.Protocol.{Id, isAmong}
-use Rattle.model.specs.Delivery.{Request, markReceived, pendingAfterEviction, evictedAfterEviction, purgePeer, purgeAll}
+use Rattle.model.specs.Delivery.{Request, markReceived, pendingAfterEviction, evictedAfterEviction}
 use Rattle.model.specs.Image.{idSize, recordSize, requestOf}
 use Rattle.model.specs.Lists.{idsIn}
 use Rattle.model.proofs.RecordLaws.{records-of-requests}
 use Rattle.requests.specs.Pending.{requestsIn, holding}
-use Rattle.delivery.specs.Records.{unlisted, ofOther}
+use Rattle.delivery.specs.Records.{unlisted}
 use Rattle.delivery.specs.Region.{evictedIn, endingWith, scheduledAs, regionThen}
 use Rattle.delivery.specs.declared.evict.Evicted.the-variants.{Pending, Full}
 
@@ -36,7 +34,7 @@ module _ (count : ℕ) (table : List ℕ) where
   length-filtered test =
       sym (ap length (kept-map requestOf test (entries recordSize count table)) ∙ length-map (kept (λ (e : List ℕ). test (requestOf e)) (entries recordSize count table)) requestOf)
 
-  filtered : (test : Request → Bool) → count * recordSize ≤ length table → Bytes table
+  pub filtered : (test : Request → Bool) → count * recordSize ≤ length table → Bytes table
       → replaced recordSize count (kept (λ (e : List ℕ). test (requestOf e)) (entries recordSize count table)) table ≡ holding count (kept test (requestsIn count table)) table
   unfolding holding
   filtered test l b =
@@ -56,21 +54,6 @@ module _ (count : ℕ) (table : List ℕ) where
       a ∙ ap length e ∙ length-filtered (λ (r : Request). not (isAmong (r .id) ids)),
       b ∙ ap (λ (es : List (List ℕ)). replaced recordSize count es table) e ∙ filtered (λ (r : Request). not (isAmong (r .id) ids)) l f,
     )
-
-    pub purged : (peer : ℕ) → marked marks (entries recordSize count table) ≡ kept (ofOther peer) (entries recordSize count table)
-        → (left ≡ length (purgePeer peer (requestsIn count table))) × (new ≡ holding count (purgePeer peer (requestsIn count table)) table)
-    unfolding ofOther purgePeer
-    purged peer e = (
-      a ∙ ap length e ∙ length-filtered (λ (r : Request). not (eqb (r .peer) peer)),
-      b ∙ ap (λ (es : List (List ℕ)). replaced recordSize count es table) e ∙ filtered (λ (r : Request). not (eqb (r .peer) peer)) l f,
-    )
-
-  pub purged-all : (new : List ℕ) → new ≡ overwritten 0 (zeros (count * recordSize)) table → new ≡ holding count (purgeAll (requestsIn count table)) table
-  unfolding holding purgeAll overwritten
-  purged-all new e =
-      let z : 0 + length (zeros (count * recordSize)) ≡ count * recordSize = rw (length-zeros (count * recordSize)) (omega arith) in
-      let k : count - 0 ≡ count = omega arith in
-      e ∙ rw z (sym (replaced-fewer recordSize count [] table (omega arith) ∙ rw k))
 
 -- ---- the evicted ids at the region's end
 

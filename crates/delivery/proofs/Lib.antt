@@ -1,4 +1,3 @@
 pub mod CountLaws
 pub mod ListedLaws
 pub mod HeldLaws
-pub mod PeerLaws

@@ -56,7 +56,7 @@ fn gather(area: &[u8], head: Head, flag: u8, pairs: &mut [u8]) -> usize
         put_headers(&area[from..], count, pairs);
         return count;
     }
-    delivery::purge::orphans(&area[2560..], head.pending, head.peer, pairs)
+    orphans::orphans(&area[2560..], head.pending, head.peer, pairs)
 }
 
 // Whether a mode has a sync peer.

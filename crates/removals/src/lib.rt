@@ -77,7 +77,7 @@ pub fn purge(region: &mut [u8], head: Head, call: Call, at: usize, batch: u16) -
     ensures { λ r. ⌜ ((st : State) (c : calls.Call) (ids stored peers view out : List ℕ) → Given head (now (region .entry)) call ids stored peers view st c → (downloaded : ℕ) → Performs at batch (workedBy st c downloaded works.Purge) out r (now (region .exit)) out) ⌝ }
 {
     let spared = head.evicted;
-    delivery::purge::purge_all(region, head.pending);
+    purge::purge_all(region, head.pending);
     Performed::Done(Counts {
         pending: 0,
         evicted: spared,
@@ -95,7 +95,7 @@ pub fn lose(region: &mut [u8], head: Head, call: Call, at: usize, batch: u16) ->
     requires { ⌜ Tracked head (call .clock) (now region) ⌝ }
     ensures { λ r. ⌜ ((st : State) (c : calls.Call) (ids stored peers view out : List ℕ) → Given head (now (region .entry)) call ids stored peers view st c → (downloaded : ℕ) → Performs at batch (workedBy st c downloaded works.Lose) out r (now (region .exit)) out) ⌝ }
 {
-    let others = delivery::purge::purge_peer(region, head.pending, head.peer);
+    let others = purge::purge_peer(region, head.pending, head.peer);
     Performed::Done(Counts {
         pending: others,
         evicted: head.evicted,
