@@ -1,6 +1,6 @@
 // Program `keeper` of document 01: a row of clock, retried, fresh, abandoned, forgotten and pending for each check.
 //
-// What it prints is said and proved in the crate keeping; here it is read and written in pieces. A line of 1,536 bytes or
+// What it prints is said and proved in the crate printing; here it is read and written in pieces. A line of 1,536 bytes or
 // more is "any other line".
 ghost use mathlib.Core.Path.{_≡_};
 ghost use mathlib.Core.Bool.{true};
@@ -30,7 +30,7 @@ fn answer(table: &mut [u8], keeper: Keeper, text: &mut [u8], size: usize, out: &
     requires { ⌜ Kept keeper (now table) × ((size ≤ length (now text)) × (length (now text) * 42 + 126 ≤ length (now out))) ⌝ }
     ensures { λ r. ⌜ (r .going ≡ true → Kept (r .keeper) (now (table .exit)) × (r .held < length (now (text .entry)))) ⌝ }
 {
-    let done = keeping::text::answer_lines(table, keeper, &text[..size], out);
+    let done = printing::answer_lines(table, keeper, &text[..size], out);
     let written = done.written;
     io::write_all(1, &out[..written]);
     let used = done.used;

@@ -1,5 +1,3 @@
-pub mod RowLaws
 pub mod FitLaws
 pub mod KeptLaws
 pub mod LineLaws
-pub mod TextLaws

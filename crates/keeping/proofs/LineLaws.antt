@@ -26,6 +26,7 @@ use Rattle.settings.specs.Values.{settingsOf}
 use Rattle.requests.specs.Pending.{requestsIn, holding}
 use Rattle.marking.specs.Marking.{heldWithin}
 use Rattle.announced.specs.Requested.{requestedAs}
+use Rattle.announced.specs.declared.request.Requested.{Requested}
 use Rattle.announced.specs.declared.request.Requested.the-variants.{Done, Full}
 use Rattle.announced.specs.declared.request.Written.{Written}
 use Rattle.announced.proofs.RequestedLaws.{holding-same}
@@ -33,7 +34,8 @@ use Rattle.marking.proofs.AnswerLaws.{few-held}
 use Rattle.announced.proofs.PerformLaws.{requested-full, requested-done}
 use Rattle.delivery_check.specs.Checked.{pendingAfterCheck, checkedAs}
 use Rattle.delivery_check.specs.declared.check.Checked.{Checked}
-use Rattle.keeping.specs.Keeping.{Keeping, Step, ended, goes, timed, inOrder, begunWith, idOf, pendingAfterRequest, afterRequest, afterCheck, row, judgedCount, checkRow, answered}
+use Rattle.rows.specs.Row.{row}
+use Rattle.keeping.specs.Keeping.{Keeping, Step, ended, goes, timed, inOrder, begunWith, idOf, pendingAfterRequest, afterRequest, afterCheck, judgedCount, checkRow, answered}
 use Rattle.keeping.specs.Kept.{keepingIn, Fits, Kept, valuesOf, keeperOf, answerAs, bytesOf, tableAfter, Holds}
 use Rattle.keeping.specs.declared.Keeper.{Keeper}
 use Rattle.keeping.specs.declared.Answer.{Answer}
@@ -193,16 +195,16 @@ module _ (keeper : Keeper) (table : List ℕ) (clock at : ℕ) where
         unfolding done pairsIn idsIn idOf
         as-done = rw (hs, hi)
 
-        pub never-full : Full ≡ requestedAs 1024 0 0 (perform true clock (ask typeId peer (pairsIn stored) (idsIn ids)) (requestsIn (keeper .count) table)) → ⊥
-        never-full h = false≢true (sym (requested-full 1024 0 0 done (h ∙ ap (requestedAs 1024 0 0) as-done)) ∙ done-few)
+        pub never-full : (got : Requested) → got ≡ Full → got ≡ requestedAs 1024 0 0 (perform true clock (ask typeId peer (pairsIn stored) (idsIn ids)) (requestsIn (keeper .count) table)) → ⊥
+        never-full got g h = false≢true (sym (requested-full 1024 0 0 done (sym g ∙ h ∙ ap (requestedAs 1024 0 0) as-done)) ∙ done-few)
 
-        pub requests : (w : Written) (table′ : List ℕ) → Done w ≡ requestedAs 1024 0 0 (perform true clock (ask typeId peer (pairsIn stored) (idsIn ids)) (requestsIn (keeper .count) table))
+        pub requests : (got : Requested) (w : Written) (table′ : List ℕ) → got ≡ Done w → got ≡ requestedAs 1024 0 0 (perform true clock (ask typeId peer (pairsIn stored) (idsIn ids)) (requestsIn (keeper .count) table))
             → table′ ≡ heldWithin 1024 (keeper .count) (perform true clock (ask typeId peer (pairsIn stored) (idsIn ids)) (requestsIn (keeper .count) table) .pending) table
             → Says (answered (keepingIn keeper table) (line.Request clock peer typeId byte)) at (keeper .count) table
             (answer.Next (record { begun = true; settings = keeper .settings; clock = clock; count = w .count }) at) table′
         unfolding next afterRequest pendingAfterRequest keepingIn settingsOf done
-        requests w table′ h e =
-            let d = requested-done 1024 0 0 done w (h ∙ ap (requestedAs 1024 0 0) as-done) in
+        requests got w table′ g h e =
+            let d = requested-done 1024 0 0 done w (sym g ∙ h ∙ ap (requestedAs 1024 0 0) as-done) in
             let held : table′ ≡ holding (keeper .count) (next .pending) table =
             e ∙ ap (λ (x : model.Done). heldWithin 1024 (keeper .count) (x .pending) table) as-done ∙ few-held 1024 (keeper .count) (done .pending) table done-few in
             says-goes _ next [] at (keeper .count) table _ at table′ (request-goes (keepingIn keeper table) clock peer typeId byte (in-order ok))

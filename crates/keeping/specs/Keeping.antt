@@ -1,12 +1,12 @@
 -- Program `keeper`: what one line does (document 01, "Program `keeper` reads lines"; DECISIONS.md, U-8 and U-9).
 use Prim.Native.Nat.{ℕ}
 use mathlib.Core.Bool.{Bool, true, false, cond, _&&_}
-use mathlib.Core.List.{List, [], _∷_, _++_}
+use mathlib.Core.List.{List, [], _∷_}
 use lib.ListN.{length, replicate}
 use lib.Dec.{leb}
-use Rattle.lines.specs.Number.{digits}
 use Rattle.lines.specs.declared.Line.{Line}
 use Rattle.lines.specs.declared.Line.the-variants as line
+use Rattle.rows.specs.Row.{row}
 use Rattle.model.specs.Protocol.{Id}
 use Rattle.model.specs.Settings.{Settings}
 use Rattle.model.specs.Delivery.{Request, Verdict, retried, abandoned, forgotten, judged, checkTimeouts}
@@ -58,15 +58,6 @@ afterRequest k clock peer typeId byte =
 unfoldable pub afterCheck : Keeping → ℕ → Keeping
 afterCheck k clock =
     record { begun = k .begun; settings = k .settings; clock = clock; pending = checkTimeouts (k .settings) clock (k .pending) }
-
-unfoldable pub numberThen : ℕ → ℕ → List ℕ
-numberThen mark n = digits n ++ (mark ∷ [])
-
--- numbers parted by one space, then a line feed
-abbrev pub row : List ℕ → List ℕ
-row [] = []
-row (n ∷ []) = numberThen 10 n
-row (n ∷ (m ∷ ns)) = numberThen 32 n ++ row (m ∷ ns)
 
 unfoldable pub judgedCount : Keeping → ℕ → Verdict → ℕ
 judgedCount k clock what = length (judged (k .settings) clock what (k .pending))

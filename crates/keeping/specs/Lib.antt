@@ -1,4 +1,2 @@
 pub mod Keeping
-pub mod Printed
 pub mod Kept
-pub mod Progress

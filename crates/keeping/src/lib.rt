@@ -1,7 +1,7 @@
 // Program `keeper` line by line, on a table of pending requests that its caller lends.
 //
-// `answer_line` equals `answered` of specs/Keeping.antt on every line, and `text::print_all` prints what `printed` of
-// specs/Printed.antt says of a whole input. There are at most 256 ids of one repeated byte, so a table of 1,024 records never fills.
+// `answer_line` equals `answered` of specs/Keeping.antt on every line. There are at most 256 ids of one repeated byte, so a
+// table of 1,024 records never fills.
 ghost use mathlib.Core.Path.{_≡_};
 ghost use mathlib.Core.Bool.{_&&_};
 ghost use Prim.Native.Nat.{_+_, _≤_};
@@ -15,9 +15,6 @@ ghost use Rattle.keeping.specs.Kept.{keepingIn, valuesOf, keeperOf, Kept
 use announced::request::Requested;
 use lines::Line;
 use settings::Settings;
-
-mod row;
-pub mod text;
 
 // What is kept from line to line, beside the table of pending requests.
 pub struct Keeper {
@@ -163,7 +160,7 @@ fn check(table: &mut [u8], keeper: Keeper, clock: u64, out: &mut [u8], at: usize
         b"",
         &mut places,
     );
-    let end = row::put_row(
+    let end = rows::put_row(
         out,
         at,
         clock,

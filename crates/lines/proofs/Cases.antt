@@ -1,8 +1,8 @@
 -- Lines of document 01's worked example, and lines that are no line.
 use Prim.Native.Nat.{ℕ}
 use mathlib.Core.Path.{_≡_, refl}
-use mathlib.Core.List.{List, [], _∷_}
-use Rattle.lines.specs.Number.{within, isDigit, decimal, hexDigit, hexByte, digits}
+use mathlib.Core.List.{[], _∷_}
+use Rattle.numerals.specs.Number.{within, isDigit, decimal, hexDigit, hexByte}
 use Rattle.lines.specs.Line.{settingsOf, requestOf, checkOf, byLetter, lineOf}
 use Rattle.lines.specs.declared.Line.the-variants.{Settings, Request, Check, Other}
 
@@ -55,7 +55,3 @@ carriage-return = refl
 pub sign : lineOf (99 ∷ 32 ∷ 43 ∷ 49 ∷ []) ≡ Other
 unfolding grammar
 sign = refl
-
--- 10050 printed
-pub printed : digits 10050 ≡ 49 ∷ 48 ∷ 48 ∷ 53 ∷ 48 ∷ []
-printed = refl

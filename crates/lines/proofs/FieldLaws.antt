@@ -11,8 +11,8 @@ use native.Mathlib.Nat.{zero-add, suc-add, lt-irrefl}
 use native.Mathlib.Numerals.{add-one}
 use native.Mathlib.Omega.{arith}
 use borrow.Author.Tests.{eq-eqb, ne-eqb, eqb-true, ltb-true, ltb-false}
-use Rattle.lines.specs.Number.{decimal, hexByte}
-use Rattle.lines.proofs.NumberLaws.{decimal-none, decimal-below, hex-none, hex-byte-below}
+use Rattle.numerals.specs.Number.{decimal, hexByte}
+use Rattle.numerals.proofs.NumberLaws.{decimal-none, decimal-below, hex-none, hex-byte-below}
 use Rattle.lines.specs.Line.{upTo, ontoFirst, fieldsOf, given, field, done, settingsOf, requestOf, checkOf, byLetter, ofFields, lineOf}
 use Rattle.lines.specs.Reading.{fieldBehind, endBehind, fieldOf, fieldsBehind}
 use Rattle.lines.specs.declared.Line.{Line}

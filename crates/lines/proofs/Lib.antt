@@ -1,3 +1,2 @@
-pub mod NumberLaws
 pub mod FieldLaws
 pub mod Cases

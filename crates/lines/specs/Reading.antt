@@ -4,14 +4,8 @@ use mathlib.Core.List.{List, [], _∷_}
 use mathlib.Core.Option.{Option, none, some}
 use lib.ListN.{length, drop}
 use Rattle.lines.specs.Line.{upTo, fieldsOf}
-use Rattle.lines.specs.declared.number.Number.{Number}
-use Rattle.lines.specs.declared.number.Number.the-variants.{Value, Nothing}
 use Rattle.lines.specs.declared.field.Field.{Field}
 use Rattle.lines.specs.declared.field.Field.the-variants.{Read, Refused}
-
-abbrev pub numberOf : Option ℕ → Number
-numberOf none = Nothing
-numberOf (some n) = Value n
 
 -- the field behind the space at index `space`, and where it ends
 unfoldable pub fieldBehind : ℕ → List ℕ → List ℕ

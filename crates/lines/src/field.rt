@@ -3,9 +3,9 @@ ghost use mathlib.Core.Path.{_≡_};
 ghost use Prim.Native.Nat.{_+_, _≤_};
 ghost use lib.ListN.{length, drop};
 ghost use Rattle.lines.specs.Line.{upTo};
-ghost use Rattle.lines.specs.Number.{decimal, hexByte};
+ghost use Rattle.numerals.specs.Number.{decimal, hexByte};
 ghost use Rattle.lines.specs.Reading.{fieldOf, fieldBehind, endBehind};
-use crate::number::Number;
+use numerals::Number;
 
 pub enum Field {
     // value, end
@@ -37,7 +37,7 @@ pub fn decimal_behind(line: &[u8], space: usize, most: u64) -> Field
     }
     let from = space + 1;
     let end = end_before(line, from, b' ');
-    let Number::Value(n) = crate::number::read_decimal(&line[from..end], most) else {
+    let Number::Value(n) = numerals::read_decimal(&line[from..end], most) else {
         return Field::Refused;
     };
     Field::Read(n, end)
@@ -52,7 +52,7 @@ pub fn hex_behind(line: &[u8], space: usize) -> Field
     }
     let from = space + 1;
     let end = end_before(line, from, b' ');
-    let Number::Value(n) = crate::number::read_hex(&line[from..end]) else {
+    let Number::Value(n) = numerals::read_hex(&line[from..end]) else {
         return Field::Refused;
     };
     Field::Read(n, end)

@@ -1,18 +1,15 @@
-// The lines that the program `keeper` reads, and the numbers that it prints.
+// The lines that the program `keeper` reads.
 //
 // A line is taken exactly or not at all: `parse` equals `lineOf` of specs/Line.antt on every byte list. Each byte is read
 // at most three times.
 ghost use mathlib.Core.Path.{_≡_};
-ghost use Prim.Native.Nat.{_+_, _≤_};
+ghost use Prim.Native.Nat.{_+_};
 ghost use lib.ListN.{length, drop};
-ghost use Rattle.fields.specs.Overwrite.{overwritten};
 ghost use Rattle.lines.specs.Line.{nextLine, lineOf, settingsOf, requestOf, checkOf};
-ghost use Rattle.lines.specs.Number.{digits};
 ghost use Rattle.lines.specs.Reading.{fieldsBehind};
 use crate::field::Field;
 
 mod field;
-mod number;
 
 pub enum Line {
     // timeout, limit
@@ -103,13 +100,4 @@ pub fn line_end(text: &[u8], from: usize) -> usize
     ensures { λ r. ⌜ r ≡ from + length (nextLine (drop from (now (text .entry)))) ⌝ }
 {
     field::end_before(text, from, b'\n')
-}
-
-// Writes n in decimal from index `at` on. Gives the index behind it.
-pub fn put_decimal(out: &mut [u8], at: usize, n: u64) -> usize
-    requires { ⌜ at + 20 ≤ length (now out) ⌝ }
-    ensures { λ r. ⌜ now (out .exit) ≡ overwritten at (digits n) (now (out .entry)) ⌝ }
-    ensures { λ r. ⌜ r ≡ at + length (digits n) ⌝ }
-{
-    number::put_digits(out, at, n, 20)
 }

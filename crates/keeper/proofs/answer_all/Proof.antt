@@ -6,7 +6,7 @@ use mathlib.Core.Path.{_≡_, refl, _∙_}
 use lib.ListN.{length}
 use borrow.Author.Tests.{not-false}
 use Rattle.keeping.specs.Kept.{Kept}
-use Rattle.keeping.proofs.TextLaws.{first-kept}
+use Rattle.printing.proofs.TextLaws.{first-kept}
 use Rattle.keeper.proofs.answer_all.Statement.{statement}
 use Rattle.keeper.proofs.answer_all.Tie as tie
 

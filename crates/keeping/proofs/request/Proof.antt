@@ -49,7 +49,7 @@ unfolding idOf
 returns-2 c = let s = c .before .before .before .before .before .before .before .before .before .before .before .before .before .before .before in
     let a = s .args in
     let m = c .before .before .before .before .before .before .request-announced in
-    absurd (never-full (a .keeper) (a .table .now) (a .clock) (a .at) (s .pre) (sym (c .before .before .before .before .before .before .before .before .before .before .before .before .before .in-order .ensures) ∙ not-false _ (c .before .before .before .before .before .before .before .before .before .before .before .before .if1 .left)) (a .peer) (a .typeid) (a .byte) (omega (arith, s .fits)) (omega (arith, s .good)) (omega (arith, s .fits)) (omega (arith, s .fits)) (omega (arith, s .fits)) _ _ refl refl (sym (c .enum-told .given .1) ∙ m .ensures .0))
+    absurd (never-full (a .keeper) (a .table .now) (a .clock) (a .at) (s .pre) (sym (c .before .before .before .before .before .before .before .before .before .before .before .before .before .in-order .ensures) ∙ not-false _ (c .before .before .before .before .before .before .before .before .before .before .before .before .if1 .left)) (a .peer) (a .typeid) (a .byte) (omega (arith, s .fits)) (omega (arith, s .good)) (omega (arith, s .fits)) (omega (arith, s .fits)) (omega (arith, s .fits)) _ _ refl refl (m .result) (c .enum-told .given .1) (m .ensures .0))
 
 same-length-2 : tie.Need-same-length-2
 same-length-2 c = search needs
@@ -59,7 +59,7 @@ unfolding idOf
 returns-3 c = let s = c .before .before .before .before .before .before .before .before .before .before .before .before .before .before .before .before .before in
     let a = s .args in
     let m = c .before .before .before .before .before .before .before .before .request-announced in
-    requests (a .keeper) (a .table .now) (a .clock) (a .at) (s .pre) (sym (c .before .before .before .before .before .before .before .before .before .before .before .before .before .before .before .in-order .ensures) ∙ not-false _ (c .before .before .before .before .before .before .before .before .before .before .before .before .before .before .if1 .left)) (a .peer) (a .typeid) (a .byte) (omega (arith, s .fits)) (omega (arith, s .good)) (omega (arith, s .fits)) (omega (arith, s .fits)) (omega (arith, s .fits)) _ _ refl refl (c .before .before .written .given .0 .0) (m .last .0) (sym (c .before .before .written .given .1) ∙ m .ensures .0) (m .ensures .1 .0)
+    requests (a .keeper) (a .table .now) (a .clock) (a .at) (s .pre) (sym (c .before .before .before .before .before .before .before .before .before .before .before .before .before .before .before .in-order .ensures) ∙ not-false _ (c .before .before .before .before .before .before .before .before .before .before .before .before .before .before .if1 .left)) (a .peer) (a .typeid) (a .byte) (omega (arith, s .fits)) (omega (arith, s .good)) (omega (arith, s .fits)) (omega (arith, s .fits)) (omega (arith, s .fits)) _ _ refl refl (m .result) (c .before .before .written .given .0 .0) (m .last .0) (c .before .before .written .given .1) (m .ensures .0) (m .ensures .1 .0)
 
 pub request-spec : {M : Type 1} → statement M
 request-spec =

@@ -2,9 +2,9 @@
 use borrow.Author.Needs.{needs}
 use native.Mathlib.Omega.{arith}
 use Rattle.lines.proofs.FieldLaws.{field-none, line-end-within, part-is-field, end-is-end}
-use Rattle.lines.proofs.NumberLaws.{hex-none, value-of, nothing-of}
+use Rattle.numerals.proofs.NumberLaws.{hex-none, value-of, nothing-of}
 use Rattle.lines.specs.Reading.{fieldBehind}
-use Rattle.lines.specs.Number.{hexByte}
+use Rattle.numerals.specs.Number.{hexByte}
 use Prim.Native.Nat.{ℕ, _+_}
 use mathlib.Core.Path.{sym, _∙_}
 use mathlib.Core.List.{List}
