@@ -45,5 +45,5 @@ pub fn complete(image: &mut [u8], count: usize, stalling: Stalling, head: Head, 
     let mut after = head;
     after.pending = counts.pending;
     after.evicted = counts.evicted;
-    image::head::write_head(image, after);
+    head_writing::write_head(image, after);
 }

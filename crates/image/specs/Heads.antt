@@ -1,6 +1,5 @@
 -- The header of the state area as a struct: docs/LAYOUT.md, offsets 0 to 74.
 use Prim.Native.Nat.{ℕ}
-use mathlib.Core.Bool.{Bool, true, false}
 use mathlib.Core.List.{List, [], _∷_, _++_}
 use lib.ListN.{length, getD}
 use lib.Dec.{eqb}

@@ -1,2 +1,2 @@
-// The state area: its header by value, and a fresh one.
+// The header of the state area, read as a value.
 pub mod head;

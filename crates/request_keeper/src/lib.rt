@@ -31,7 +31,7 @@ pub extern "C" fn request_keeper_open(
         interval,
         stall,
     };
-    image::head::open(state, settings, clock, height);
+    opening::open(state, settings, clock, height);
     0
 }
 

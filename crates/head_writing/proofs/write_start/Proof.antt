@@ -3,9 +3,9 @@ use native.Mathlib.Omega.{arith}
 use lib.ListN.{length-set}
 use borrow.Author.Needs.{needs}
 use Rattle.model.specs.Image.{bit}
-use Rattle.image.proofs.HeadLaws.{eight-set}
-use Rattle.image.proofs.head.write_start.Statement.{statement}
-use Rattle.image.proofs.head.write_start.Tie as tie
+use Rattle.head_writing.proofs.WrittenLaws.{eight-set}
+use Rattle.head_writing.proofs.write_start.Statement.{statement}
+use Rattle.head_writing.proofs.write_start.Tie as tie
 
 slice-write-area : tie.Need-slice-write-area
 slice-write-area c = search needs

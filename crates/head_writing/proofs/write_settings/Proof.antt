@@ -4,9 +4,9 @@ use mathlib.Core.List.{_++_}
 use native.Mathlib.Omega.{arith}
 use borrow.Author.Needs.{needs}
 use Rattle.fields.specs.Number.{toBe}
-use Rattle.image.proofs.HeadLaws.{written-behind, three-written}
-use Rattle.image.proofs.head.write_settings.Statement.{statement}
-use Rattle.image.proofs.head.write_settings.Tie as tie
+use Rattle.head_writing.proofs.WrittenLaws.{written-behind, three-written}
+use Rattle.head_writing.proofs.write_settings.Statement.{statement}
+use Rattle.head_writing.proofs.write_settings.Tie as tie
 
 write-u32-requires : tie.Need-write-u32-requires
 write-u32-requires c κs = search needs

@@ -3,9 +3,9 @@ use mathlib.Core.Path.{refl}
 use native.Mathlib.Omega.{arith}
 use borrow.Author.Needs.{needs}
 use Rattle.fields.specs.Number.{toBe}
-use Rattle.image.proofs.HeadLaws.{three-written}
-use Rattle.image.proofs.head.write_heights.Statement.{statement}
-use Rattle.image.proofs.head.write_heights.Tie as tie
+use Rattle.head_writing.proofs.WrittenLaws.{three-written}
+use Rattle.head_writing.proofs.write_heights.Statement.{statement}
+use Rattle.head_writing.proofs.write_heights.Tie as tie
 
 write-u32-requires : tie.Need-write-u32-requires
 write-u32-requires c κs = search needs

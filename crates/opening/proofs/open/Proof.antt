@@ -5,10 +5,10 @@ use borrow.Author.Needs.{needs}
 use Rattle.fields.specs.Overwrite.{overwritten}
 use Rattle.model.specs.State.{State, opened}
 use Rattle.settings.specs.Values.{settingsOf}
 use Rattle.image.specs.Heads.{headOf, headBytes}
-use Rattle.image.proofs.HeadLaws.{opened-written}
-use Rattle.image.proofs.head.open.Statement.{statement}
-use Rattle.image.proofs.head.open.Tie as tie
+use Rattle.opening.proofs.OpenedLaws.{opened-written}
+use Rattle.opening.proofs.open.Statement.{statement}
+use Rattle.opening.proofs.open.Tie as tie
 
 fill-zero-requires : tie.Need-fill-zero-requires
 fill-zero-requires c κs = search needs

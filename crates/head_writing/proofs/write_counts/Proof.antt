@@ -3,9 +3,9 @@ use mathlib.Core.Path.{refl}
 use native.Mathlib.Omega.{arith}
 use borrow.Author.Needs.{needs}
 use Rattle.fields.specs.Number.{toBe}
-use Rattle.image.proofs.HeadLaws.{three-written}
-use Rattle.image.proofs.head.write_counts.Statement.{statement}
-use Rattle.image.proofs.head.write_counts.Tie as tie
+use Rattle.head_writing.proofs.WrittenLaws.{three-written}
+use Rattle.head_writing.proofs.write_counts.Statement.{statement}
+use Rattle.head_writing.proofs.write_counts.Tie as tie
 
 write-requires : tie.Need-write-requires
 write-requires c κs = search needs

@@ -1,9 +1,9 @@
 -- The six runs side by side are the header.
 use mathlib.Core.Path.{_∙_}
 use borrow.Author.Needs.{needs}
-use Rattle.image.proofs.HeadLaws.{head-written}
-use Rattle.image.proofs.head.write_head.Statement.{statement}
-use Rattle.image.proofs.head.write_head.Tie as tie
+use Rattle.head_writing.proofs.WrittenLaws.{head-written}
+use Rattle.head_writing.proofs.write_head.Statement.{statement}
+use Rattle.head_writing.proofs.write_head.Tie as tie
 
 write-start-requires : tie.Need-write-start-requires
 write-start-requires c κs = search needs

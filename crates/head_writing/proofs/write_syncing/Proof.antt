@@ -3,9 +3,9 @@ use mathlib.Core.Path.{refl}
 use native.Mathlib.Omega.{arith}
 use borrow.Author.Needs.{needs}
 use Rattle.fields.specs.Number.{toBe}
-use Rattle.image.proofs.HeadLaws.{three-written}
-use Rattle.image.proofs.head.write_syncing.Statement.{statement}
-use Rattle.image.proofs.head.write_syncing.Tie as tie
+use Rattle.head_writing.proofs.WrittenLaws.{three-written}
+use Rattle.head_writing.proofs.write_syncing.Statement.{statement}
+use Rattle.head_writing.proofs.write_syncing.Tie as tie
 
 write-u64-requires : tie.Need-write-u64-requires
 write-u64-requires c κs = search needs
