@@ -10,7 +10,8 @@ ghost use Rattle.model.specs.Calls as calls;
 ghost use Rattle.peers.specs.Values.{listedPeer};
 ghost use Rattle.requests.specs.Sent.{sentBytes};
 ghost use Rattle.finish.specs.Answers.{answerOf};
-ghost use Rattle.finish.specs.Finished.{said, placesOf, stalledThen, stalledCountThen, counted, completed};
+ghost use Rattle.stalling.specs.Stalling.{placesOf, stalledThen, stalledCountThen};
+ghost use Rattle.finish.specs.Finished.{said, counted, completed};
 use plans::Plan;
 use tracker::Counts;
 

@@ -6,7 +6,8 @@ ghost use lib.ListN.{length, take, drop};
 ghost use Rattle.fields.specs.Overwrite.{overwritten};
 ghost use Rattle.peers.specs.Values.{listedPeer};
 ghost use Rattle.requests.specs.Sent.{sentBytes};
-ghost use Rattle.finish.specs.Finished.{said, placesOf, stalledThen, stalledCountThen, counted, completed};
+ghost use Rattle.stalling.specs.Stalling.{placesOf, stalledThen, stalledCountThen};
+ghost use Rattle.finish.specs.Finished.{said, counted, completed};
 use image::head::Head;
 use peers::Listed;
 use plans::Stalling;
@@ -24,24 +25,12 @@ pub fn say(out: &mut [u8], says: Listed, at: usize, batch: u16, none: &[u8]) -> 
     requests::commands::put_command(out, at, 3, 0, batch, peer, none)
 }
 
-// The stalled peers' places: a peer that joins stands behind those that were there.
-pub fn stall(places: &mut [u8], count: usize, stalling: Stalling)
-    requires { ⌜ (length (now places) ≡ 2048) × (stalledCountThen stalling count ≤ 256) ⌝ }
-    ensures { λ _. ⌜ ((peers : List ℕ) → length peers ≡ count → now (places .entry) ≡ placesOf peers → now (places .exit) ≡ placesOf (stalledThen stalling peers)) ⌝ }
-{
-    match stalling {
-        Stalling::Stay => {}
-        Stalling::Empty => scratch::fill_zero(places),
-        Stalling::Join(peer) => fields::write_u64(places, count * 8, peer),
-    }
-}
-
 // The image after a step on whose scratch the work was done: stalled places, and the header with the counts.
 pub fn complete(image: &mut [u8], count: usize, stalling: Stalling, head: Head, counts: Counts)
     requires { ⌜ (length (now image) ≡ 65536) × (stalledCountThen stalling count ≤ 256) ⌝ }
     ensures { λ _. ⌜ ((peers : List ℕ) → length peers ≡ count → take 2048 (drop 512 (now (image .entry))) ≡ placesOf peers → now (image .exit) ≡ completed (counted head (counts .pending) (counts .evicted)) (placesOf (stalledThen stalling peers)) (now (image .entry))) ⌝ }
 {
-    stall(&mut image[512..2560], count, stalling);
+    stalling::stall(&mut image[512..2560], count, stalling);
     let mut after = head;
     after.pending = counts.pending;
     after.evicted = counts.evicted;

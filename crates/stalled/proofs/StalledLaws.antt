@@ -3,21 +3,20 @@ use Prim.Native.Nat.{ℕ, zero, suc, _+_, _-_, _*_, _≤_, _<_}
 use mathlib.Core.Path.{_≡_, refl, sym, ap, _∙_}
 use mathlib.Core.Bool.{true, false}
 use mathlib.Core.List.{List, [], _∷_, _++_, map, map-append, append-assoc}
-use native.Mathlib.Nat.{add-zero, sub-zero, zero-add, suc-add, not-suc-le-zero, le-of-suc-le-suc, lt-irrefl}
-use native.Mathlib.Numerals.{add-one}
+use native.Mathlib.Nat.{add-zero, sub-zero, zero-add, suc-add, lt-irrefl}
 use native.Mathlib.Omega.{arith}
 use lib.ListN.{length, take, drop, getD, set, length-map}
-use lib.Seq.{drop-cons, getD-set-same, getD-set-other}
+use lib.Seq.{getD-set-same, getD-set-other}
 use borrow.Author.Tests.{eq-eqb, ne-eqb}
 use Rattle.fields.specs.Number.{fromBe, toBe}
 use Rattle.fields.specs.Zero.{zeros}
 use Rattle.fields.specs.Entries.{entries, joined}
 use Rattle.fields.specs.Overwrite.{overwritten}
-use Rattle.fields.proofs.NumberLaws.{length-toBe}
 use Rattle.fields.proofs.ZeroLaws.{drop-zeros}
-use Rattle.fields.proofs.EntriesLaws.{Wide, entries-add, joined-append, length-joined}
+use Rattle.fields.proofs.EntriesLaws.{entries-add, joined-append, length-joined}
+use Rattle.fields.proofs.PartLaws.{numbers-wide}
 use Rattle.fields.proofs.OverwriteLaws.{overwritten-nil, overwritten-next, length-overwritten}
-use Rattle.model.specs.Peers.{isListed, joinStalled}
+use Rattle.model.specs.Peers.{isListed}
 use Rattle.stalled.specs.Values.{elements}
 
 -- ---- elements
@@ -25,22 +24,6 @@ use Rattle.stalled.specs.Values.{elements}
 pub length-elements : (n i : ℕ) (places : List ℕ) → length (elements n i places) ≡ n
 length-elements zero i places = refl
 length-elements (suc n) i places = ap suc (length-elements n (i + 1) places)
-
-pub elements-at : (n i j : ℕ) (places : List ℕ) → j < n → getD (elements n i places) j 0 ≡ getD places (i + j) 0
-elements-at zero i j places h = absurd (not-suc-le-zero h)
-elements-at (suc n) i zero places h = rw add-zero
-elements-at (suc n) i (suc j) places h =
-    let e : i + 1 + j ≡ i + suc j = omega arith in
-    elements-at n (i + 1) j places (le-of-suc-le-suc h) ∙ rw e
-
--- as a part of the list
-pub elements-part : (n i : ℕ) (places : List ℕ) → i + n ≤ length places → elements n i places ≡ take n (drop i places)
-elements-part zero i places h = refl
-elements-part (suc n) i places h =
-    rw (drop-cons places i 0 (omega arith), elements-part n (i + 1) places (omega arith), add-one)
-
-pub elements-take : (n : ℕ) (places : List ℕ) → n ≤ length places → elements n 0 places ≡ take n places
-elements-take n places h = elements-part n 0 places (omega arith)
 
 -- the last of them
 pub elements-snoc : (n i : ℕ) (places : List ℕ) → elements (n + 1) i places ≡ elements n i places ++ (getD places (i + n) 0 ∷ [])
@@ -86,10 +69,6 @@ module _ (places : List ℕ) (n i peer : ℕ) where
   pub listed-nowhere : n ≤ i → isListed peer (elements (n - i) i places) ≡ false
   listed-nowhere h = rw (elements-end n i places h)
 
-pub joined-new : (peer : ℕ) (peers : List ℕ) → isListed peer peers ≡ false → joinStalled peer peers ≡ peers ++ (peer ∷ [])
-unfolding joinStalled
-joined-new peer peers h = rw h
-
 -- ---- the set in bytes
 
 -- one more place read
@@ -102,12 +81,8 @@ read-next i v peers bytes h e r =
 abbrev pub peerBytes : List ℕ → List ℕ
 peerBytes peers = joined (map (toBe 8) peers)
 
-peers-wide : (peers : List ℕ) → Wide 8 (map (toBe 8) peers)
-peers-wide [] = tt
-peers-wide (peer ∷ peers) = (length-toBe 8 peer, peers-wide peers)
-
 pub length-peerBytes : (peers : List ℕ) → length (peerBytes peers) ≡ length peers * 8
-length-peerBytes peers = length-joined 8 (map (toBe 8) peers) (peers-wide peers) ∙ rw length-map
+length-peerBytes peers = length-joined 8 (map (toBe 8) peers) (numbers-wide 8 peers) ∙ rw length-map
 
 pub peerBytes-snoc : (peers : List ℕ) (peer : ℕ) → peerBytes (peers ++ (peer ∷ [])) ≡ peerBytes peers ++ toBe 8 peer
 peerBytes-snoc peers peer =

@@ -1,7 +1,6 @@
 // The stalled set: up to 256 peers by value, with a count, and as the state area holds it.
 ghost use mathlib.Core.Path.{_≡_};
-ghost use mathlib.Core.Bool.{false};
-ghost use mathlib.Core.List.{[], _++_, map};
+ghost use mathlib.Core.List.{[], _∷_, _++_, map};
 ghost use Prim.Native.Nat.{_+_, _-_, _*_, _≤_, _<_};
 ghost use lib.ListN.{length};
 ghost use Rattle.fields.specs.Number.{fromBe, toBe};
@@ -43,11 +42,10 @@ impl Stalled {
         false
     }
 
-    // The set with a peer that it does not hold yet.
+    // The set with a peer behind those that it holds.
     pub fn joined(self, peer: u64) -> Stalled
         requires { ⌜ self .count < 256 ⌝ }
-        requires { ⌜ model.isListed peer (stalledPeers self) ≡ false ⌝ }
-        ensures { λ r. ⌜ stalledPeers r ≡ model.joinStalled peer (stalledPeers self) ⌝ }
+        ensures { λ r. ⌜ stalledPeers r ≡ stalledPeers self ++ (peer ∷ []) ⌝ }
         ensures { λ r. ⌜ r .count ≡ self .count + 1 ⌝ }
     {
         let place = self.count;

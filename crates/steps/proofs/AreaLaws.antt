@@ -27,7 +27,7 @@ use Rattle.delivery.specs.Region.{evictedIn}
 use Rattle.plans.specs.declared.Call.{Call}
 use Rattle.plans.specs.Plans.{numbersOf, callOf}
 use Rattle.tracker.specs.Worked.{regionOf, Tracked, Given}
-use Rattle.finish.specs.Finished.{placesOf}
+use Rattle.stalling.specs.Stalling.{placesOf}
 
 most-narrow : (settings : Settings) (typeId : ℕ) → settings .maxChecks < 2 ^ 32 → mostRequests settings typeId < 2 ^ 32
 unfolding mostRequests

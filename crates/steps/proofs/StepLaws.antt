@@ -44,7 +44,8 @@ use Rattle.tracker.specs.Worked.{regionOf, Worked, countBy, workedBy, fits, per
 use Rattle.refusals.specs.Refusals.{givenRefusal}
 use Rattle.refusals.proofs.RefusalLaws.{Given, given}
 use Rattle.carry.specs.Carried.{carriedBy}
-use Rattle.finish.specs.Finished.{said, placesOf, stalledThen, stalledCountThen, counted, completed}
+use Rattle.stalling.specs.Stalling.{placesOf, stalledThen, stalledCountThen}
+use Rattle.finish.specs.Finished.{said, counted, completed}
 use Rattle.steps.proofs.AreaLaws.{area-well, area-encode, places-held}
 use Rattle.steps.proofs.CarriedLaws.{carried-pending, carried-evicted, carried-bytes, carried-retried, carried-abandoned, carried-forgotten, carried-fresh, carried-fits, outcome-is, seen-is, stalled-is, stalled-count, head-after}
 use Rattle.finish.proofs.FinishedLaws.{completed-encode}

@@ -4,8 +4,8 @@ use native.Mathlib.Omega.{arith}
 use Prim.Native.Nat.{ℕ}
 use mathlib.Core.Path.{_≡_, refl, sym, _∙_}
 use lib.ListN.{length, length-map}
-use Rattle.stalled.specs.Values.{stalledPeers, elements}
-use Rattle.stalled.proofs.StalledLaws.{elements-joined, joined-new}
+use Rattle.stalled.specs.Values.{stalledPeers}
+use Rattle.stalled.proofs.StalledLaws.{elements-joined}
 use Rattle.stalled.proofs.Stalled.joined.Statement.{statement}
 use Rattle.stalled.proofs.Stalled.joined.Tie as tie
 
@@ -25,7 +25,7 @@ returns c =
     let peer = start .args .peer in
     let s = start .args .self in
     let l : length (s .peers) ≡ 256 = sym (length-map (s .peers) (λ (v : ℕ). v)) ∙ start .good .0 .1 .1 .0 .1 .0 .1 in
-    (rw (joined-new peer (elements (s .count) 0 (s .peers)) (start .pre .1)) (elements-joined (s .count) peer (s .peers) (omega arith)), refl)
+    (elements-joined (s .count) peer (s .peers) (omega arith), refl)
 
 pub joined-spec : {M : Type 1} → statement M
 joined-spec = tie.close (tie.spec mul-peers array-write-peers add-t5 returns)
