@@ -24,7 +24,8 @@ use Rattle.tracker.specs.Worked.{regionOf, Worked, fits, performedAs}
 use Rattle.refusals.specs.Refusals.{givenRefusal}
 use Rattle.refusals.proofs.RefusalLaws.{Given, given}
 use Rattle.carry.specs.Carried.{carriedBy}
-use Rattle.finish.specs.Finished.{said, placesOf, stalledThen, counted, completed}
+use Rattle.stalling.specs.Stalling.{placesOf, stalledThen}
+use Rattle.finish.specs.Finished.{said, counted, completed}
 use Rattle.steps.specs.Growing.{mayGrow}
 use Rattle.steps.proofs.AreaLaws.{area-well}
 use Rattle.steps.proofs.GrowingLaws.{shrunk-fits}
