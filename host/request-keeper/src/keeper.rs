@@ -139,7 +139,7 @@ const KNOWN_TIP: usize = 64;
 
 impl RequestKeeper {
     /// The bytes of a field; the state area is always whole.
-    fn field<const WIDTH: usize>(&self, at: usize) -> [u8; WIDTH] {
+    pub(crate) fn field<const WIDTH: usize>(&self, at: usize) -> [u8; WIDTH] {
         let bytes = self.state.get(at..).unwrap_or_default();
         bytes.first_chunk().copied().unwrap_or([0; WIDTH])
     }
