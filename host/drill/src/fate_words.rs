@@ -1,0 +1,104 @@
+//! The words for what became of an id: a label and the reason.
+
+use crate::fates::{Asked, Became, NotAsked, Retry};
+use crate::scenario::{show_type, Names};
+use crate::text::grouped;
+use request_keeper::{Peer, Settings};
+
+/// The label of a fate and its sentence.
+pub fn words(became: &Became, settings: &Settings, names: &Names) -> (&'static str, String) {
+    let name = |peer: &Peer| names.show_peer(*peer);
+    let timeout = grouped(settings.timeout);
+    match became {
+        Became::Asked { of, why } => ("asked", asked(name(of), *why)),
+        Became::NotAsked(why) => ("not asked", not_asked(*why, names)),
+        Became::Waits { peer, age } => (
+            "waits",
+            format!("{} ms old, below the timeout of {timeout}; on order from {}", grouped(*age), name(peer)),
+        ),
+        Became::Retried(retry) => ("retried", retried(retry, settings, names)),
+        Became::GivenUp { peer, age, checks } => (
+            "given up",
+            format!(
+                "{} did not deliver in {} ms (timeout {timeout}); checks {checks}, and the limit is {}",
+                name(peer),
+                grouped(*age),
+                settings.max_checks
+            ),
+        ),
+        Became::Forgotten { peer, age } => (
+            "forgotten",
+            format!(
+                "{} did not deliver in {} ms (timeout {timeout}); a transaction is not asked for twice",
+                name(peer),
+                grouped(*age)
+            ),
+        ),
+        Became::Delivered { peer, age } => (
+            "delivered",
+            format!("it was on order from {}, age {}", name(peer), grouped(*age)),
+        ),
+        Became::NotOnOrder => ("received", "it was not on order".to_string()),
+        Became::Evicted { from } => {
+            let was = from.map(|peer| format!("no longer on order from {}; ", names.show_peer(peer)));
+            let was = was.unwrap_or_default();
+            ("evicted", format!("{was}the next check asks for it again"))
+        }
+        Became::Purged { peer } => (
+            "purged",
+            format!("on order from {}; a reorg ends every request", name(peer)),
+        ),
+        Became::Orphaned { peer } => ("purged", format!("on order from {}, which is lost", name(peer))),
+        Became::Left { peer } => (
+            "stays",
+            format!("on order from {}, though it is lost: a check will find it expired", name(peer)),
+        ),
+    }
+}
+
+fn asked(of: String, why: Asked) -> String {
+    match why {
+        Asked::Announced => format!("of {of}, which announced it"),
+        Asked::Needed => format!("of {of}, the sync peer: the node needs it for a reorg"),
+        Asked::Missing => format!("of {of}, the first listed peer: missing in the window"),
+        Asked::Orphan => format!("of {of}, the first listed peer, in place of the lost one"),
+        Asked::Fresh => format!("of {of}, the first listed peer, as a header: it was evicted"),
+    }
+}
+
+fn not_asked(why: NotAsked, names: &Names) -> String {
+    match why {
+        NotAsked::GateShut => "the gate is shut; it is not noted for later".to_string(),
+        NotAsked::NoPeer => "no peer is listed; it is not noted for later".to_string(),
+        NotAsked::Pending(peer) => format!("on order already, from {}", names.show_peer(peer)),
+        NotAsked::Stored => "stored already".to_string(),
+        NotAsked::Type(modifier_type) => {
+            format!(
+                "announcements of {} are not followed",
+                show_type(modifier_type)
+            )
+        }
+        NotAsked::Transaction => "a transaction is not asked for twice".to_string(),
+        NotAsked::Unexplained => "for no reason that the player knows".to_string(),
+    }
+}
+
+fn retried(retry: &Retry, settings: &Settings, names: &Names) -> String {
+    let (from, to) = (names.show_peer(retry.from), names.show_peer(retry.to));
+    let why = if !retry.gate_open {
+        format!("the gate is shut: its clock starts anew, it stays with {from}, nothing is sent")
+    } else if retry.to != retry.from {
+        format!("now asked of {to}, the first listed peer other than {from}")
+    } else if retry.other_listed {
+        format!("asked of {to} again")
+    } else {
+        format!("no other peer is listed: asked of {to} again")
+    };
+    format!(
+        "{from} did not deliver in {} ms (timeout {}); checks {}, the limit is {}; {why}",
+        grouped(retry.age),
+        grouped(settings.timeout),
+        retry.checks,
+        settings.max_checks
+    )
+}

@@ -1,0 +1,49 @@
+//! Small pieces of text.
+
+use crate::scenario::{show_type, Names};
+use crate::sending::{SendFate, Sending, Sent};
+use request_keeper::Mode;
+
+/// A number with its thousands parted: 10,000.
+pub fn grouped(number: impl Into<u64>) -> String {
+    let digits = number.into().to_string();
+    let mut out = String::new();
+    for (at, digit) in digits.chars().enumerate() {
+        if at > 0 && (digits.len() - at) % 3 == 0 {
+            out.push(',');
+        }
+        out.push(digit);
+    }
+    out
+}
+
+pub fn mode_word(mode: Mode) -> &'static str {
+    match mode {
+        Mode::New => "new",
+        Mode::Seeking => "seeking",
+        Mode::Syncing => "syncing",
+        Mode::Synced => "synced",
+        Mode::Ended => "ended",
+    }
+}
+
+/// A message and whom it goes to.
+pub fn sending(sending: &Sending, names: &Names) -> String {
+    let what = match &sending.what {
+        Sent::Request(modifier_type, ids) => {
+            format!(
+                "request {} {}",
+                show_type(*modifier_type),
+                names.show_ids(ids)
+            )
+        }
+        Sent::Announcement(ids) => format!("announcement {}", names.show_ids(ids)),
+        Sent::SyncInfo => "sync info".to_string(),
+    };
+    let fate = match sending.fate {
+        SendFate::Sent => "",
+        SendFate::Failed => " -- the send FAILED",
+        SendFate::Dropped => " -- dropped: a send of its batch had failed",
+    };
+    format!("to {}: {what}{fate}", names.show_peer(sending.to))
+}

@@ -1,0 +1,118 @@
+//! What surrounds the keeper in a drill: the node's part, as the scenario says it is. Nothing is decided here.
+
+use crate::scenario::{Change, Sections, Wake};
+use request_keeper::{
+    Id, ModifierType, Peer, Question, Refusal, RequestKeeper, Section, StoredPairs, View,
+};
+use std::collections::{BTreeMap, BTreeSet};
+
+/// What a node knows at a moment.
+#[derive(Debug, Clone)]
+pub struct World {
+    pub peers: Vec<Peer>,
+    /// Sends to these peers fail.
+    pub fails: BTreeSet<Peer>,
+    pub gate_open: bool,
+    pub chain_height: u32,
+    /// The headers there are.
+    headers: BTreeMap<u32, Sections>,
+    stored: BTreeSet<Id>,
+    most_rows: Option<usize>,
+}
+
+impl World {
+    /// At first: nobody is listed, the gate is open, and the chain ends at the start height.
+    pub fn opened(start_height: u32) -> Self {
+        Self {
+            peers: Vec::new(),
+            fails: BTreeSet::new(),
+            gate_open: true,
+            chain_height: start_height,
+            headers: BTreeMap::new(),
+            stored: BTreeSet::new(),
+            most_rows: None,
+        }
+    }
+
+    pub fn change(&mut self, change: &Change) {
+        match change {
+            Change::Peers(peers) => self.peers.clone_from(peers),
+            Change::Fails(peers) => self.fails = peers.iter().copied().collect(),
+            Change::GateOpen(open) => self.gate_open = *open,
+            Change::Chain(height) => self.chain_height = *height,
+            Change::Headers(rows) => {
+                for (height, sections) in rows {
+                    match sections {
+                        Some(sections) => self.headers.insert(*height, sections.clone()),
+                        None => self.headers.remove(height),
+                    };
+                }
+            }
+            Change::Stored(ids) => self.stored.extend(ids),
+            Change::Unstored(ids) => self.stored.retain(|id| !ids.contains(id)),
+            Change::View(rows) => self.most_rows = *rows,
+        }
+    }
+
+    pub fn has(&self, id: &Id) -> bool {
+        self.stored.contains(id)
+    }
+
+    /// A height's sections; `None` if its header is absent.
+    pub fn sections(&self, height: u32) -> Option<&Sections> {
+        self.headers.get(&height)
+    }
+
+    fn row(&self, height: u32) -> Option<Vec<Section>> {
+        let section = |(modifier_type, id): &(ModifierType, Id)| Section {
+            modifier_type: *modifier_type,
+            id: *id,
+            stored: self.has(id),
+        };
+        let sections = self.sections(height)?;
+        Some(sections.iter().map(section).collect())
+    }
+
+    /// The view for a step: as long as the rules read, or as the scenario cuts it short.
+    pub fn view(&self, wake: &Wake, downloaded: u32) -> View {
+        let from = match wake {
+            Wake::Reorg(fork_point) => downloaded.min(*fork_point),
+            _ => downloaded,
+        };
+        let whole = View::of_chain(from, self.chain_height, |height| self.row(height));
+        let Some(most) = self.most_rows.filter(|most| *most < whole.rows()) else {
+            return whole;
+        };
+        let mut short = View::from_height(from.saturating_add(1));
+        for height in (from..self.chain_height).map(|below| below + 1).take(most) {
+            match self.row(height) {
+                Some(sections) => short.push_header(&sections),
+                None => short.push_absent(),
+            }
+        }
+        short
+    }
+
+    /// The stored pairs that a step may read (docs/SHELL.md, "What a step is lent").
+    pub fn stored_pairs(
+        &self,
+        wake: &Wake,
+        keeper: &mut RequestKeeper,
+    ) -> Result<StoredPairs, Refusal> {
+        let of = |modifier_type: ModifierType, ids: &[Id]| {
+            let known = ids.iter().filter(|id| self.has(id));
+            known.map(|id| (modifier_type, *id)).collect()
+        };
+        let mut asked = |question| {
+            let pairs = keeper.question(question)?;
+            Ok(pairs.stored_by(|_, id| self.has(id)))
+        };
+        match wake {
+            Wake::Announced(_, modifier_type, ids) => Ok(of(*modifier_type, ids)),
+            Wake::Needed(modifier_type, id) => Ok(of(*modifier_type, std::slice::from_ref(id))),
+            Wake::Check => asked(Question::Check),
+            Wake::Lost(_) => asked(Question::LostPeer),
+            _ => Ok(StoredPairs::default()),
+        }
+    }
+}

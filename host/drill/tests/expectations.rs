@@ -1,0 +1,174 @@
+//! Each expectation can be met and can fail; the explanations account for the counts of the core's answers.
+
+use drill::fates::Became;
+use drill::play::{play, Played};
+use drill::scenario::read;
+use drill::timeline;
+
+/// Two peers, a block on order from north, an expired check at 11,300.
+const STORY: &str = "\
+setting max_checks 2
+peer north 4
+peer south 5
+ids h t
+open 0 400
+chain 401
+header 401 block:b
+peers north south
+at 0 start
+at 1000 pick
+at 1300 sync-info north tip 401
+";
+
+fn played(text: &str) -> Played {
+    play(&read(text).expect("well formed")).expect("opened")
+}
+
+/// The story with one expectation at its end.
+fn with(expectation: &str) -> Played {
+    played(&format!("{STORY}at 11300 check\nexpect {expectation}\n"))
+}
+
+#[test]
+fn each_kind_is_met_or_not() {
+    let pairs = [
+        ("outcome Continue", "outcome Stalled"),
+        ("mode synced", "mode syncing"),
+        ("sync-peer north", "sync-peer none"),
+        ("downloaded 400", "downloaded 401"),
+        ("known-tip 401", "known-tip 400"),
+        ("pending b", "pending b h"),
+        (
+            "request b peer south type block stamp 11300 age 0 checks 1",
+            "request b peer north",
+        ),
+        ("request b", "request h"),
+        ("evicted none", "evicted h"),
+        ("stalled none", "stalled north"),
+        ("sent south block b", "sent north block b"),
+        ("sends 1", "nothing sent"),
+        ("failed 0", "failed 1"),
+        ("dropped 0", "dropped 2"),
+        ("retried 1", "retried 0"),
+        ("fresh 0", "fresh 1"),
+        ("abandoned 0", "abandoned 1"),
+        ("forgotten 0", "forgotten 1"),
+        ("outcome continue", "refused 9"),
+    ];
+    for (met, unmet) in pairs {
+        assert!(with(met).as_expected(), "{met}");
+        let played = with(unmet);
+        assert!(!played.as_expected(), "{unmet}");
+        let told = timeline::timeline(&played);
+        assert!(
+            told.contains(&format!("line 13: expect {unmet}; found: ")),
+            "{told}"
+        );
+        assert!(told.ends_with("1 NOT MET, in line 13\n"), "{told}");
+    }
+}
+
+#[test]
+fn a_refusal_has_to_be_expected() {
+    let refused = format!("{STORY}at 500 check\n");
+    assert!(!played(&refused).as_expected());
+    assert!(played(&format!("{refused}expect refused 4\n")).as_expected());
+    assert!(!played(&format!("{refused}expect refused 5\n")).as_expected());
+    let short = format!(
+        "{STORY}view 0\nat 2000 section-tick\nexpect refused 9\nview whole\nat 2000 section-tick\n"
+    );
+    assert!(played(&short).as_expected());
+}
+
+#[test]
+fn a_failed_send_drops_the_rest_of_its_batch() {
+    let text = "peer north 4\nids x001..x801\nopen 0 0\npeers north\nat 0 start\nat 1000 pick\nfails north\n\
+                at 2000 announced north header x001..x801\nexpect failed 1\nexpect dropped 2\nexpect sends 0\n";
+    assert!(played(text).as_expected());
+    let entry = "peer north 4\nopen 0 0\npeers north\nfails north\nat 0 start\nat 1000 pick\nat 1000 send-failure\n\
+                 expect outcome SyncPeerGone\nexpect mode seeking\n";
+    let played = played(entry);
+    assert!(played.as_expected());
+    assert!(timeline::timeline(&played).contains("a shell hands in send-failure next"));
+}
+
+#[test]
+fn every_step_can_be_written() {
+    let text = format!(
+        "{STORY}at 2000 needed header h\nat 2000 reorg 400\nat 2000 announced south transaction t\n\
+         at 2000 announced south 7 t\nat 3000 sync-info south no-tip continues h\nat 4000 sync-info south unparsed\n\
+         at 4000 message\nat 4000 lost south\nat 4000 received h\nat 4000 evicted t h\nat 4000 progress\nat 4000 check\n\
+         at 4000 scheduled-tick\nat 4000 section-tick\nat 4000 send-failure\nexpect refused 5\nat +5 end-of-stream\n\
+         expect outcome EndOfStream\nat +5 end-of-stream\nexpect mode ended\n"
+    );
+    let played = played(&text);
+    assert!(played.as_expected(), "{}", timeline::timeline(&played));
+}
+
+/// A small generator, so that the test is the same every time.
+struct Dice(u64);
+
+impl Dice {
+    fn throw(&mut self, sides: u64) -> u64 {
+        self.0 = self
+            .0
+            .wrapping_mul(6_364_136_223_846_793_005)
+            .wrapping_add(1);
+        (self.0 >> 33) % sides
+    }
+}
+
+/// A scenario of random steps around checks.
+fn random(seed: u64) -> String {
+    let mut dice = Dice(seed);
+    let mut text = String::from(
+        "setting timeout 100\nsetting max_checks 2\nids a b c d\nopen 0 0\nchain 2\nheader 1 block:e\n\
+         header 2 extension:f\npeers 1 2\nat 0 start\nat 300 pick\n",
+    );
+    let mut clock = 300;
+    for _ in 0..60 {
+        clock += dice.throw(60);
+        let id = ["a", "b", "c", "d", "e", "f"][dice.throw(6) as usize];
+        let peer = 1 + dice.throw(3);
+        text += &match dice.throw(10) {
+            0 => format!("gate {}\n", ["open", "shut"][dice.throw(2) as usize]),
+            1 => format!(
+                "peers {}\n",
+                ["none", "1", "2 1", "3 1 2"][dice.throw(4) as usize]
+            ),
+            2 => format!("{} {id}\n", ["stored", "unstored"][dice.throw(2) as usize]),
+            3 => format!("at {clock} announced {peer} header {id}\n"),
+            4 => format!("at {clock} announced {peer} transaction {id}\n"),
+            5 => format!("at {clock} evicted {id} a\n"),
+            6 => format!("at {clock} progress\n"),
+            _ => format!("at {clock} check\n"),
+        };
+    }
+    text
+}
+
+#[test]
+fn the_explanations_account_for_the_counts_of_every_check() {
+    let mut checks = 0;
+    for seed in 0..200 {
+        let text = random(seed);
+        let played = played(&text);
+        for moment in played.moments().filter(|moment| moment.text == "check") {
+            let answer = moment.result.expect("finished");
+            let count = |is: fn(&Became) -> bool| {
+                moment.fates.iter().filter(|fate| is(&fate.became)).count() as u32
+            };
+            let told = [
+                count(|became| matches!(became, Became::Retried(_))),
+                count(|became| matches!(became, Became::GivenUp { .. })),
+                count(|became| matches!(became, Became::Forgotten { .. })),
+            ];
+            let counted = [answer.retried, answer.abandoned, answer.forgotten];
+            assert_eq!(told, counted, "line {} of\n{text}", moment.line);
+            checks += 1;
+        }
+        let told = timeline::timeline(&played);
+        assert!(!told.contains("no reason that the player knows"), "{told}");
+    }
+    assert!(checks > 1_000);
+}
