@@ -1,11 +1,9 @@
 //! A keeper's two areas and a call on them, with what every call owes whatever it answers.
 
+use keeper_play::FILL;
 use keeper_reference::{image, PLAIN};
 use keeper_streams::Opening;
 use keeper_values::{Answer, Arguments, Keeper, State, COMMAND_BYTES, STATE_BYTES};
-
-/// Lies in the command area before each call, so that a byte written too much shows.
-pub const FILL: u8 = 0xa5;
 
 pub struct Areas {
     pub state: Vec<u8>,

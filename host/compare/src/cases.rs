@@ -1,8 +1,8 @@
 //! Where streams come from, as lines and as trials under the oracle.
 
 use crate::judge::Trial;
-use crate::play::Player;
 use crate::report::Report;
+use keeper_play::Player;
 use keeper_reference::Reference;
 use keeper_streams::damage::damage;
 use keeper_streams::random::Random;

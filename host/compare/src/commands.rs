@@ -1,7 +1,7 @@
 //! The commands.
 
 use keeper_compare::report::Report;
-use keeper_compare::{cases, differences, hostile as hostiles, keepers, list, play, tell};
+use keeper_compare::{cases, differences, hostile as hostiles, keepers, list, tell};
 use keeper_oracle::SOURCE_FOUND;
 use keeper_streams::text::Line;
 use keeper_streams::{directed, exhaustive};
@@ -28,7 +28,7 @@ fn fresh_seed() -> u64 {
 }
 
 fn fixed_list() -> Result<Vec<Line>, String> {
-    list::read(LIST).map_err(|line| format!("fixed list: line {line} can't be read"))
+    keeper_play::read(LIST).map_err(|line| format!("fixed list: line {line} can't be read"))
 }
 
 /// Directed and exhaustive streams under the oracle.
@@ -88,7 +88,7 @@ pub fn quick(seed: Option<u64>) -> Done {
     let lines = fixed_list()?;
     let streams = list::count(&lines);
     for (keeper, name) in keepers::all().into_iter().zip(["reference", "core"]) {
-        let calls = play::replay(keeper, &lines).map_err(|(line, fault)| {
+        let calls = keeper_play::replay(keeper, &lines).map_err(|(line, fault)| {
             format!("fixed list, {name}: {}: {fault}", lines[line].write())
         })?;
         println!("fixed list: {streams} streams, {calls} calls replayed on the {name}");

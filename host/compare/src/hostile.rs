@@ -1,8 +1,7 @@
 //! Damaged calls and random bytes: a keeper against the reference, byte for byte.
 
-use crate::area::FILL;
-use crate::play::Player;
 use crate::report::Report;
+use keeper_play::{Player, FILL};
 use keeper_reference::{image, Reference, PLAIN};
 use keeper_streams::damage::{damage, several, Damaged};
 use keeper_streams::noise::{self, noise};

@@ -1,23 +1,14 @@
-//! The fixed list: read, replayed, and made.
+//! The fixed list: made and written.
 
 use crate::cases::{random_lines, script_lines, try_random, try_script};
-use crate::play::record;
 use crate::report::Report;
-use crate::tell::{streams, told_apart};
+use crate::tell::streams;
+use keeper_play::{record, told_apart};
 use keeper_reference::Reference;
 use keeper_streams::text::Line;
 use keeper_streams::{directed, hostile};
 use keeper_variants::Variant;
 use std::collections::{BTreeMap, BTreeSet};
-
-/// Reads a list; the number of a line that is none is the error.
-pub fn read(text: &str) -> Result<Vec<Line>, usize> {
-    let lines = text.lines().enumerate();
-    let meant = lines.filter(|(_, line)| !line.is_empty() && !line.starts_with('#'));
-    meant
-        .map(|(index, line)| Line::read(line).ok_or(index + 1))
-        .collect()
-}
 
 pub fn write(lines: &[Line]) -> String {
     lines.iter().map(|line| line.write() + "\n").collect()

@@ -1,19 +1,8 @@
 //! Which streams tell a faulty variant from the plain rules.
 
-use crate::play::replay;
+use keeper_play::told_apart;
 use keeper_streams::text::Line;
-use keeper_values::Keeper;
 use keeper_variants::Variant;
-use std::panic::{catch_unwind, set_hook, take_hook, AssertUnwindSafe};
-
-/// Whether a keeper departs from the recorded answers. A panic is a departure: the plain rules never panic.
-pub fn told_apart(keeper: &dyn Keeper, lines: &[Line]) -> bool {
-    let printing = take_hook();
-    set_hook(Box::new(|_| {}));
-    let outcome = catch_unwind(AssertUnwindSafe(|| replay(keeper, lines)));
-    set_hook(printing);
-    !matches!(outcome, Ok(Ok(_)))
-}
 
 /// A variant and the first recorded stream that tells it.
 pub struct Told {

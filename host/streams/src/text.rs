@@ -27,7 +27,8 @@ pub enum Line {
     State(Box<State>),
 }
 
-fn hex(bytes: &[u8]) -> String {
+/// Lower-case hex; `-` for no bytes.
+pub fn hex(bytes: &[u8]) -> String {
     const DIGITS: &[u8; 16] = b"0123456789abcdef";
     if bytes.is_empty() {
         return "-".to_string();

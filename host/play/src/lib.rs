@@ -1,10 +1,36 @@
 //! Streams as lines: record a keeper's answers below each call, or hold a keeper against recorded ones.
 
-use crate::area::FILL;
 use keeper_reference::{image, PLAIN};
 use keeper_streams::damage::Damaged;
 use keeper_streams::text::Line;
-use keeper_values::{read_commands, Answer, Arguments, Keeper, State, COMMAND_BYTES, STATE_BYTES};
+use keeper_values::{read_commands, Answer, Arguments, Keeper, Settings, State};
+use keeper_values::{COMMAND_BYTES, STATE_BYTES};
+use std::panic::{catch_unwind, set_hook, take_hook, AssertUnwindSafe};
+
+/// Lies in the command area before each call, so that a byte written too much shows.
+pub const FILL: u8 = 0xa5;
+
+/// A state line does not repeat the settings.
+const NO_SETTINGS: Settings = Settings {
+    timeout: 0,
+    max_checks: 0,
+    min_sync_send_interval: 0,
+    stall_timeout: 0,
+};
+
+/// Reads lines, without remarks and empty ones; the number of a line that is none is the error.
+pub fn read(text: &str) -> Result<Vec<Line>, usize> {
+    let lines = text.lines().enumerate();
+    let meant = lines.filter(|(_, line)| !line.is_empty() && !line.starts_with('#'));
+    meant
+        .map(|(index, line)| Line::read(line).ok_or(index + 1))
+        .collect()
+}
+
+fn state_line(mut state: State) -> Line {
+    state.settings = NO_SETTINGS;
+    Line::State(Box::new(state))
+}
 
 /// A keeper and the state area of a stream.
 pub struct Player<'k> {
@@ -32,12 +58,6 @@ impl<'k> Player<'k> {
         image::read(&PLAIN, &self.state).ok_or_else(|| "malformed state area".to_string())
     }
 
-    fn state_line(&self) -> Result<Line, String> {
-        let mut state = self.read()?;
-        state.settings = crate::NO_SETTINGS;
-        Ok(Line::State(Box::new(state)))
-    }
-
     /// Plays one line and gives the lines that answer it.
     pub fn play(&mut self, line: &Line) -> Result<Vec<Line>, String> {
         match line {
@@ -55,7 +75,7 @@ impl<'k> Player<'k> {
                 self.keep(area, number)?;
                 let mut lines = vec![Line::Answer(vec![number])];
                 if number == 0 {
-                    lines.push(self.state_line()?);
+                    lines.push(state_line(self.read()?));
                 }
                 return Ok(lines);
             }
@@ -108,10 +128,11 @@ impl<'k> Player<'k> {
         let commands = read_commands(written).ok_or("the commands end within one")?;
         lines.extend(commands.into_iter().map(Line::Command));
         self.keep(area, 0)?;
-        lines.push(self.state_line()?);
-        if image::write(&self.read()?) != self.state {
+        let state = self.read()?;
+        if image::write(&state) != self.state {
             return Err("the state area is not the one image of its state".to_string());
         }
+        lines.push(state_line(state));
         Ok(lines)
     }
 
@@ -156,4 +177,13 @@ pub fn replay(keeper: &dyn Keeper, lines: &[Line]) -> Result<u64, (usize, String
         }
     }
     Ok(calls)
+}
+
+/// Whether a keeper departs from the recorded answers. A panic is a departure: the plain rules never panic.
+pub fn told_apart(keeper: &dyn Keeper, lines: &[Line]) -> bool {
+    let printing = take_hook();
+    set_hook(Box::new(|_| {}));
+    let outcome = catch_unwind(AssertUnwindSafe(|| replay(keeper, lines)));
+    set_hook(printing);
+    !matches!(outcome, Ok(Ok(_)))
 }
