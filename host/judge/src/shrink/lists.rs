@@ -1,0 +1,55 @@
+//! Lists made shorter, entry by entry.
+
+use super::Shrinker;
+use crate::stream::{Call, VIEW_HEAD, VIEW_ROW};
+use keeper_values::Arguments;
+
+/// The lists of a step: where its entries begin, and how wide they are.
+const LISTS: [(fn(&mut Arguments) -> &mut Vec<u8>, usize, usize); 5] = [
+    (|step| &mut step.ids, 0, 32),
+    (|step| &mut step.continuation, 0, 32),
+    (|step| &mut step.stored, 0, 33),
+    (|step| &mut step.peers, 0, 8),
+    (|step| &mut step.view, VIEW_HEAD, VIEW_ROW),
+];
+
+impl Shrinker<'_> {
+    fn entries(&mut self, call: usize, list: usize) -> usize {
+        let (of, head, width) = LISTS[list];
+        match self.best.calls.get_mut(call) {
+            Some(Call::Step(step)) => of(step).len().saturating_sub(head) / width,
+            _ => 0,
+        }
+    }
+
+    /// Drops runs of entries of one list, long ones first, from the end.
+    fn shorten(&mut self, call: usize, list: usize) -> Result<(), String> {
+        let (of, head, width) = LISTS[list];
+        let mut run = self.entries(call, list);
+        while run > 0 {
+            let mut end = self.entries(call, list);
+            while end > 0 {
+                let start = end.saturating_sub(run);
+                let dropped = head + start * width..head + end * width;
+                let candidate = self.changed(call, |step| {
+                    of(step).drain(dropped);
+                });
+                self.keeps(candidate)?;
+                end = start.min(self.entries(call, list));
+            }
+            run /= 2;
+        }
+        Ok(())
+    }
+
+    pub(super) fn shorten_lists(&mut self) -> Result<(), String> {
+        let mut call = 0;
+        while call < self.best.calls.len() {
+            for list in 0..LISTS.len() {
+                self.shorten(call, list)?;
+            }
+            call += 1;
+        }
+        Ok(())
+    }
+}

@@ -1,0 +1,53 @@
+//! One stream, asked of the pupil's keeper and of the proved core, up to the first call on which they part.
+
+use crate::pupil::{Broken, Pupil};
+use crate::stream::Stream;
+use keeper_core::Core;
+use keeper_play::Player;
+use keeper_streams::text::Line;
+
+/// What is wrong with an answer.
+#[derive(Debug, Clone, PartialEq, Eq)]
+pub enum Wrong {
+    /// It says something else.
+    Differs(Vec<Line>),
+    /// It says the same in other letters than the form's.
+    Written(Vec<String>),
+    /// There is none.
+    Broken(Broken),
+}
+
+/// The first call that is answered wrongly.
+#[derive(Debug, Clone, PartialEq, Eq)]
+pub struct Fault {
+    /// Its place in the stream, the opening being 0.
+    pub at: usize,
+    /// The core's answer.
+    pub core: Vec<Line>,
+    pub wrong: Wrong,
+}
+
+fn written_so(texts: &[String], expected: &[Line]) -> bool {
+    texts.iter().cloned().eq(expected.iter().map(Line::write))
+}
+
+/// Plays a stream. An error is the judge's own: the keeper does not start.
+pub fn play(pupil: &mut Pupil, stream: &Stream) -> Result<Option<Fault>, String> {
+    pupil.begin(&stream.name)?;
+    let mut core = Player::new(&Core);
+    for (at, call) in stream.asked().iter().enumerate() {
+        let expected = core.play(call)?;
+        let wrong = match pupil.ask(call) {
+            Err(broken) => Wrong::Broken(broken),
+            Ok(answer) if answer.lines != expected => Wrong::Differs(answer.lines),
+            Ok(answer) if !written_so(&answer.texts, &expected) => Wrong::Written(answer.texts),
+            Ok(_) => continue,
+        };
+        return Ok(Some(Fault {
+            at,
+            core: expected,
+            wrong,
+        }));
+    }
+    Ok(None)
+}
