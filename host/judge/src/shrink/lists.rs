@@ -4,8 +4,10 @@ use super::Shrinker;
 use crate::stream::{Call, VIEW_HEAD, VIEW_ROW};
 use keeper_values::Arguments;
 
+type ListOf = fn(&mut Arguments) -> &mut Vec<u8>;
+
 /// The lists of a step: where its entries begin, and how wide they are.
-const LISTS: [(fn(&mut Arguments) -> &mut Vec<u8>, usize, usize); 5] = [
+const LISTS: [(ListOf, usize, usize); 5] = [
     (|step| &mut step.ids, 0, 32),
     (|step| &mut step.continuation, 0, 32),
     (|step| &mut step.stored, 0, 33),
