@@ -11,6 +11,7 @@ const USAGE: &str = "\
 drill FILE..            plays scenarios against the proved request keeper and tells what happened and why
 drill NAME..            the same with a scenario that comes with the player
 drill --list            the names of those, with their titles
+drill --judge COMMAND.. holds a pupil's keeper, started by COMMAND, against the proved one; docs/JUDGE.md
 
   --svg                 also draws it, into FILE with the ending .svg
   --svg OUT.svg         also draws it, into OUT.svg
@@ -133,7 +134,14 @@ fn list() {
 
 fn main() -> ExitCode {
     let words = env::args_os().map(|word| word.to_string_lossy().into_owned());
-    let asked = match asked(words.skip(1)) {
+    let words: Vec<String> = words.skip(1).collect();
+    if let Some(("--judge", rest)) = words
+        .split_first()
+        .map(|(first, rest)| (first.as_str(), rest))
+    {
+        return ExitCode::from(keeper_judge::run("drill --judge", rest));
+    }
+    let asked = match asked(words.into_iter()) {
         Ok(asked) => asked,
         Err(fault) => {
             complain(&format!("{fault}\n\n{USAGE}"));
