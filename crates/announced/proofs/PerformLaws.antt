@@ -28,8 +28,8 @@ use Rattle.model.proofs.PendingLaws.{rising-performed, wanted-well}
 use Rattle.model.proofs.SendingLaws.{sendings-bytes, performed-sends-well, performed-weight, actWeight}
 use Rattle.requests.specs.Pending.{requestsIn, holding}
 use Rattle.requests.specs.Sent.{sentBytes}
-use Rattle.marking.specs.Marking.{heldWithin}
-use Rattle.marking.proofs.AnswerLaws.{few-held}
+use Rattle.entering.specs.Marking.{heldWithin}
+use Rattle.entering.proofs.AnswerLaws.{few-held}
 use Rattle.marking.proofs.ManyLaws.{marked-longer}
 use Rattle.requests.proofs.RecordedLaws.{entries-recorded}
 use Rattle.announced.proofs.RecordedLaws.{marked-recorded}

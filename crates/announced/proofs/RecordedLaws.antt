@@ -11,7 +11,7 @@ use Rattle.model.specs.Protocol.{Id}
 use Rattle.model.specs.Delivery.{Request, isPending, idBefore, markRequested}
 use Rattle.model.proofs.Well.{WellId}
 use Rattle.model.proofs.RecordLaws.{Recorded}
-use Rattle.marking.specs.Marking.{newRequest}
+use Rattle.entering.specs.Marking.{newRequest}
 
 module _ (clock typeId peer : ℕ) (hc : clock < 2 ^ 64) (ht : typeId < 2 ^ 8) (hp : peer < 2 ^ 64) where
   pub marked-recorded : (ids : List Id) (rs : List Request) → All WellId ids → All Recorded rs → All Recorded (markRequested clock typeId peer ids rs)

@@ -29,10 +29,11 @@ use Rattle.model.proofs.CommandLaws.{ids-wide}
 use Rattle.model.proofs.SendingLaws.{sendings-bytes}
 use Rattle.requests.specs.Pending.{requestsIn, holding}
 use Rattle.requests.specs.Sent.{sentBytes}
-use Rattle.marking.specs.Marking.{markedAs, heldWithin}
-use Rattle.marking.specs.declared.Marked.the-variants as marked
+use Rattle.entering.specs.Marking.{markedAs, heldWithin}
+use Rattle.entering.specs.declared.Marked.{Marked}
+use Rattle.entering.specs.declared.Marked.the-variants as marked
 use Rattle.requests.proofs.WriteLaws.{length-ids}
-use Rattle.marking.proofs.AnswerLaws.{marked-pending, marked-full, few-held}
+use Rattle.entering.proofs.AnswerLaws.{marked-pending, marked-full, few-held}
 use Rattle.requests.proofs.RecordedLaws.{well-ids}
 use Rattle.announced.specs.Requested.{requestedAs, sentWithin}
 use Rattle.announced.specs.declared.request.Requested.the-variants.{Done, Full}
@@ -69,7 +70,7 @@ holding-same count t fits f =
 
 -- ---- nothing done
 
-pub untouched : (most count at batch : ℕ) (t o : List ℕ) (done : model.Done) → done ≡ record { pending = requestsIn count t; sendings = [] } → count ≤ most → most * 54 ≤ length t → Bytes t
+untouched : (most count at batch : ℕ) (t o : List ℕ) (done : model.Done) → done ≡ record { pending = requestsIn count t; sendings = [] } → count ≤ most → most * 54 ≤ length t → Bytes t
     → (Done (record { count = count; at = at; batch = batch }) ≡ requestedAs most at batch done)
     × ((t ≡ heldWithin most count (done .pending) t) × (o ≡ sentWithin most at batch done o))
 unfolding sentBytes
@@ -83,18 +84,26 @@ untouched most count at batch t o done e le room f =
       (sym (few-held most count (requestsIn count t) t b ∙ holding-same count t fits f), sym (few-sent most at batch none o b ∙ overwritten-nil at o)),
     )
 
--- "gate shut, nothing"
-pub gate-shut : (gate : Bool) (clock typeId peer : ℕ) (pairs : List Pair) (ids : List Id) (rs : List Request) → gate ≡ false
-    → perform gate clock (ask typeId peer pairs ids) rs ≡ record { pending = rs; sendings = [] }
-gate-shut gate clock typeId peer pairs ids rs e = rw e
-
 none-left : (ids : List Id) → length ids < 1 → ids ≡ []
 none-left [] h = refl
 none-left (id ∷ ids) h = absurd (omega arith)
 
-pub none-wanted : (gate : Bool) (clock n typeId peer : ℕ) (pairs : List Pair) (ids : List Id) (rs : List Request) → gate ≡ true → n ≡ length (wanted rs typeId pairs ids) → n < 1
-    → perform gate clock (ask typeId peer pairs ids) rs ≡ record { pending = rs; sendings = [] }
-none-wanted gate clock n typeId peer pairs ids rs g e h = rw (g, none-left (wanted rs typeId pairs ids) (omega arith))
+module _ (gate : Bool) (clock typeId peer most count at batch : ℕ) (pairs : List Pair) (ids : List Id) (t o : List ℕ) (le : count ≤ most) (room : most * 54 ≤ length t) (f : Bytes t) where
+  abbrev asked : model.Done
+  asked = perform gate clock (ask typeId peer pairs ids) (requestsIn count t)
+
+  -- "gate shut, nothing"
+  pub gate-shut : gate ≡ false
+      → (Done (record { count = count; at = at; batch = batch }) ≡ requestedAs most at batch asked) × ((t ≡ heldWithin most count (asked .pending) t) × (o ≡ sentWithin most at batch asked o))
+  gate-shut g =
+      let e : asked ≡ record { pending = requestsIn count t; sendings = [] } = rw g in
+      untouched most count at batch t o asked e le room f
+
+  pub none-wanted : gate ≡ true → (n : ℕ) → n ≡ length (wanted (requestsIn count t) typeId pairs ids) → n < 1
+      → (Done (record { count = count; at = at; batch = batch }) ≡ requestedAs most at batch asked) × ((t ≡ heldWithin most count (asked .pending) t) × (o ≡ sentWithin most at batch asked o))
+  none-wanted g n en h =
+      let e : asked ≡ record { pending = requestsIn count t; sendings = [] } = rw (g, none-left (wanted (requestsIn count t) typeId pairs ids) (omega arith)) in
+      untouched most count at batch t o asked e le room f
 
 -- ---- some wanted
 
@@ -154,26 +163,26 @@ module _ (clock typeId peer most count at batch : ℕ) (ids t : List ℕ) (some 
       let l = length-ids ids in
       omega (arith, ap length e)
 
-  pub marked-too-many : (t′ o : List ℕ) → marked.Full ≡ markedAs most (markRequested clock typeId peer (idsIn ids) (requestsIn count t))
+  pub marked-too-many : (answer : Marked) (t′ o : List ℕ) → answer ≡ marked.Full → answer ≡ markedAs most (markRequested clock typeId peer (idsIn ids) (requestsIn count t))
       → t′ ≡ heldWithin most count (markRequested clock typeId peer (idsIn ids) (requestsIn count t)) t
       → (Full ≡ requestedAs most at batch (requestAnnounced true clock typeId peer (idsIn ids) (requestsIn count t)))
       × ((t′ ≡ heldWithin most count (markRequested clock typeId peer (idsIn ids) (requestsIn count t)) t)
       × (o ≡ sentWithin most at batch (requestAnnounced true clock typeId peer (idsIn ids) (requestsIn count t)) o))
-  marked-too-many t′ o e et =
+  marked-too-many answer t′ o full told et =
       let done : model.Done = requestAnnounced true clock typeId peer (idsIn ids) (requestsIn count t) in
-      let m : leb (length (done .pending)) most ≡ false = marked-full most (done .pending) e in
+      let m : leb (length (done .pending)) most ≡ false = marked-full most (done .pending) (rw full at told) in
       (sym (many-requested most at batch done m), (et, sym (many-sent most at batch done o m)))
 
-  pub marked-then-sent : (held place : ℕ) (t′ o o′ : List ℕ) → marked.Pending held ≡ markedAs most (markRequested clock typeId peer (idsIn ids) (requestsIn count t))
+  pub marked-then-sent : (answer : Marked) (held place : ℕ) (t′ o o′ : List ℕ) → answer ≡ marked.Pending held → answer ≡ markedAs most (markRequested clock typeId peer (idsIn ids) (requestsIn count t))
       → t′ ≡ heldWithin most count (markRequested clock typeId peer (idsIn ids) (requestsIn count t)) t
       → o′ ≡ overwritten at (allCommandBytes (commandsOf batch (request typeId peer (idsIn ids)))) o
       → place ≡ at + length (allCommandBytes (commandsOf batch (request typeId peer (idsIn ids))))
       → (Done (record { count = held; at = place; batch = batch + 1 }) ≡ requestedAs most at batch (requestAnnounced true clock typeId peer (idsIn ids) (requestsIn count t)))
       × ((t′ ≡ heldWithin most count (markRequested clock typeId peer (idsIn ids) (requestsIn count t)) t)
       × (o′ ≡ sentWithin most at batch (requestAnnounced true clock typeId peer (idsIn ids) (requestsIn count t)) o))
-  marked-then-sent held place t′ o o′ e et eo ep =
+  marked-then-sent answer held place t′ o o′ pending told et eo ep =
       let done : model.Done = requestAnnounced true clock typeId peer (idsIn ids) (requestsIn count t) in
-      let p = marked-pending most held (done .pending) e in
+      let p = marked-pending most held (done .pending) (rw pending at told) in
       let s = sent-one batch typeId peer (idsIn ids) some-ids in (
         sym (few-requested most at batch done (p .0) ∙ rw (s .0, s .1, ← ep, ← p .1)),
         (et, sym (few-sent most at batch done o (p .0) ∙ rw (s .0) (sym eo))),

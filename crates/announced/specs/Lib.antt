@@ -1,2 +1,1 @@
 pub mod Requested
-pub mod ByType

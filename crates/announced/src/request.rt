@@ -7,9 +7,9 @@ ghost use Rattle.fields.specs.Entries.{entries, rising};
 ghost use Rattle.model.specs.Requests.{ask, perform, requestAnnounced};
 ghost use Rattle.model.specs.Lists.{idsIn, pairsIn, pairsFit};
 ghost use Rattle.requests.specs.Pending.{requestsIn};
-ghost use Rattle.marking.specs.Marking.{heldWithin};
+ghost use Rattle.entering.specs.Marking.{heldWithin};
 ghost use Rattle.announced.specs.Requested.{requestedAs, sentWithin};
-use marking::Marked;
+use entering::Marked;
 
 // How many are pending, the place behind the commands, and the next batch's number.
 pub struct Written {
@@ -84,7 +84,7 @@ pub fn request_announced(
     if !gate {
         return Requested::Done(Written { count, at, batch });
     }
-    let number = requests::wanted::wanted(table, count, stored, typeid, ids, rest);
+    let number = wanted::wanted(table, count, stored, typeid, ids, rest);
     if number < 1 {
         return Requested::Done(Written { count, at, batch });
     }

@@ -34,8 +34,8 @@ use Rattle.delivery_check.specs.Checked.{pendingAfterCheck}
 use Rattle.plans.specs.declared.Call.{Call}
 use Rattle.plans.specs.declared.Work.the-variants.{Ids, LoseAsk, CheckFresh}
 use Rattle.plans.specs.Plans.{numbersOf, retriedBy}
-use Rattle.announced.specs.ByType.{asksByType}
-use Rattle.announced.proofs.ByTypeLaws.{asks-well, asks-weight}
+use Rattle.by_type.specs.ByType.{asksByType}
+use Rattle.by_type.proofs.ByTypeLaws.{asks-well, asks-weight}
 use Rattle.tracker.specs.declared.Counts.{Counts}
 use Rattle.tracker.specs.declared.Performed.{Performed}
 use Rattle.tracker.specs.Worked.{regionSize, regionOf, Tracked, Given, actedBy, countBy, workedBy, Performs}

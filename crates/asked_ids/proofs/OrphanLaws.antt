@@ -17,7 +17,7 @@ use Rattle.model.specs.Requests.{ask, Pair}
 use Rattle.model.specs.Sections.{Item, Batch, join, adjacent, batchesOf, itemBelow}
 use Rattle.model.specs.Calls.{pairBytes}
 use Rattle.model.proofs.RecordLaws.{Recorded}
-use Rattle.announced.specs.ByType.{pairItem, asksByType}
+use Rattle.by_type.specs.ByType.{pairItem, asksByType}
 
 -- ---- all of one peer
 

@@ -15,7 +15,7 @@ use Rattle.model.specs.Requests.{ask}
 use Rattle.model.specs.Sections.{Item, Batch, batchesOf, windowWithin, requestSectionsFrom}
 use Rattle.model.specs.Lists.{viewOf, viewFits, entriesOf, listFits, pairsFit, pairsIn}
 use Rattle.model.proofs.ArgumentLaws.{view-well}
-use Rattle.announced.specs.ByType.{pairItem, asksByType}
+use Rattle.by_type.specs.ByType.{pairItem, asksByType}
 use Rattle.sections.specs.Answers.{itemPair}
 use Rattle.sections.proofs.MissingLaws.{window-pairs, pairs-wide}
 use Rattle.sections.proofs.ItemLaws.{items-most, window-peer}

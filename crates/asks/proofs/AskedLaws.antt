@@ -21,8 +21,8 @@ use Rattle.model.proofs.PendingLaws.{rising-performed}
 use Rattle.model.proofs.SendingLaws.{actWeight}
 use Rattle.requests.specs.Pending.{requestsIn, holding}
 use Rattle.requests.specs.Sent.{sentBytes}
-use Rattle.marking.specs.Marking.{heldWithin}
-use Rattle.marking.proofs.AnswerLaws.{few-held}
+use Rattle.entering.specs.Marking.{heldWithin}
+use Rattle.entering.proofs.AnswerLaws.{few-held}
 use Rattle.announced.specs.declared.request.Requested.{Requested}
 use Rattle.announced.specs.declared.request.Requested.the-variants as requested
 use Rattle.announced.specs.Requested.{requestedAs, sentWithin}

@@ -11,7 +11,7 @@ ghost use lib.Dec.{eqb};
 ghost use Rattle.fields.specs.Entries.{entries, rising};
 ghost use Rattle.model.specs.Requests.{ask};
 ghost use Rattle.model.specs.Lists.{idsIn, pairsIn, pairsFit, entriesOf};
-ghost use Rattle.announced.specs.ByType.{asksByType};
+ghost use Rattle.by_type.specs.ByType.{asksByType};
 ghost use Rattle.asks.specs.Asked.{answeredAs, unasked, Asks};
 use announced::request::Requested;
 use plans::Call;
@@ -104,7 +104,7 @@ pub fn ask_pairs(
     requires { ⌜ (before .at + length (now pairs) / 33 * 48 ≤ length (now out)) × (before .batch + length (now pairs) / 33 + 1 < 65536) ⌝ }
     ensures { λ r. ⌜ Asks (eqb (call .gate) 1) (call .clock) (asksByType peer (pairsIn (now (stored .entry))) (entriesOf 33 (now (pairs .entry)))) before (now (region .entry)) (now (out .entry)) r (now (region .exit)) (now (out .exit)) ⌝ }
 {
-    let asked = announced::by_type::request_by_type(
+    let asked = by_type::request_by_type(
         region,
         before.pending,
         1024 - before.evicted,

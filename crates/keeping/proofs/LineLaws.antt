@@ -24,13 +24,13 @@ use Rattle.model.proofs.Well.{RisingIds}
 use Rattle.model.proofs.PendingLaws.{rising-checked, rising-requested}
 use Rattle.settings.specs.Values.{settingsOf}
 use Rattle.requests.specs.Pending.{requestsIn, holding}
-use Rattle.marking.specs.Marking.{heldWithin}
+use Rattle.entering.specs.Marking.{heldWithin}
 use Rattle.announced.specs.Requested.{requestedAs}
 use Rattle.announced.specs.declared.request.Requested.{Requested}
 use Rattle.announced.specs.declared.request.Requested.the-variants.{Done, Full}
 use Rattle.announced.specs.declared.request.Written.{Written}
 use Rattle.announced.proofs.RequestedLaws.{holding-same}
-use Rattle.marking.proofs.AnswerLaws.{few-held}
+use Rattle.entering.proofs.AnswerLaws.{few-held}
 use Rattle.announced.proofs.PerformLaws.{requested-full, requested-done}
 use Rattle.delivery_check.specs.Checked.{pendingAfterCheck, checkedAs}
 use Rattle.delivery_check.specs.declared.check.Checked.{Checked}

@@ -1,9 +1,2 @@
-pub mod RecordLaws
-pub mod AnswerLaws
-pub mod OneLaws
-pub mod EnterLaws
-pub mod ChoiceLaws
 pub mod SortedLaws
-pub mod MergeLaws
-pub mod EndLaws
 pub mod ManyLaws

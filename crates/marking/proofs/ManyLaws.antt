@@ -19,11 +19,12 @@ use Rattle.model.specs.Image.{requestOf, requestBytes}
 use Rattle.model.specs.Lists.{idsIn}
 use Rattle.model.proofs.RecordLaws.{ids-rise}
 use Rattle.requests.specs.Pending.{requestsIn, holding}
-use Rattle.marking.specs.Marking.{markedAs, heldWithin, newRequest}
-use Rattle.marking.specs.Merging.{idsAt}
-use Rattle.marking.specs.declared.Marked.the-variants.{Pending, Full}
-use Rattle.marking.proofs.AnswerLaws.{marked-pending, marked-full, few-held, many-held}
-use Rattle.marking.proofs.EnterLaws.{marked-sorted}
+use Rattle.entering.specs.Marking.{markedAs, heldWithin, newRequest}
+use Rattle.choosing.specs.Choices.{idsAt}
+use Rattle.entering.specs.declared.Marked.{Marked}
+use Rattle.entering.specs.declared.Marked.the-variants.{Pending, Full}
+use Rattle.entering.proofs.AnswerLaws.{marked-pending, marked-full, few-held, many-held}
+use Rattle.merging.proofs.EnterLaws.{marked-sorted}
 
 pub marked-longer : (clock typeId peer : ℕ) (ids : List Id) (rs : List Request) → length rs ≤ length (markRequested clock typeId peer ids rs)
 marked-longer clock typeId peer [] rs = omega arith
@@ -46,18 +47,18 @@ module _ (clock typeId peer most count : ℕ) (ids places t : List ℕ) (e : ids
   as-given : markRequested clock typeId peer (idsAt ids places) (requestsIn count t) ≡ all
   as-given = rw e (marked-sorted clock typeId peer (idsIn ids) (requestsIn count t) (ids-rise (entries 54 count t) (rising-ascending 32 (entries 54 count t) r)))
 
-  pub too-many : Full ≡ markedAs most (markRequested clock typeId peer (idsAt ids places) (requestsIn count t))
+  pub too-many : (answer : Marked) → answer ≡ Full → answer ≡ markedAs most (markRequested clock typeId peer (idsAt ids places) (requestsIn count t))
       → (Full ≡ markedAs most all) × (t ≡ heldWithin most count all t)
-  too-many a =
-      let q : Full ≡ markedAs most all = rw as-given at a in
+  too-many answer full a =
+      let q : Full ≡ markedAs most all = rw (full, as-given) at a in
       (q, sym (many-held most count all t (marked-full most all q)))
 
-  module _ (held : ℕ) (a : Pending held ≡ markedAs most (markRequested clock typeId peer (idsAt ids places) (requestsIn count t))) where
-    answer : Pending held ≡ markedAs most all
-    answer = rw as-given at a
+  module _ (held : ℕ) (answer : Marked) (pending : answer ≡ Pending held) (a : answer ≡ markedAs most (markRequested clock typeId peer (idsAt ids places) (requestsIn count t))) where
+    told : Pending held ≡ markedAs most all
+    told = rw (pending, as-given) at a
 
     says : (leb (length all) most ≡ true) × (held ≡ length all)
-    says = marked-pending most held all answer
+    says = marked-pending most held all told
 
     pub few : held ≤ most
     few = omega (arith, says .1, leb-true (length all) most (says .0))
@@ -75,4 +76,4 @@ module _ (clock typeId peer most count : ℕ) (ids places t : List ℕ) (e : ids
         let es : entries 54 (length all) room ≡ new = rw as-given at (w (rw as-given (says .0))) in
         let j : take (length all * 54) room ≡ joined new = sym (joined-entries 54 (length all) room) ∙ ap joined es in
         let c : t′ ≡ joined new ++ drop (length new * 54) t = et ∙ rw (says .1, j, ln) in
-        (answer, c ∙ sym (few-held most count all t (says .0) ∙ replaced-more 54 count new t more))
+        (told, c ∙ sym (few-held most count all t (says .0) ∙ replaced-more 54 count new t more))

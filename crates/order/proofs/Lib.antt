@@ -1,3 +1,4 @@
 pub mod MergeLaws
 pub mod KeyLaws
 pub mod LoopLaws
+pub mod WholeLaws

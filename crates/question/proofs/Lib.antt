@@ -1,4 +1,2 @@
-pub mod DistinctLaws
-pub mod PlaceLaws
 pub mod AnswerLaws
 pub mod QuestionLaws

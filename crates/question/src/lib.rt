@@ -16,8 +16,6 @@ ghost use Rattle.image.specs.Heads.{headIn};
 ghost use Rattle.question.specs.Asked.{askedPairs};
 use image::head::Head;
 
-pub mod rising;
-
 // Id i as a header's pair, at index i of the pairs.
 fn put_header(ids: &[u8], i: usize, pairs: &mut [u8])
     requires { ⌜ (i * 32 + 32 ≤ length (now ids)) × (i * 33 + 33 ≤ length (now pairs)) ⌝ }

@@ -1,4 +1,3 @@
 pub mod WriteLaws
 pub mod RunLaws
-pub mod WantedLaws
 pub mod RecordedLaws

@@ -1,7 +1,5 @@
-// Rule 3: which ids are requested, and the commands that a step writes.
+// The commands that a step writes, one behind another and numbered by batch.
 //
-// Pending requests are a table of records, ids rising, at the front of a slice; commands are written from a place on and
-// numbered by batch.
+// Pending requests are a table of records, ids rising, at the front of a slice.
 pub mod chunk;
 pub mod commands;
-pub mod wanted;

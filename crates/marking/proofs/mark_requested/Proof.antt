@@ -3,7 +3,7 @@ use borrow.Author.Needs.{needs}
 use native.Mathlib.Omega.{arith}
 use mathlib.Core.Path.{refl, sym}
 use lib.ListN.{length}
-use Rattle.marking.proofs.OneLaws.{one-id}
+use Rattle.entering.proofs.OneLaws.{one-id}
 use Rattle.marking.proofs.SortedLaws.{room-long}
 use Rattle.marking.proofs.mark_requested.Statement.{statement}
 use Rattle.marking.proofs.mark_requested.Tie as tie

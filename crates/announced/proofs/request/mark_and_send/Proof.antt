@@ -1,7 +1,6 @@
 -- What is marked is sent as one batch: `marked-then-sent`; too many, and neither is done.
 use borrow.Author.Needs.{needs}
 use native.Mathlib.Omega.{arith}
-use mathlib.Core.Path.{sym, _∙_}
 use Rattle.fields.specs.Facts.{Bytes}
 use Rattle.announced.proofs.RequestedLaws.{send-room, marked-too-many, marked-then-sent}
 use Rattle.announced.proofs.request.mark_and_send.Statement.{statement}
@@ -32,7 +31,7 @@ returns : tie.Need-returns
 returns c = let s = c .before .before .before .before .before .before .before .before .before in
     let a = s .args in
     let m = c .before .before .before .before .mark-requested in
-    marked-too-many (a .clock) (a .typeid) (a .peer) (a .most) (a .count) (a .at) (a .batch) (a .ids .now) (a .table .now) (s .pre .1 .1 .0) (s .pre .0 .0) (m .last .0) (a .out .now) (sym (c .enum-told .given .1) ∙ m .ensures .0) (m .ensures .1)
+    marked-too-many (a .clock) (a .typeid) (a .peer) (a .most) (a .count) (a .at) (a .batch) (a .ids .now) (a .table .now) (s .pre .1 .1 .0) (s .pre .0 .0) (m .result) (m .last .0) (a .out .now) (c .enum-told .given .1) (m .ensures .0) (m .ensures .1)
 
 same-length-2 : tie.Need-same-length-2
 same-length-2 c = search needs
@@ -45,7 +44,7 @@ returns-2 c = let s = c .before .before .before .before .before .before .before 
     let a = s .args in
     let m = c .before .before .before .before .before .before .before .before .before .mark-requested in
     let p = c .before .before .put-requests in
-    marked-then-sent (a .clock) (a .typeid) (a .peer) (a .most) (a .count) (a .at) (a .batch) (a .ids .now) (a .table .now) (s .pre .1 .1 .0) (s .pre .0 .0) (c .before .before .before .before .before .held .given .0 .0) (p .result) (m .last .0) (a .out .now) (p .last .0) (sym (c .before .before .before .before .before .held .given .1) ∙ m .ensures .0) (m .ensures .1) (p .ensures .0) (p .ensures .1)
+    marked-then-sent (a .clock) (a .typeid) (a .peer) (a .most) (a .count) (a .at) (a .batch) (a .ids .now) (a .table .now) (s .pre .1 .1 .0) (s .pre .0 .0) (m .result) (c .before .before .before .before .before .held .given .0 .0) (p .result) (m .last .0) (a .out .now) (p .last .0) (c .before .before .before .before .before .held .given .1) (m .ensures .0) (m .ensures .1) (p .ensures .0) (p .ensures .1)
 
 pub mark-and-send-spec : {M : Type 1} → statement M
 mark-and-send-spec =

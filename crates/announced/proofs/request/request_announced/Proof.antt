@@ -1,4 +1,4 @@
--- Shut or nothing wanted: `untouched`; else the wanted ids stand at the front of the room (`front-ids`).
+-- Shut or nothing wanted: `gate-shut`, `none-wanted`; else the wanted ids stand at the front of the room (`front-ids`).
 use borrow.Author.Needs.{needs}
 use native.Mathlib.Omega.{arith}
 use Prim.Native.Nat.{_*_}
@@ -9,9 +9,9 @@ use Rattle.fields.specs.Facts.{Bytes}
 use Rattle.model.specs.Lists.{idsIn, pairsIn}
 use Rattle.model.specs.Requests.{Done}
 use Rattle.requests.specs.Pending.{requestsIn}
-use Rattle.marking.specs.Marking.{heldWithin}
+use Rattle.entering.specs.Marking.{heldWithin}
 use Rattle.announced.specs.Requested.{requestedAs, sentWithin}
-use Rattle.announced.proofs.RequestedLaws.{untouched, gate-shut, none-wanted, front-ids, front-long, few-wanted, wanted-done}
+use Rattle.announced.proofs.RequestedLaws.{gate-shut, none-wanted, front-ids, front-long, few-wanted, wanted-done}
 use Rattle.announced.proofs.request.request_announced.Statement.{statement}
 use Rattle.announced.proofs.request.request_announced.Tie as tie
 
@@ -19,9 +19,7 @@ returns : tie.Need-returns
 returns c = let s = c .before .before .before .before .before .before in
     let a = s .args in
     let f : Bytes (a .table .now) = λ i. omega (arith, c .before .before .before .before .before .slice-known .given i) in
-    untouched (a .most) (a .count) (a .at) (a .batch) (a .table .now) (a .out .now) _
-    (gate-shut (a .gate) (a .clock) (a .typeid) (a .peer) (pairsIn (a .stored .now)) (idsIn (a .ids .now)) (requestsIn (a .count) (a .table .now)) (not-true (a .gate) (c .if1 .taken)))
-    (s .pre .0 .1 .1 .0) (s .pre .0 .1 .1 .1 .1) f
+    gate-shut (a .gate) (a .clock) (a .typeid) (a .peer) (a .most) (a .count) (a .at) (a .batch) (pairsIn (a .stored .now)) (idsIn (a .ids .now)) (a .table .now) (a .out .now) (s .pre .0 .1 .1 .0) (s .pre .0 .1 .1 .1 .1) f (not-true (a .gate) (c .if1 .taken))
 
 wanted-requires : tie.Need-wanted-requires
 wanted-requires c κs = search needs
@@ -37,9 +35,7 @@ returns-2 c = let s = c .before .before .before .before .before .before .before 
     let a = s .args in
     let f : Bytes (a .table .now) = λ i. omega (arith, c .before .before .before .before .before .before .before .before .before .before .before .slice-known .given i) in
     let w = c .before .before .before .wanted in
-    untouched (a .most) (a .count) (a .at) (a .batch) (a .table .now) (a .out .now) _
-    (none-wanted (a .gate) (a .clock) (w .result) (a .typeid) (a .peer) (pairsIn (a .stored .now)) (idsIn (a .ids .now)) (requestsIn (a .count) (a .table .now)) (not-false (a .gate) (c .before .before .before .before .before .before .if1 .left)) (w .ensures .1) (c .if2 .taken))
-    (s .pre .0 .1 .1 .0) (s .pre .0 .1 .1 .1 .1) f
+    none-wanted (a .gate) (a .clock) (a .typeid) (a .peer) (a .most) (a .count) (a .at) (a .batch) (pairsIn (a .stored .now)) (idsIn (a .ids .now)) (a .table .now) (a .out .now) (s .pre .0 .1 .1 .0) (s .pre .0 .1 .1 .1 .1) f (not-false (a .gate) (c .before .before .before .before .before .before .if1 .left)) (w .result) (w .ensures .1) (c .if2 .taken)
 
 mul-size : tie.Need-mul-size
 mul-size c = let s = c .before .before .before .before .before .before .before .before .before .before .before .before in

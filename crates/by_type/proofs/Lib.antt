@@ -1,0 +1,2 @@
+pub mod ByTypeLaws
+pub mod AskLaws

@@ -1,0 +1,4 @@
+pub mod EnterLaws
+pub mod TurnLaws
+pub mod MergeLaws
+pub mod EndLaws
