@@ -1,20 +1,25 @@
 -- A work that may not grow leaves no more pending and evicted than there were.
-use Prim.Native.Nat.{ℕ, _+_, _≤_}
+use Prim.Native.Nat.{ℕ, suc, _+_, _≤_}
 use mathlib.Core.Path.{_≡_, refl, _∙_}
-use mathlib.Core.Bool.{true, false, not}
+use mathlib.Core.Bool.{Bool, true, false, not, cond}
 use mathlib.Core.List.{List, [], _∷_}
 use native.Mathlib.Omega.{arith}
 use lib.ListN.{length, length-map}
 use lib.Dec.{eqb}
 use borrow.Author.Tests.{le-leb}
+use Rattle.fields.specs.Filter.{kept}
+use Rattle.fields.specs.Sort.{inserted}
+use Rattle.fields.proofs.AllLaws.{either}
 use Rattle.fields.proofs.FilterLaws.{length-kept}
-use Rattle.model.specs.Protocol.{isAmong, trackedLimit}
-use Rattle.model.specs.Delivery.{Request, Verdict, waiting, retried, abandoned, forgotten, verdict, afterVerdict, checkTimeouts, markRetried, markReceived, purgePeer, purgeAll}
+use Rattle.fields.proofs.SortLaws.{length-inserted}
+use Rattle.model.specs.Protocol.{Id, isAmong, headerType, trackedLimit}
+use Rattle.model.specs.Delivery.{Request, Verdict, waiting, retried, abandoned, forgotten, verdict, afterVerdict, checkTimeouts, markRetried, isPending, idBefore, markRequested, markReceived, purgePeer, purgeAll}
 use Rattle.model.specs.Settings.{Settings}
+use Rattle.model.specs.Requests.{Pair, isStored, wanted, requestAnnounced}
 use Rattle.model.specs.Sections.{Item}
 use Rattle.model.specs.Check.{markAllRetried}
 use Rattle.model.specs.State.{State}
-use Rattle.model.specs.Lists.{idsIn}
+use Rattle.model.specs.Lists.{idsIn, pairsIn}
 use Rattle.model.specs.Calls as calls
 use Rattle.plans.specs.declared.Plan.{Plan}
 use Rattle.plans.specs.declared.Work.{Work}
@@ -38,6 +43,27 @@ checked-few settings clock (r ∷ rs) = go (verdict settings clock r) (checked-f
     go abandoned h = omega arith
     go forgotten h = omega arith
 
+-- Each id enters one request at most.
+marked-few : (clock typeId peer : ℕ) (ids : List Id) (pending : List Request) → length (markRequested clock typeId peer ids pending) ≤ length ids + length pending
+marked-few clock typeId peer [] pending = omega arith
+marked-few clock typeId peer (id ∷ ids) pending =
+    let new : Request = record { id = id; typeId = typeId; peer = peer; stamp = clock; checks = 0 } in
+    let next : List Request = cond (isPending id pending) pending (inserted idBefore new pending) in
+    let one : length next ≤ suc (length pending) =
+    either (λ (x : List Request). length x ≤ suc (length pending)) (isPending id pending) pending (inserted idBefore new pending) (omega arith)
+    (omega (arith, length-inserted idBefore new pending)) in
+    omega (arith, marked-few clock typeId peer ids next)
+
+asked-few : (gate : Bool) (clock typeId peer : ℕ) (ids : List Id) (pending : List Request) → length (requestAnnounced gate clock typeId peer ids pending .pending) ≤ length ids + length pending
+asked-few true clock typeId peer ids pending = marked-few clock typeId peer ids pending
+asked-few false clock typeId peer ids pending = omega arith
+
+wanted-few : (pending : List Request) (typeId : ℕ) (pairs : List Pair) (ids : List Id) → length (wanted pending typeId pairs ids) ≤ length ids
+unfolding wanted
+wanted-few pending typeId pairs ids =
+    omega
+    (arith, length-kept (λ (id : Id). not (isStored pairs typeId id)) (kept (λ (id : Id). not (isPending id pending)) ids), length-kept (λ (id : Id). not (isPending id pending)) ids)
+
 module _ (st : State) (c : calls.Call) (downloaded : ℕ) where
   shrinks : (work : Work) → mayGrow work ≡ false
       → length (workedBy st c downloaded work .pending) + length (workedBy st c downloaded work .evicted) ≤ length (st .pending) + length (st .sync .evicted)
@@ -52,7 +78,16 @@ module _ (st : State) (c : calls.Call) (downloaded : ℕ) where
   shrinks Lose e = omega (arith, length-kept (λ (r : Request). not (eqb (r .peer) (st .sync .syncPeer))) (st .pending))
   shrinks (LoseAsk peer) e = let z : _≡_ {A = ℕ} 0 1 = cc in absurd (omega arith)
   shrinks Check e = omega (arith, length-marked (retriedBy st c Check) (checkTimeouts (st .settings) (c .clock) (st .pending)), checked-few (st .settings) (c .clock) (st .pending))
-  shrinks (CheckFresh peer) e = let z : _≡_ {A = ℕ} 0 1 = cc in absurd (omega arith)
+  shrinks (CheckFresh peer) e =
+      let base : List Request = markAllRetried (retriedBy st c (CheckFresh peer)) (checkTimeouts (st .settings) (c .clock) (st .pending)) in
+      omega
+      (
+        arith,
+        asked-few (eqb (c .gate) 1) (c .clock) headerType peer (wanted base headerType (pairsIn (c .stored)) (st .sync .evicted)) base,
+        wanted-few base headerType (pairsIn (c .stored)) (st .sync .evicted),
+        length-marked (retriedBy st c (CheckFresh peer)) (checkTimeouts (st .settings) (c .clock) (st .pending)),
+        checked-few (st .settings) (c .clock) (st .pending),
+      )
 
 pub shrunk-fits : (st : State) (c : calls.Call) (p : Plan) → mayGrow (p .work) ≡ false → length (st .pending) + length (st .sync .evicted) ≤ trackedLimit → fits (carriedBy st c p) ≡ true
 unfolding fits carriedBy

@@ -14,4 +14,4 @@ mayGrow (PurgeSections peer) = true
 mayGrow Lose = false
 mayGrow (LoseAsk peer) = true
 mayGrow Check = false
-mayGrow (CheckFresh peer) = true
+mayGrow (CheckFresh peer) = false

@@ -31,7 +31,7 @@ pub fn may_grow(work: Work) -> bool
         Work::Lose => false,
         Work::LoseAsk(_) => true,
         Work::Check => false,
-        Work::CheckFresh(_) => true,
+        Work::CheckFresh(_) => false,
     }
 }
 
