@@ -2,6 +2,6 @@ pub mod AreaLaws
 pub mod CarriedLaws
 pub mod EndLaws
 pub mod StepLaws
-pub mod GrowingLaws
+pub mod FillingLaws
 pub mod RestLaws
 pub mod WorkLaws

@@ -54,6 +54,10 @@ module _ (call : Call) (ids continuation stored peers view : List ℕ) where
   unfolding callOf
   its-continuation = refl
 
+  pub its-ids : c .ids ≡ ids
+  unfolding callOf
+  its-ids = refl
+
   pub in-width : call .clock < 2 ^ 64 → call .height < 2 ^ 32 → call .peer < 2 ^ 64 → call .typeid < 2 ^ 8 → call .fork < 2 ^ 32 → call .tip < 2 ^ 32
       → Bytes ids → Bytes continuation → Bytes stored → Bytes peers → Bytes view → InWidth c
   unfolding callOf

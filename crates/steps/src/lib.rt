@@ -136,7 +136,8 @@ pub fn run(
         return finish::refused(9);
     }
     let work = plan.work;
-    if rest::may_grow(work) {
+    let held = head.pending + head.evicted;
+    if rest::may_overfill(work, held, ids.len() / 32) {
         return work_out(
             state,
             commands,

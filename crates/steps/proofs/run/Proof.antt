@@ -3,11 +3,11 @@ use borrow.Author.Tests.{not-true, not-false}
 use Rattle.model.specs.Calls as calls
 use Rattle.plans.specs.Plans.{callOf}
 use Rattle.steps.proofs.StepLaws.{unseen}
-use Rattle.steps.proofs.WorkLaws.{area-long, plan-ready, plan-follows}
+use Rattle.steps.proofs.WorkLaws.{area-long, lists-whole, work-tracked, plan-ready, plan-follows}
 use borrow.Author.Needs.{needs}
 use native.Mathlib.Omega.{arith}
 use Prim.Native.Nat.{_-_}
-use mathlib.Core.Path.{sym, ap, _∙_}
+use mathlib.Core.Path.{refl, sym, ap, _∙_}
 use Rattle.steps.proofs.run.Statement.{statement}
 use Rattle.steps.proofs.run.Tie as tie
 
@@ -35,11 +35,14 @@ same-length c = search needs
 returns : tie.Need-returns
 returns c = let s = c .before .before .before .before .before .before .before .before .before .before .before .before .before .before .before in let a = s .args in ap (λ (x : calls.Answer). record { answer = x; state = a .state .now; commands = a .commands .now }) (c .refused .ensures) ∙ unseen (a .state .now) (a .commands .now) (callOf (a .call) (a .ids .now) (a .continuation .now) (a .stored .now) (a .peers .now) (a .view .now)) (c .before .before .before .plan-step .result) (s .pre) (plan-follows (a .call) (a .ids .now) (a .continuation .now) (a .stored .now) (a .peers .now) (a .view .now) (a .state .now) (a .commands .now) (s .pre) (c .before .before .before .before .before .before .read-head .result) (c .before .before .before .before .before .before .read-head .ensures) (c .before .before .before .plan-step .result) (c .before .before .before .plan-step .ensures)) (not-true (c .before .before .before .plan-step .result .seen) (c .before .if1 .taken))
 
-may-grow-requires : tie.Need-may-grow-requires
-may-grow-requires c κs = search needs
+add-held : tie.Need-add-held
+add-held c = let s = c .before .before .before .before .before .before .before .before .before .before .before .before .before .before .before in let a = s .args in omega (arith, (work-tracked (a .call) (a .ids .now) (a .continuation .now) (a .stored .now) (a .peers .now) (a .view .now) (a .state .now) (a .commands .now) (s .pre) (λ i. omega (arith, c .before .before .before .before .before .before .before .before .before .before .before .before .before .before .slice-known .given i)) (a .state .now) (c .before .before .before .before .before .before .read-head .result) refl (c .before .before .before .before .before .before .read-head .ensures) .few))
+
+may-overfill-requires : tie.Need-may-overfill-requires
+may-overfill-requires c κs = let s = c .before .before .before .before .before .before .before .before .before .before .before .before .before .before .before in let a = s .args in ((work-tracked (a .call) (a .ids .now) (a .continuation .now) (a .stored .now) (a .peers .now) (a .view .now) (a .state .now) (a .commands .now) (s .pre) (λ i. omega (arith, c .before .before .before .before .before .before .before .before .before .before .before .before .before .before .slice-known .given i)) (a .state .now) (c .before .before .before .before .before .before .read-head .result) refl (c .before .before .before .before .before .before .read-head .ensures) .few), omega (arith, lists-whole (a .call) (a .ids .now) (a .continuation .now) (a .stored .now) (a .peers .now) (a .view .now) (a .state .now) (a .commands .now) (s .pre) .1 .0))
 
 work-out-requires : tie.Need-work-out-requires
-work-out-requires c κs = let s = c .before .before .before .before .before .before .before .before .before .before .before .before .before .before .before .before .before .before in let a = s .args in (s .pre, (c .before .before .before .before .before .before .before .before .before .read-head .ensures, ((plan-follows (a .call) (a .ids .now) (a .continuation .now) (a .stored .now) (a .peers .now) (a .view .now) (a .state .now) (a .commands .now) (s .pre) (c .before .before .before .before .before .before .before .before .before .read-head .result) (c .before .before .before .before .before .before .before .before .before .read-head .ensures) (c .before .before .before .before .before .before .plan-step .result) (c .before .before .before .before .before .before .plan-step .ensures)), not-false (c .before .before .before .before .before .before .plan-step .result .seen) (c .before .before .before .before .if1 .left))))
+work-out-requires c κs = let s = c .before .before .before .before .before .before .before .before .before .before .before .before .before .before .before .before .before .before .before in let a = s .args in (s .pre, (c .before .before .before .before .before .before .before .before .before .before .read-head .ensures, ((plan-follows (a .call) (a .ids .now) (a .continuation .now) (a .stored .now) (a .peers .now) (a .view .now) (a .state .now) (a .commands .now) (s .pre) (c .before .before .before .before .before .before .before .before .before .before .read-head .result) (c .before .before .before .before .before .before .before .before .before .before .read-head .ensures) (c .before .before .before .before .before .before .before .plan-step .result) (c .before .before .before .before .before .before .before .plan-step .ensures)), not-false (c .before .before .before .before .before .before .before .plan-step .result .seen) (c .before .before .before .before .before .if1 .left))))
 
 same-length-2 : tie.Need-same-length-2
 same-length-2 c = search needs
@@ -51,7 +54,7 @@ returns-2 : tie.Need-returns-2
 returns-2 c = search needs
 
 rest-requires : tie.Need-rest-requires
-rest-requires c κs = let s = c .before .before .before .before .before .before .before .before .before .before .before .before .before .before .before .before .before .before in let a = s .args in (s .pre, (c .before .before .before .before .before .before .before .before .before .read-head .ensures, ((plan-follows (a .call) (a .ids .now) (a .continuation .now) (a .stored .now) (a .peers .now) (a .view .now) (a .state .now) (a .commands .now) (s .pre) (c .before .before .before .before .before .before .before .before .before .read-head .result) (c .before .before .before .before .before .before .before .before .before .read-head .ensures) (c .before .before .before .before .before .before .plan-step .result) (c .before .before .before .before .before .before .plan-step .ensures)), (not-false (c .before .before .before .before .before .before .plan-step .result .seen) (c .before .before .before .before .if1 .left), sym (c .before .before .before .may-grow .ensures) ∙ c .before .before .if2 .left))))
+rest-requires c κs = let s = c .before .before .before .before .before .before .before .before .before .before .before .before .before .before .before .before .before .before .before in let a = s .args in (s .pre, (c .before .before .before .before .before .before .before .before .before .before .read-head .ensures, ((plan-follows (a .call) (a .ids .now) (a .continuation .now) (a .stored .now) (a .peers .now) (a .view .now) (a .state .now) (a .commands .now) (s .pre) (c .before .before .before .before .before .before .before .before .before .before .read-head .result) (c .before .before .before .before .before .before .before .before .before .before .read-head .ensures) (c .before .before .before .before .before .before .before .plan-step .result) (c .before .before .before .before .before .before .before .plan-step .ensures)), (not-false (c .before .before .before .before .before .before .before .plan-step .result .seen) (c .before .before .before .before .before .if1 .left), sym (c .before .before .before .may-overfill .ensures) ∙ c .before .before .if2 .left))))
 
 same-length-4 : tie.Need-same-length-4
 same-length-4 c = search needs
@@ -74,7 +77,8 @@ run-spec =
     refused-requires
     same-length
     returns
-    may-grow-requires
+    add-held
+    may-overfill-requires
     work-out-requires
     same-length-2
     same-length-3

@@ -6,13 +6,15 @@ use Rattle.peers.specs.Values.{listedPeer}
 use Rattle.plans.specs.Plans.{callOf}
 use Rattle.finish.specs.Answers.{answerOf}
 use Rattle.finish.proofs.SaidLaws.{said-short}
+use Rattle.steps.specs.Filling.{mayOverfill}
 use Rattle.steps.proofs.StepLaws.{finish-ready}
 use Rattle.steps.proofs.RestLaws.{room, not-full, rest-stalled, rests}
-use Rattle.steps.proofs.WorkLaws.{front-kept, tail-put, its-continuation, in-width, area-long, commands-long, lists-whole, stored-fit, view-fits, work-tracked, work-given}
+use Rattle.steps.proofs.WorkLaws.{front-kept, tail-put, its-continuation, its-ids, in-width, area-long, commands-long, lists-whole, stored-fit, view-fits, work-tracked, work-given}
 use borrow.Author.Needs.{needs}
 use native.Mathlib.Omega.{arith}
-use Prim.Native.Nat.{_-_, _≤_}
+use Prim.Native.Nat.{ℕ, _+_, _-_, _/_, _≤_}
 use mathlib.Core.Path.{refl, sym, ap, _∙_}
+use mathlib.Core.List.{List}
 use lib.ListN.{length}
 use Rattle.steps.proofs.rest.rest.Statement.{statement}
 use Rattle.steps.proofs.rest.rest.Tie as tie
@@ -21,7 +23,7 @@ refused-requires : tie.Need-refused-requires
 refused-requires c κs = search needs
 
 returns : tie.Need-returns
-returns c = let s = c .before .before .before .before .before .before .before .before .before .before .before in let a = s .args in ap (λ (x : calls.Answer). record { answer = x; state = a .state .now; commands = a .commands .now }) (c .refused .ensures) ∙ rest-stalled (a .state .now) (a .commands .now) (callOf (a .call) (a .ids .now) (a .continuation .now) (a .stored .now) (a .peers .now) (a .view .now)) (a .plan) (s .pre .0) (s .pre .1 .1 .0) (s .pre .1 .1 .1 .0) (s .pre .1 .1 .1 .1) (λ i. omega (arith, c .before .before .before .before .before .before .before .before .before .before .slice-known .given i)) (omega (arith, c .before .if1 .taken))
+returns c = let s = c .before .before .before .before .before .before .before .before .before .before .before in let a = s .args in ap (λ (x : calls.Answer). record { answer = x; state = a .state .now; commands = a .commands .now }) (c .refused .ensures) ∙ rest-stalled (a .state .now) (a .commands .now) (callOf (a .call) (a .ids .now) (a .continuation .now) (a .stored .now) (a .peers .now) (a .view .now)) (a .plan) (s .pre .0) (s .pre .1 .1 .0) (s .pre .1 .1 .1 .0) (a .head) (s .pre .1 .0) (ap (λ (n : List ℕ). mayOverfill (a .head .pending + a .head .evicted) (length n / 32) (a .plan .work)) (its-ids (a .call) (a .ids .now) (a .continuation .now) (a .stored .now) (a .peers .now) (a .view .now)) ∙ s .pre .1 .1 .1 .1) (λ i. omega (arith, c .before .before .before .before .before .before .before .before .before .before .slice-known .given i)) (omega (arith, c .before .if1 .taken))
 
 sub-carry-out : tie.Need-sub-carry-out
 sub-carry-out c = let s = c .before .before .before .before .before .before .before .before .before .before in let a = s .args in omega (arith, area-long (a .call) (a .ids .now) (a .continuation .now) (a .stored .now) (a .peers .now) (a .view .now) (a .state .now) (a .commands .now) (s .pre .0))
@@ -51,7 +53,7 @@ same-length-2 : tie.Need-same-length-2
 same-length-2 c = search needs
 
 returns-2 : tie.Need-returns-2
-returns-2 c = let s = c .before .before .before .before .before .before .before .before .before .before .before .before .before .before .before .before .before .before .before .before in let a = s .args in not-full (a .state .now) (a .commands .now) (callOf (a .call) (a .ids .now) (a .continuation .now) (a .stored .now) (a .peers .now) (a .view .now)) (a .plan) (s .pre .0) (s .pre .1 .1 .0) (s .pre .1 .1 .1 .0) (s .pre .1 .1 .1 .1) (λ i. omega (arith, c .before .before .before .before .before .before .before .before .before .before .before .before .before .before .before .before .before .before .before .slice-known .given i)) (sym (c .before .enum-told .given .1) ∙ (c .before .before .before .before .before .before .before .carry-out .ensures (decode (a .state .now)) (callOf (a .call) (a .ids .now) (a .continuation .now) (a .stored .now) (a .peers .now) (a .view .now)) (work-given (a .call) (a .ids .now) (a .continuation .now) (a .stored .now) (a .peers .now) (a .view .now) (a .state .now) (a .commands .now) (s .pre .0) (λ i. omega (arith, c .before .before .before .before .before .before .before .before .before .before .before .before .before .before .before .before .before .before .before .slice-known .given i)) (a .state .now) (a .head) refl (s .pre .1 .0)) (its-continuation (a .call) (a .ids .now) (a .continuation .now) (a .stored .now) (a .peers .now) (a .view .now))) .answered)
+returns-2 c = let s = c .before .before .before .before .before .before .before .before .before .before .before .before .before .before .before .before .before .before .before .before in let a = s .args in not-full (a .state .now) (a .commands .now) (callOf (a .call) (a .ids .now) (a .continuation .now) (a .stored .now) (a .peers .now) (a .view .now)) (a .plan) (s .pre .0) (s .pre .1 .1 .0) (s .pre .1 .1 .1 .0) (a .head) (s .pre .1 .0) (ap (λ (n : List ℕ). mayOverfill (a .head .pending + a .head .evicted) (length n / 32) (a .plan .work)) (its-ids (a .call) (a .ids .now) (a .continuation .now) (a .stored .now) (a .peers .now) (a .view .now)) ∙ s .pre .1 .1 .1 .1) (λ i. omega (arith, c .before .before .before .before .before .before .before .before .before .before .before .before .before .before .before .before .before .before .before .slice-known .given i)) (sym (c .before .enum-told .given .1) ∙ (c .before .before .before .before .before .before .before .carry-out .ensures (decode (a .state .now)) (callOf (a .call) (a .ids .now) (a .continuation .now) (a .stored .now) (a .peers .now) (a .view .now)) (work-given (a .call) (a .ids .now) (a .continuation .now) (a .stored .now) (a .peers .now) (a .view .now) (a .state .now) (a .commands .now) (s .pre .0) (λ i. omega (arith, c .before .before .before .before .before .before .before .before .before .before .before .before .before .before .before .before .before .before .before .slice-known .given i)) (a .state .now) (a .head) refl (s .pre .1 .0)) (its-continuation (a .call) (a .ids .now) (a .continuation .now) (a .stored .now) (a .peers .now) (a .view .now))) .answered)
 
 slice-aggregate-settle : tie.Need-slice-aggregate-settle
 slice-aggregate-settle c = search needs
@@ -66,8 +68,8 @@ same-length-4 : tie.Need-same-length-4
 same-length-4 c = search needs
 
 returns-3 : tie.Need-returns-3
-returns-3 c = let s = c .before .before .before .before .before .before .before .before .before .before .before .before .before .before .before .before .before .before .before .before .before .before .before .before .before .before .before .before in let a = s .args in let m = c .before .before .before .before .before .before .before .before .before .before .before .before .before .before .before .carry-out in let q = (c .before .before .before .before .before .before .before .before .before .before .before .before .before .before .before .carry-out .ensures (decode (a .state .now)) (callOf (a .call) (a .ids .now) (a .continuation .now) (a .stored .now) (a .peers .now) (a .view .now)) (work-given (a .call) (a .ids .now) (a .continuation .now) (a .stored .now) (a .peers .now) (a .view .now) (a .state .now) (a .commands .now) (s .pre .0) (λ i. omega (arith, c .before .before .before .before .before .before .before .before .before .before .before .before .before .before .before .before .before .before .before .before .before .before .before .before .before .before .before .slice-known .given i)) (a .state .now) (a .head) refl (s .pre .1 .0)) (its-continuation (a .call) (a .ids .now) (a .continuation .now) (a .stored .now) (a .peers .now) (a .view .now))) in let fit = room (a .state .now) (a .commands .now) (callOf (a .call) (a .ids .now) (a .continuation .now) (a .stored .now) (a .peers .now) (a .view .now)) (a .plan) (s .pre .0) (s .pre .1 .1 .0) (s .pre .1 .1 .1 .0) (s .pre .1 .1 .1 .1) (λ i. omega (arith, c .before .before .before .before .before .before .before .before .before .before .before .before .before .before .before .before .before .before .before .before .before .before .before .before .before .before .before .slice-known .given i)) in let i : 2560 ≤ length (a .state .now) = omega (arith, area-long (a .call) (a .ids .now) (a .continuation .now) (a .stored .now) (a .peers .now) (a .view .now) (a .state .now) (a .commands .now) (s .pre .0)) in let fin = c .before .before .before .before .settle in
-    rests (a .state .now) (a .commands .now) (callOf (a .call) (a .ids .now) (a .continuation .now) (a .stored .now) (a .peers .now) (a .view .now)) (a .plan) (s .pre .0) (s .pre .1 .1 .0) (s .pre .1 .1 .1 .0) (s .pre .1 .1 .1 .1) (λ i. omega (arith, c .before .before .before .before .before .before .before .before .before .before .before .before .before .before .before .before .before .before .before .before .before .before .before .before .before .before .before .slice-known .given i)) (c .before .before .before .before .before .before .before .before .before .counts .given .0 .0) (sym (c .before .before .before .before .before .before .before .before .before .counts .given .1) ∙ q .answered) (omega (arith, c .before .before .before .before .before .before .before .before .before .before .before .before .before .before .before .before .before .before .if1 .left)) (in-width (a .call) (a .ids .now) (a .continuation .now) (a .stored .now) (a .peers .now) (a .view .now) (omega (arith, s .good .1 .1 .1 .1 .0)) (omega (arith, s .good .1 .1 .1 .1 .0)) (omega (arith, s .good .1 .1 .1 .1 .0)) (omega (arith, s .good .1 .1 .1 .1 .0)) (omega (arith, s .good .1 .1 .1 .1 .0)) (omega (arith, s .good .1 .1 .1 .1 .0)) (λ i. omega (arith, c .before .before .before .before .before .before .before .before .before .before .before .before .before .before .before .before .before .before .before .before .before .before .before .before .before .shared-slice-known .given i)) (λ i. omega (arith, c .before .before .before .before .before .before .before .before .before .before .before .before .before .before .before .before .before .before .before .before .before .before .before .before .shared-slice-known2 .given i)) (λ i. omega (arith, c .before .before .before .before .before .before .before .before .before .before .before .before .before .before .before .before .before .before .before .before .before .before .before .shared-slice-known3 .given i)) (λ i. omega (arith, c .before .before .before .before .before .before .before .before .before .before .before .before .before .before .before .before .before .before .before .before .before .before .shared-slice-known4 .given i)) (λ i. omega (arith, c .before .before .before .before .before .before .before .before .before .before .before .before .before .before .before .before .before .before .before .before .before .shared-slice-known5 .given i))) ((finish-ready (a .state .now) (a .commands .now) (callOf (a .call) (a .ids .now) (a .continuation .now) (a .stored .now) (a .peers .now) (a .view .now)) (a .plan) (s .pre .0) (s .pre .1 .1 .0) (s .pre .1 .1 .1 .0) (c .before .before .before .before .before .before .before .before .before .counts .given .0 .0) (sym (c .before .before .before .before .before .before .before .before .before .counts .given .1) ∙ (c .before .before .before .before .before .before .before .before .before .before .before .before .before .before .before .carry-out .ensures (decode (a .state .now)) (callOf (a .call) (a .ids .now) (a .continuation .now) (a .stored .now) (a .peers .now) (a .view .now)) (work-given (a .call) (a .ids .now) (a .continuation .now) (a .stored .now) (a .peers .now) (a .view .now) (a .state .now) (a .commands .now) (s .pre .0) (λ i. omega (arith, c .before .before .before .before .before .before .before .before .before .before .before .before .before .before .before .before .before .before .before .before .before .before .before .before .before .before .before .slice-known .given i)) (a .state .now) (a .head) refl (s .pre .1 .0)) (its-continuation (a .call) (a .ids .now) (a .continuation .now) (a .stored .now) (a .peers .now) (a .view .now))) .answered) (omega (arith, c .before .before .before .before .before .before .before .before .before .before .before .before .before .before .before .before .before .before .if1 .left)) (λ i. omega (arith, c .before .before .before .before .before .before .before .before .before .before .before .before .before .before .before .before .before .before .before .before .before .before .before .before .before .before .before .slice-known .given i)) (in-width (a .call) (a .ids .now) (a .continuation .now) (a .stored .now) (a .peers .now) (a .view .now) (omega (arith, s .good .1 .1 .1 .1 .0)) (omega (arith, s .good .1 .1 .1 .1 .0)) (omega (arith, s .good .1 .1 .1 .1 .0)) (omega (arith, s .good .1 .1 .1 .1 .0)) (omega (arith, s .good .1 .1 .1 .1 .0)) (omega (arith, s .good .1 .1 .1 .1 .0)) (λ i. omega (arith, c .before .before .before .before .before .before .before .before .before .before .before .before .before .before .before .before .before .before .before .before .before .before .before .before .before .shared-slice-known .given i)) (λ i. omega (arith, c .before .before .before .before .before .before .before .before .before .before .before .before .before .before .before .before .before .before .before .before .before .before .before .before .shared-slice-known2 .given i)) (λ i. omega (arith, c .before .before .before .before .before .before .before .before .before .before .before .before .before .before .before .before .before .before .before .before .before .before .before .shared-slice-known3 .given i)) (λ i. omega (arith, c .before .before .before .before .before .before .before .before .before .before .before .before .before .before .before .before .before .before .before .before .before .before .shared-slice-known4 .given i)) (λ i. omega (arith, c .before .before .before .before .before .before .before .before .before .before .before .before .before .before .before .before .before .before .before .before .before .shared-slice-known5 .given i))) (a .head) (s .pre .1 .0)) .0 .1) (a .head) (s .pre .1 .0) (putMid 2560 (length (a .state .now) - 2560) (a .state .now) (m .last .0)) (m .last .1 .0) (fin .last .0) (fin .last .1 .0) (answerOf (fin .result))
+returns-3 c = let s = c .before .before .before .before .before .before .before .before .before .before .before .before .before .before .before .before .before .before .before .before .before .before .before .before .before .before .before .before in let a = s .args in let m = c .before .before .before .before .before .before .before .before .before .before .before .before .before .before .before .carry-out in let q = (c .before .before .before .before .before .before .before .before .before .before .before .before .before .before .before .carry-out .ensures (decode (a .state .now)) (callOf (a .call) (a .ids .now) (a .continuation .now) (a .stored .now) (a .peers .now) (a .view .now)) (work-given (a .call) (a .ids .now) (a .continuation .now) (a .stored .now) (a .peers .now) (a .view .now) (a .state .now) (a .commands .now) (s .pre .0) (λ i. omega (arith, c .before .before .before .before .before .before .before .before .before .before .before .before .before .before .before .before .before .before .before .before .before .before .before .before .before .before .before .slice-known .given i)) (a .state .now) (a .head) refl (s .pre .1 .0)) (its-continuation (a .call) (a .ids .now) (a .continuation .now) (a .stored .now) (a .peers .now) (a .view .now))) in let fit = room (a .state .now) (a .commands .now) (callOf (a .call) (a .ids .now) (a .continuation .now) (a .stored .now) (a .peers .now) (a .view .now)) (a .plan) (s .pre .0) (s .pre .1 .1 .0) (s .pre .1 .1 .1 .0) (a .head) (s .pre .1 .0) (ap (λ (n : List ℕ). mayOverfill (a .head .pending + a .head .evicted) (length n / 32) (a .plan .work)) (its-ids (a .call) (a .ids .now) (a .continuation .now) (a .stored .now) (a .peers .now) (a .view .now)) ∙ s .pre .1 .1 .1 .1) (λ i. omega (arith, c .before .before .before .before .before .before .before .before .before .before .before .before .before .before .before .before .before .before .before .before .before .before .before .before .before .before .before .slice-known .given i)) in let i : 2560 ≤ length (a .state .now) = omega (arith, area-long (a .call) (a .ids .now) (a .continuation .now) (a .stored .now) (a .peers .now) (a .view .now) (a .state .now) (a .commands .now) (s .pre .0)) in let fin = c .before .before .before .before .settle in
+    rests (a .state .now) (a .commands .now) (callOf (a .call) (a .ids .now) (a .continuation .now) (a .stored .now) (a .peers .now) (a .view .now)) (a .plan) (s .pre .0) (s .pre .1 .1 .0) (s .pre .1 .1 .1 .0) (a .head) (s .pre .1 .0) (ap (λ (n : List ℕ). mayOverfill (a .head .pending + a .head .evicted) (length n / 32) (a .plan .work)) (its-ids (a .call) (a .ids .now) (a .continuation .now) (a .stored .now) (a .peers .now) (a .view .now)) ∙ s .pre .1 .1 .1 .1) (λ i. omega (arith, c .before .before .before .before .before .before .before .before .before .before .before .before .before .before .before .before .before .before .before .before .before .before .before .before .before .before .before .slice-known .given i)) (c .before .before .before .before .before .before .before .before .before .counts .given .0 .0) (sym (c .before .before .before .before .before .before .before .before .before .counts .given .1) ∙ q .answered) (omega (arith, c .before .before .before .before .before .before .before .before .before .before .before .before .before .before .before .before .before .before .if1 .left)) (in-width (a .call) (a .ids .now) (a .continuation .now) (a .stored .now) (a .peers .now) (a .view .now) (omega (arith, s .good .1 .1 .1 .1 .0)) (omega (arith, s .good .1 .1 .1 .1 .0)) (omega (arith, s .good .1 .1 .1 .1 .0)) (omega (arith, s .good .1 .1 .1 .1 .0)) (omega (arith, s .good .1 .1 .1 .1 .0)) (omega (arith, s .good .1 .1 .1 .1 .0)) (λ i. omega (arith, c .before .before .before .before .before .before .before .before .before .before .before .before .before .before .before .before .before .before .before .before .before .before .before .before .before .shared-slice-known .given i)) (λ i. omega (arith, c .before .before .before .before .before .before .before .before .before .before .before .before .before .before .before .before .before .before .before .before .before .before .before .before .shared-slice-known2 .given i)) (λ i. omega (arith, c .before .before .before .before .before .before .before .before .before .before .before .before .before .before .before .before .before .before .before .before .before .before .before .shared-slice-known3 .given i)) (λ i. omega (arith, c .before .before .before .before .before .before .before .before .before .before .before .before .before .before .before .before .before .before .before .before .before .before .shared-slice-known4 .given i)) (λ i. omega (arith, c .before .before .before .before .before .before .before .before .before .before .before .before .before .before .before .before .before .before .before .before .before .shared-slice-known5 .given i))) ((finish-ready (a .state .now) (a .commands .now) (callOf (a .call) (a .ids .now) (a .continuation .now) (a .stored .now) (a .peers .now) (a .view .now)) (a .plan) (s .pre .0) (s .pre .1 .1 .0) (s .pre .1 .1 .1 .0) (c .before .before .before .before .before .before .before .before .before .counts .given .0 .0) (sym (c .before .before .before .before .before .before .before .before .before .counts .given .1) ∙ (c .before .before .before .before .before .before .before .before .before .before .before .before .before .before .before .carry-out .ensures (decode (a .state .now)) (callOf (a .call) (a .ids .now) (a .continuation .now) (a .stored .now) (a .peers .now) (a .view .now)) (work-given (a .call) (a .ids .now) (a .continuation .now) (a .stored .now) (a .peers .now) (a .view .now) (a .state .now) (a .commands .now) (s .pre .0) (λ i. omega (arith, c .before .before .before .before .before .before .before .before .before .before .before .before .before .before .before .before .before .before .before .before .before .before .before .before .before .before .before .slice-known .given i)) (a .state .now) (a .head) refl (s .pre .1 .0)) (its-continuation (a .call) (a .ids .now) (a .continuation .now) (a .stored .now) (a .peers .now) (a .view .now))) .answered) (omega (arith, c .before .before .before .before .before .before .before .before .before .before .before .before .before .before .before .before .before .before .if1 .left)) (λ i. omega (arith, c .before .before .before .before .before .before .before .before .before .before .before .before .before .before .before .before .before .before .before .before .before .before .before .before .before .before .before .slice-known .given i)) (in-width (a .call) (a .ids .now) (a .continuation .now) (a .stored .now) (a .peers .now) (a .view .now) (omega (arith, s .good .1 .1 .1 .1 .0)) (omega (arith, s .good .1 .1 .1 .1 .0)) (omega (arith, s .good .1 .1 .1 .1 .0)) (omega (arith, s .good .1 .1 .1 .1 .0)) (omega (arith, s .good .1 .1 .1 .1 .0)) (omega (arith, s .good .1 .1 .1 .1 .0)) (λ i. omega (arith, c .before .before .before .before .before .before .before .before .before .before .before .before .before .before .before .before .before .before .before .before .before .before .before .before .before .shared-slice-known .given i)) (λ i. omega (arith, c .before .before .before .before .before .before .before .before .before .before .before .before .before .before .before .before .before .before .before .before .before .before .before .before .shared-slice-known2 .given i)) (λ i. omega (arith, c .before .before .before .before .before .before .before .before .before .before .before .before .before .before .before .before .before .before .before .before .before .before .before .shared-slice-known3 .given i)) (λ i. omega (arith, c .before .before .before .before .before .before .before .before .before .before .before .before .before .before .before .before .before .before .before .before .before .before .shared-slice-known4 .given i)) (λ i. omega (arith, c .before .before .before .before .before .before .before .before .before .before .before .before .before .before .before .before .before .before .before .before .before .shared-slice-known5 .given i))) (a .head) (s .pre .1 .0)) .0 .1) (putMid 2560 (length (a .state .now) - 2560) (a .state .now) (m .last .0)) (m .last .1 .0) (fin .last .0) (fin .last .1 .0) (answerOf (fin .result))
     (front-kept 2560 (a .state .now) (m .last .0) i) (tail-put 2560 (a .state .now) (m .last .0) i ∙ q .left fit) (q .written fit) (said-short (c .before .before .before .before .before .before .before .before .before .counts .given .0 .0 .batch) (listedPeer (a .plan .says))) (fin .ensures .0) (fin .ensures .1 .0) (fin .ensures .1 .1)
 
 pub rest-spec : {M : Type 1} → statement M

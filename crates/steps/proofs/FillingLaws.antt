@@ -1,19 +1,19 @@
--- A work that may not grow leaves no more pending and evicted than there were.
+-- A work that may not overfill leaves at most 1,024 pending and evicted.
 use Prim.Native.Nat.{ℕ, suc, _+_, _≤_}
 use mathlib.Core.Path.{_≡_, refl, _∙_}
 use mathlib.Core.Bool.{Bool, true, false, not, cond}
 use mathlib.Core.List.{List, [], _∷_}
 use native.Mathlib.Omega.{arith}
-use lib.ListN.{length, length-map}
+use lib.ListN.{length, length-map, length-append}
 use lib.Dec.{eqb}
-use borrow.Author.Tests.{le-leb}
+use borrow.Author.Tests.{le-leb, ltb-false}
 use Rattle.fields.specs.Filter.{kept}
 use Rattle.fields.specs.Sort.{inserted}
 use Rattle.fields.proofs.AllLaws.{either}
 use Rattle.fields.proofs.FilterLaws.{length-kept}
 use Rattle.fields.proofs.SortLaws.{length-inserted}
 use Rattle.model.specs.Protocol.{Id, isAmong, headerType, trackedLimit}
-use Rattle.model.specs.Delivery.{Request, Verdict, waiting, retried, abandoned, forgotten, verdict, afterVerdict, checkTimeouts, markRetried, isPending, idBefore, markRequested, markReceived, purgePeer, purgeAll}
+use Rattle.model.specs.Delivery.{Request, Verdict, waiting, retried, abandoned, forgotten, verdict, afterVerdict, checkTimeouts, markRetried, isPending, idBefore, markRequested, markReceived, pendingAfterEviction, evictedAfterEviction, purgePeer, purgeAll}
 use Rattle.model.specs.Settings.{Settings}
 use Rattle.model.specs.Requests.{Pair, isStored, wanted, requestAnnounced}
 use Rattle.model.specs.Sections.{Item}
@@ -27,7 +27,7 @@ use Rattle.plans.specs.declared.Work.the-variants.{Nothing, Ids, Sections, Rece
 use Rattle.plans.specs.Plans.{retriedBy}
 use Rattle.tracker.specs.Worked.{actedBy, workedBy, fits}
 use Rattle.carry.specs.Carried.{carriedBy}
-use Rattle.steps.specs.Growing.{mayGrow}
+use Rattle.steps.specs.Filling.{mayOverfill}
 
 length-marked : (items : List Item) (pending : List Request) → length (markAllRetried items pending) ≡ length pending
 length-marked [] pending = refl
@@ -65,23 +65,39 @@ wanted-few pending typeId pairs ids =
     (arith, length-kept (λ (id : Id). not (isStored pairs typeId id)) (kept (λ (id : Id). not (isPending id pending)) ids), length-kept (λ (id : Id). not (isPending id pending)) ids)
 
 module _ (st : State) (c : calls.Call) (downloaded : ℕ) where
-  shrinks : (work : Work) → mayGrow work ≡ false
-      → length (workedBy st c downloaded work .pending) + length (workedBy st c downloaded work .evicted) ≤ length (st .pending) + length (st .sync .evicted)
-  unfolding workedBy actedBy retriedBy markReceived purgePeer purgeAll
-  shrinks Nothing e = omega arith
-  shrinks (Ids peer) e = let z : _≡_ {A = ℕ} 0 1 = cc in absurd (omega arith)
-  shrinks (Sections peer) e = let z : _≡_ {A = ℕ} 0 1 = cc in absurd (omega arith)
-  shrinks Received e = omega (arith, length-kept (λ (r : Request). not (isAmong (r .id) (idsIn (c .ids)))) (st .pending))
-  shrinks Evicted e = let z : _≡_ {A = ℕ} 0 1 = cc in absurd (omega arith)
-  shrinks Purge e = omega arith
-  shrinks (PurgeSections peer) e = let z : _≡_ {A = ℕ} 0 1 = cc in absurd (omega arith)
-  shrinks Lose e = omega (arith, length-kept (λ (r : Request). not (eqb (r .peer) (st .sync .syncPeer))) (st .pending))
-  shrinks (LoseAsk peer) e = let z : _≡_ {A = ℕ} 0 1 = cc in absurd (omega arith)
-  shrinks Check e = omega (arith, length-marked (retriedBy st c Check) (checkTimeouts (st .settings) (c .clock) (st .pending)), checked-few (st .settings) (c .clock) (st .pending))
-  shrinks (CheckFresh peer) e =
-      let base : List Request = markAllRetried (retriedBy st c (CheckFresh peer)) (checkTimeouts (st .settings) (c .clock) (st .pending)) in
+  abbrev held : ℕ
+  held = length (st .pending) + length (st .sync .evicted)
+
+  stays-few : (work : Work) → held ≤ trackedLimit → mayOverfill held (length (idsIn (c .ids))) work ≡ false
+      → length (workedBy st c downloaded work .pending) + length (workedBy st c downloaded work .evicted) ≤ trackedLimit
+  unfolding workedBy actedBy retriedBy markReceived pendingAfterEviction evictedAfterEviction purgePeer purgeAll
+  stays-few Nothing h e = omega arith
+  stays-few (Ids peer) h e =
+      omega (
+        arith,
+        ltb-false trackedLimit (held + length (idsIn (c .ids))) e,
+        asked-few (eqb (c .gate) 1) (c .clock) (c .typeid) peer (wanted (st .pending) (c .typeid) (pairsIn (c .stored)) (idsIn (c .ids))) (st .pending),
+        wanted-few (st .pending) (c .typeid) (pairsIn (c .stored)) (idsIn (c .ids)),
+      )
+  stays-few (Sections peer) h e = let z : _≡_ {A = ℕ} 0 1 = cc in absurd (omega arith)
+  stays-few Received h e = omega (arith, length-kept (λ (r : Request). not (isAmong (r .id) (idsIn (c .ids)))) (st .pending))
+  stays-few Evicted h e =
+      omega (
+        arith,
+        ltb-false trackedLimit (held + length (idsIn (c .ids))) e,
+        length-kept (λ (r : Request). not (isAmong (r .id) (idsIn (c .ids)))) (st .pending),
+        length-append (st .sync .evicted) (idsIn (c .ids)),
+      )
+  stays-few Purge h e = omega arith
+  stays-few (PurgeSections peer) h e = let z : _≡_ {A = ℕ} 0 1 = cc in absurd (omega arith)
+  stays-few Lose h e = omega (arith, length-kept (λ (r : Request). not (eqb (r .peer) (st .sync .syncPeer))) (st .pending))
+  stays-few (LoseAsk peer) h e = let z : _≡_ {A = ℕ} 0 1 = cc in absurd (omega arith)
+  stays-few Check h e =
       omega
-      (
+      (arith, length-marked (retriedBy st c Check) (checkTimeouts (st .settings) (c .clock) (st .pending)), checked-few (st .settings) (c .clock) (st .pending))
+  stays-few (CheckFresh peer) h e =
+      let base : List Request = markAllRetried (retriedBy st c (CheckFresh peer)) (checkTimeouts (st .settings) (c .clock) (st .pending)) in
+      omega (
         arith,
         asked-few (eqb (c .gate) 1) (c .clock) headerType peer (wanted base headerType (pairsIn (c .stored)) (st .sync .evicted)) base,
         wanted-few base headerType (pairsIn (c .stored)) (st .sync .evicted),
@@ -89,8 +105,9 @@ module _ (st : State) (c : calls.Call) (downloaded : ℕ) where
         checked-few (st .settings) (c .clock) (st .pending),
       )
 
-pub shrunk-fits : (st : State) (c : calls.Call) (p : Plan) → mayGrow (p .work) ≡ false → length (st .pending) + length (st .sync .evicted) ≤ trackedLimit → fits (carriedBy st c p) ≡ true
+pub few-fit : (st : State) (c : calls.Call) (p : Plan) → length (st .pending) + length (st .sync .evicted) ≤ trackedLimit
+    → mayOverfill (length (st .pending) + length (st .sync .evicted)) (length (idsIn (c .ids))) (p .work) ≡ false → fits (carriedBy st c p) ≡ true
 unfolding fits carriedBy
-shrunk-fits st c p e h =
+few-fit st c p h e =
     le-leb (length (workedBy st c (p .head .downloaded) (p .work) .pending) + length (workedBy st c (p .head .downloaded) (p .work) .evicted)) trackedLimit
-    (omega (arith, shrinks st c (p .head .downloaded) (p .work) e))
+    (stays-few st c (p .head .downloaded) (p .work) h e)
