@@ -7,23 +7,32 @@ use std::{env, fs};
 const HELP: &str = "put rt on the path or its path into RT, so that `rt staticlib request_keeper` \
 can build it, or name a built librequest_keeper.a in REQUEST_KEEPER_LIB";
 
-/// Proves and compiles the crate `request_keeper` at the repository's root.
+/// Runs `rt` with these words at the repository's root.
+fn run(rt: &str, words: [&str; 2], root: &Path) -> Result<(), String> {
+    let run = Command::new(rt)
+        .args(words)
+        .current_dir(root)
+        .output()
+        .map_err(|error| format!("{rt} does not start ({error})"))?;
+    if run.status.success() {
+        return Ok(());
+    }
+    eprintln!("{}", String::from_utf8_lossy(&run.stdout));
+    eprintln!("{}", String::from_utf8_lossy(&run.stderr));
+    Err(format!("{rt} {}: {}", words.join(" "), run.status))
+}
+
+/// Proves and compiles the crate `request_keeper` at the repository's root. `rt check` proves several crates at a time,
+/// `rt staticlib` one after another.
 fn built(root: &Path) -> Result<PathBuf, String> {
     for watched in ["crates.txt", "crates"] {
         println!("cargo::rerun-if-changed={}", root.join(watched).display());
     }
     let rt = env::var("RT").unwrap_or_else(|_| "rt".to_string());
-    let run = Command::new(&rt)
-        .args(["staticlib", "request_keeper"])
-        .current_dir(root)
-        .output()
-        .map_err(|error| format!("{rt} does not start ({error})"))?;
-    if run.status.success() {
-        return Ok(root.join("target/staticlib/librequest_keeper.a"));
+    for verb in ["check", "staticlib"] {
+        run(&rt, [verb, "request_keeper"], root)?;
     }
-    eprintln!("{}", String::from_utf8_lossy(&run.stdout));
-    eprintln!("{}", String::from_utf8_lossy(&run.stderr));
-    Err(format!("{rt} staticlib request_keeper: {}", run.status))
+    Ok(root.join("target/staticlib/librequest_keeper.a"))
 }
 
 fn found(here: &Path) -> Result<PathBuf, String> {

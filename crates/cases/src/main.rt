@@ -1,4 +1,4 @@
-// The fixed list of host/fixed, replayed by the proved core.
+// The cases of document 01 that have no star, and others worth having, played by the proved core.
 fn main() {
     listing::replay();
 }
