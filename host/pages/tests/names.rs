@@ -1,0 +1,52 @@
+//! Every link of the pages leads somewhere, and every function, definition and edit that they name is there.
+
+use keeper_pages::{Missing, Tree};
+use std::fs;
+use std::path::{Path, PathBuf};
+
+fn root() -> PathBuf {
+    Path::new(env!("CARGO_MANIFEST_DIR")).join("../..")
+}
+
+fn pages(root: &Path) -> Vec<PathBuf> {
+    let docs = fs::read_dir(root.join("docs")).expect("there is a folder docs");
+    let listed = docs.map(|entry| entry.expect("a page").path());
+    let mut pages: Vec<PathBuf> = listed.collect();
+    pages.extend(
+        ["README.md", "host/README.md", "host/fixed/README.md"].map(|page| root.join(page)),
+    );
+    pages
+}
+
+#[test]
+fn what_the_pages_name_is_there() {
+    let root = root();
+    let tree = Tree::read(&root).expect("crates can be read");
+    for page in pages(&root) {
+        let text = fs::read_to_string(&page).expect("the page can be read");
+        let folder = page.parent().expect("a page has a folder");
+        let missing = tree.missing(folder, &text);
+        assert!(missing.is_empty(), "{}: {missing:?}", page.display());
+    }
+}
+
+#[test]
+fn a_name_that_nothing_has_is_noticed() {
+    let root = root();
+    let tree = Tree::read(&root).expect("crates can be read");
+    let text = "`steps::run` `steps::walk` `Calls.step` `Calls.stride`\n\
+        edits `steps/nine-at-every-step`, `always-continue`, `never-continue`\n\
+        [here](docs/LAYOUT.md) [nowhere](docs/NOWHERE.md)";
+    let missing = tree.missing(&root, text);
+    let expected = [
+        (1, "steps::walk"),
+        (1, "Calls.stride"),
+        (2, "never-continue"),
+        (3, "docs/NOWHERE.md"),
+    ];
+    let expected = expected.map(|(line, name)| Missing {
+        line,
+        name: name.to_string(),
+    });
+    assert_eq!(missing, expected);
+}
