@@ -2,7 +2,8 @@
 ghost use mathlib.Core.Path.{_≡_};
 ghost use Prim.Native.Nat.{_≤_};
 ghost use lib.ListN.{length};
-use replaying::Replay;
+use crate::stream;
+use crate::stream::Replay;
 
 pub struct Listing {
     pub replay: Replay,
@@ -31,21 +32,21 @@ fn end_stream(listing: Listing) -> Listing {
     }
     io::write_all(1, b"line ");
     io::print_decimal(1, listing.fault);
-    if replay.fault == replaying::FORM {
+    if replay.fault == stream::FORM {
         io::write_all(1, b" is not of the form\n");
         return next;
     }
-    if replay.fault == replaying::PLACE {
+    if replay.fault == stream::PLACE {
         io::write_all(1, b" is out of place\n");
         return next;
     }
-    if replay.fault == replaying::NUMBER {
+    if replay.fault == stream::NUMBER {
         io::write_all(1, b" differs in number ");
     }
-    if replay.fault == replaying::STATE_AREA {
+    if replay.fault == stream::STATE_AREA {
         io::write_all(1, b" differs in the state area, byte ");
     }
-    if replay.fault == replaying::COMMAND_AREA {
+    if replay.fault == stream::COMMAND_AREA {
         io::write_all(1, b" differs in the command area, byte ");
     }
     io::print_decimal(1, replay.place as u64);
@@ -73,7 +74,7 @@ fn begin_stream(memory: &mut [u8], line: &[u8], listing: Listing) -> Listing
     io::write_all(1, b": ");
     forget(memory);
     let last = listing.replay;
-    let mut replay = replaying::at_first();
+    let mut replay = stream::at_first();
     replay.calls = last.calls;
     next.replay = replay;
     next.streams = std::num::wrapping_add_u64(listing.streams, 1);
@@ -92,13 +93,13 @@ fn take(memory: &mut [u8], line: &[u8], listing: Listing) -> Listing
     if line[0] == b'#' {
         return next;
     }
-    if replaying::first_word(line) == replaying::STREAM_WORD {
+    if stream::first_word(line) == stream::STREAM_WORD {
         return begin_stream(memory, line, next);
     }
     if last.fault != 0 {
         return next;
     }
-    let replay = replaying::take_line(memory, line, last);
+    let replay = stream::take_line(memory, line, last);
     next.replay = replay;
     next.fault = next.line;
     next
@@ -107,7 +108,7 @@ fn take(memory: &mut [u8], line: &[u8], listing: Listing) -> Listing
 fn lines(memory: &mut [u8], text: &[u8]) -> Listing
     requires { ⌜ 655360 ≤ length (now memory) ⌝ }
 {
-    let first = replaying::at_first();
+    let first = stream::at_first();
     let mut listing = Listing {
         replay: first,
         line: 0,

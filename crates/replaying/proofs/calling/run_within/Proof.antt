@@ -3,8 +3,8 @@ use borrow.Author.Needs.{needs}
 use native.Mathlib.Omega.{arith}
 use mathlib.Core.Path.{sym}
 use lib.Seq.{length-take-le}
-use Rattle.calling.proofs.run_within.Statement.{statement}
-use Rattle.calling.proofs.run_within.Tie as tie
+use Rattle.replaying.proofs.calling.run_within.Statement.{statement}
+use Rattle.replaying.proofs.calling.run_within.Tie as tie
 
 slice-relend-prefix-run : tie.Need-slice-relend-prefix-run
 slice-relend-prefix-run c = search needs
