@@ -1,3 +1,4 @@
 pub mod RetryLaws
 pub mod RecordLaws
+pub mod MarkLaws
 pub mod CheckLaws

@@ -1,5 +1,5 @@
 -- A record in a table: what the check reads of it, and what it writes anew.
-use Prim.Native.Nat.{ℕ, suc, _+_, _*_, _≤_}
+use Prim.Native.Nat.{ℕ, suc, _+_, _*_, _^_, _≤_, _<_}
 use mathlib.Core.Path.{_≡_, refl, sym, ap, _∙_}
 use mathlib.Core.Bool.{Bool, true, false}
 use mathlib.Core.List.{List, [], _++_, append-assoc, append-nil}
@@ -15,11 +15,12 @@ use Rattle.fields.specs.Entries.{entry}
 use Rattle.fields.specs.Overwrite.{overwritten}
 use Rattle.fields.proofs.OverwriteLaws.{length-overwritten, overwritten-within, overwritten-again, read-back}
 use Rattle.fields.proofs.EntriesLaws.{length-entry, entry-field}
+use Rattle.fields.proofs.PartLaws.{part-below}
 use Rattle.model.specs.Protocol.{isTransaction}
 use Rattle.model.specs.Settings.{Settings, expired, givenUp}
-use Rattle.model.specs.Delivery.{Request, waiting, retried, abandoned, forgotten, verdict, restarted}
+use Rattle.model.specs.Delivery.{Request, waiting, retried, abandoned, forgotten, verdict, withPeer, restarted}
 use Rattle.model.specs.Image.{recordSize, requestOf, requestBytes}
-use Rattle.model.proofs.RecordLaws.{bytes-of-request, length-request}
+use Rattle.model.proofs.RecordLaws.{bytes-of-request, length-request, request-of-bytes}
 use Rattle.batches.proofs.ItemLaws.{entry-bytes, peer-read, type-read}
 use Rattle.delivery_check.specs.Turn.{restartedTo}
 
@@ -71,7 +72,7 @@ entry-part : (width i : ℕ) (s : List ℕ) → entry width i s ≡ take width (
 unfolding entry
 entry-part width i s = refl
 
-id-long : (e : List ℕ) → length e ≡ 54 → length (requestOf e .id) ≡ 32
+pub id-long : (e : List ℕ) → length e ≡ 54 → length (requestOf e .id) ≡ 32
 unfolding requestOf
 id-long e l = length-take-le 32 e (omega arith)
 
@@ -83,31 +84,48 @@ over-part at a b c new h l =
     let d : drop (at + length new) (a ++ (b ++ c)) ≡ c = rw (← append-assoc a b c) (drop-at (a ++ b) c (at + length new) e) in
     rw (take-at a (b ++ c) at h, d)
 
--- peer, stamp and checks of a record written over
-fields-over : (id p q ty st su ck cl : List ℕ) → length id ≡ 32 → length p ≡ 8 → length q ≡ 8 → length ty ≡ 2 → length st ≡ 8 → length su ≡ 8 → length ck ≡ 4 → length cl ≡ 4
-    → overwritten 50 cl (overwritten 42 su (overwritten 32 q (id ++ (p ++ (ty ++ (st ++ ck)))))) ≡ id ++ (q ++ (ty ++ (su ++ cl)))
-fields-over id p q ty st su ck cl hi hp hq ht hs hu hc hl =
-    let a : overwritten 32 q (id ++ (p ++ (ty ++ (st ++ ck)))) ≡ id ++ (q ++ (ty ++ (st ++ ck))) = over-part 32 id p (ty ++ (st ++ ck)) q hi (omega arith) in
-    let lb : length (id ++ (q ++ ty)) ≡ 42 = simp length-append (omega arith) in
-    let gb : (tail : List ℕ) → id ++ (q ++ (ty ++ tail)) ≡ (id ++ (q ++ ty)) ++ tail = λ tail. simp append-assoc in
-    let b : overwritten 42 su (id ++ (q ++ (ty ++ (st ++ ck)))) ≡ id ++ (q ++ (ty ++ (su ++ ck))) =
-    ap (overwritten 42 su) (gb (st ++ ck)) ∙ over-part 42 (id ++ (q ++ ty)) st ck su lb (omega arith) ∙ sym (gb (su ++ ck)) in
-    let lc : length (id ++ (q ++ (ty ++ su))) ≡ 50 = simp length-append (omega arith) in
-    let gc : (tail : List ℕ) → id ++ (q ++ (ty ++ (su ++ tail))) ≡ (id ++ (q ++ (ty ++ su))) ++ tail = λ tail. simp append-assoc in
-    let c : overwritten 50 cl (id ++ (q ++ (ty ++ (su ++ ck)))) ≡ id ++ (q ++ (ty ++ (su ++ cl))) =
-    ap (overwritten 50 cl) (gc ck ∙ ap (λ (tail : List ℕ). (id ++ (q ++ (ty ++ su))) ++ tail) (sym (append-nil ck)))
-    ∙ over-part 50 (id ++ (q ++ (ty ++ su))) ck [] cl lc (omega arith) ∙ ap (λ (tail : List ℕ). (id ++ (q ++ (ty ++ su))) ++ tail) (append-nil cl) ∙ sym (gc cl) in
-    ap (λ (x : List ℕ). overwritten 50 cl (overwritten 42 su x)) a ∙ ap (overwritten 50 cl) b ∙ c
+-- stamp and checks of a record written over
+fields-over : (id p ty st su ck cl : List ℕ) → length id ≡ 32 → length p ≡ 8 → length ty ≡ 2 → length st ≡ 8 → length su ≡ 8 → length ck ≡ 4 → length cl ≡ 4
+    → overwritten 50 cl (overwritten 42 su (id ++ (p ++ (ty ++ (st ++ ck))))) ≡ id ++ (p ++ (ty ++ (su ++ cl)))
+fields-over id p ty st su ck cl hi hp ht hs hu hc hl =
+    let la : length (id ++ (p ++ ty)) ≡ 42 = simp length-append (omega arith) in
+    let ga : (tail : List ℕ) → id ++ (p ++ (ty ++ tail)) ≡ (id ++ (p ++ ty)) ++ tail = λ tail. simp append-assoc in
+    let a : overwritten 42 su (id ++ (p ++ (ty ++ (st ++ ck)))) ≡ id ++ (p ++ (ty ++ (su ++ ck))) =
+    ap (overwritten 42 su) (ga (st ++ ck)) ∙ over-part 42 (id ++ (p ++ ty)) st ck su la (omega arith) ∙ sym (ga (su ++ ck)) in
+    let lb : length (id ++ (p ++ (ty ++ su))) ≡ 50 = simp length-append (omega arith) in
+    let gb : (tail : List ℕ) → id ++ (p ++ (ty ++ (su ++ tail))) ≡ (id ++ (p ++ (ty ++ su))) ++ tail = λ tail. simp append-assoc in
+    let b : overwritten 50 cl (id ++ (p ++ (ty ++ (su ++ ck)))) ≡ id ++ (p ++ (ty ++ (su ++ cl))) =
+    ap (overwritten 50 cl) (gb ck ∙ ap (λ (tail : List ℕ). (id ++ (p ++ (ty ++ su))) ++ tail) (sym (append-nil ck)))
+    ∙ over-part 50 (id ++ (p ++ (ty ++ su))) ck [] cl lb (omega arith) ∙ ap (λ (tail : List ℕ). (id ++ (p ++ (ty ++ su))) ++ tail) (append-nil cl) ∙ sym (gb cl) in
+    ap (overwritten 50 cl) a ∙ b
 
-record-anew : (clock : ℕ) (target : ℕ → ℕ) (e : List ℕ) → length e ≡ 54 → Bytes e
-    → overwritten 50 (toBe 4 (suc (requestOf e .checks))) (overwritten 42 (toBe 8 clock) (overwritten 32 (toBe 8 (target (requestOf e .peer))) e))
-    ≡ requestBytes (restartedTo clock target (requestOf e))
-unfolding requestBytes restartedTo restarted
-record-anew clock target e l f =
-    let r : Request = requestOf e in
-    ap (λ (x : List ℕ). overwritten 50 (toBe 4 (suc (r .checks))) (overwritten 42 (toBe 8 clock) (overwritten 32 (toBe 8 (target (r .peer))) x))) (sym (bytes-of-request e l f))
-    ∙ fields-over (r .id) (toBe 8 (r .peer)) (toBe 8 (target (r .peer))) (toBe 2 (r .typeId)) (toBe 8 (r .stamp)) (toBe 8 clock) (toBe 4 (r .checks)) (toBe 4 (suc (r .checks)))
-    (id-long e l) refl refl refl refl refl refl refl
+module _ (e : List ℕ) (l : length e ≡ 54) (f : Bytes e) where
+  abbrev r : Request
+  r = requestOf e
+
+  record-restarted : (clock : ℕ) → overwritten 50 (toBe 4 (suc (r .checks))) (overwritten 42 (toBe 8 clock) e) ≡ requestBytes (restarted clock r)
+  unfolding requestBytes restarted
+  record-restarted clock =
+      ap (λ (x : List ℕ). overwritten 50 (toBe 4 (suc (r .checks))) (overwritten 42 (toBe 8 clock) x)) (sym (bytes-of-request e l f))
+      ∙ fields-over (r .id) (toBe 8 (r .peer)) (toBe 2 (r .typeId)) (toBe 8 (r .stamp)) (toBe 8 clock) (toBe 4 (r .checks)) (toBe 4 (suc (r .checks)))
+      (id-long e l) refl refl refl refl refl refl
+
+  record-asked : (peer : ℕ) → overwritten 32 (toBe 8 peer) e ≡ requestBytes (withPeer peer r)
+  unfolding requestBytes
+  record-asked peer =
+      ap (overwritten 32 (toBe 8 peer)) (sym (bytes-of-request e l f))
+      ∙ over-part 32 (r .id) (toBe 8 (r .peer)) (toBe 2 (r .typeId) ++ (toBe 8 (r .stamp) ++ toBe 4 (r .checks))) (toBe 8 peer) (id-long e l) refl
+
+  -- both are read back
+  pub restarted-back : (clock : ℕ) → clock < 2 ^ 64 → r .checks + 1 < 2 ^ 32 → requestOf (requestBytes (restarted clock r)) ≡ restarted clock r
+  unfolding restarted requestOf
+  restarted-back clock c k =
+      request-of-bytes (restarted clock r) (id-long e l) (part-below 32 8 e (omega arith) f, (part-below 40 2 e (omega arith) f, (c, (omega arith, tt))))
+
+  pub asked-back : (peer : ℕ) → peer < 2 ^ 64 → requestOf (requestBytes (withPeer peer r)) ≡ withPeer peer r
+  unfolding requestOf
+  asked-back peer p =
+      request-of-bytes (withPeer peer r) (id-long e l) (p, (part-below 40 2 e (omega arith) f, (part-below 42 8 e (omega arith) f, (part-below 50 4 e (omega arith) f, tt))))
 
 -- a further field of entry i written over
 field-again : (width i at : ℕ) (new e t o : List ℕ) → o ≡ overwritten (i * width) e t → length e ≡ width → at + length new ≤ width → i * width + width ≤ length t
@@ -118,41 +136,65 @@ field-again width i at new e t o q le h l =
     let lf : length (overwritten at new e) ≡ width = length-overwritten at new e (omega arith) ∙ le in
     overwritten-within (i * width) width at new o h (omega arith) ∙ rw (back, q) (overwritten-again (i * width) e (overwritten at new e) t (omega arith) (omega arith))
 
--- three fields of entry i written one after another
-three-fields : (width i a b c : ℕ) (x y z t o₁ o₂ o₃ : List ℕ) → a + length x ≤ width → b + length y ≤ width → c + length z ≤ width → i * width + width ≤ length t
-    → o₁ ≡ overwritten (i * width + a) x t → o₂ ≡ overwritten (i * width + b) y o₁ → o₃ ≡ overwritten (i * width + c) z o₂
-    → o₃ ≡ overwritten (i * width) (overwritten c z (overwritten b y (overwritten a x (entry width i t)))) t
+-- two fields of entry i written one after another
+two-fields : (width i a b : ℕ) (x y t o₁ o₂ : List ℕ) → a + length x ≤ width → b + length y ≤ width → i * width + width ≤ length t
+    → o₁ ≡ overwritten (i * width + a) x t → o₂ ≡ overwritten (i * width + b) y o₁
+    → o₂ ≡ overwritten (i * width) (overwritten b y (overwritten a x (entry width i t))) t
 unfolding entry
-three-fields width i a b c x y z t o₁ o₂ o₃ hx hy hz l e₁ e₂ e₃ =
+two-fields width i a b x y t o₁ o₂ hx hy l e₁ e₂ =
     let e : List ℕ = entry width i t in
     let le : length e ≡ width = length-entry width i t l in
     let one : List ℕ = overwritten a x e in
-    let two : List ℕ = overwritten b y one in
     let l₁ : length one ≡ width = length-overwritten a x e (omega arith) ∙ le in
-    let l₂ : length two ≡ width = length-overwritten b y one (omega arith) ∙ l₁ in
     let s₁ : o₁ ≡ overwritten (i * width) one t = e₁ ∙ overwritten-within (i * width) width a x t hx l in
-    let s₂ : o₂ ≡ overwritten (i * width) two t = e₂ ∙ field-again width i b y one t o₁ s₁ l₁ hy l in
-    e₃ ∙ field-again width i c z two t o₂ s₂ l₂ hz l
+    e₂ ∙ field-again width i b y one t o₁ s₁ l₁ hy l
 
 -- what `restart` writes
-pub restarts : (i clock : ℕ) (target : ℕ → ℕ) (t o₁ o₂ o₃ : List ℕ) (peer checks asked : ℕ) → i * 54 + 54 ≤ length t → Bytes t
-    → peer ≡ fromBe (take 8 (drop (i * 54 + 32) t)) → checks ≡ fromBe (take 4 (drop (i * 54 + 50) t)) → asked ≡ target peer
-    → o₁ ≡ overwritten (i * 54 + 32) (toBe 8 asked) t → o₂ ≡ overwritten (i * 54 + 42) (toBe 8 clock) o₁ → o₃ ≡ overwritten (i * 54 + 50) (toBe 4 (checks + 1)) o₂
-    → o₃ ≡ overwritten (i * 54) (requestBytes (restartedTo clock target (requestOf (entry recordSize i t)))) t
-restarts i clock target t o₁ o₂ o₃ peer checks asked l f ep ec ea e₁ e₂ e₃ =
+pub restarts : (i clock : ℕ) (t o₁ o₂ : List ℕ) (checks : ℕ) → i * 54 + 54 ≤ length t → Bytes t → checks ≡ fromBe (take 4 (drop (i * 54 + 50) t))
+    → o₁ ≡ overwritten (i * 54 + 42) (toBe 8 clock) t → o₂ ≡ overwritten (i * 54 + 50) (toBe 4 (checks + 1)) o₁
+    → o₂ ≡ overwritten (i * 54) (requestBytes (restarted clock (requestOf (entry recordSize i t)))) t
+restarts i clock t o₁ o₂ checks l f ec e₁ e₂ =
     let e : List ℕ = entry recordSize i t in
-    let p : asked ≡ target (requestOf e .peer) = ea ∙ ap target (ep ∙ peer-read i t) in
     let k : checks + 1 ≡ suc (requestOf e .checks) = add-one checks ∙ ap suc (ec ∙ checks-read i t) in
-    let a : o₁ ≡ overwritten (i * 54 + 32) (toBe 8 (target (requestOf e .peer))) t = e₁ ∙ ap (λ (n : ℕ). overwritten (i * 54 + 32) (toBe 8 n) t) p in
-    let c : o₃ ≡ overwritten (i * 54 + 50) (toBe 4 (suc (requestOf e .checks))) o₂ = e₃ ∙ ap (λ (n : ℕ). overwritten (i * 54 + 50) (toBe 4 n) o₂) k in
-    three-fields 54 i 32 42 50 (toBe 8 (target (requestOf e .peer))) (toBe 8 clock) (toBe 4 (suc (requestOf e .checks))) t o₁ o₂ o₃ (omega arith) (omega arith) (omega arith) l a e₂ c
-    ∙ ap (λ (x : List ℕ). overwritten (i * 54) x t) (record-anew clock target e (length-entry 54 i t l) (entry-bytes 54 i t f))
+    let b : o₂ ≡ overwritten (i * 54 + 50) (toBe 4 (suc (requestOf e .checks))) o₁ = e₂ ∙ ap (λ (n : ℕ). overwritten (i * 54 + 50) (toBe 4 n) o₁) k in
+    two-fields 54 i 42 50 (toBe 8 clock) (toBe 4 (suc (requestOf e .checks))) t o₁ o₂ (omega arith) (omega arith) l e₁ b
+    ∙ ap (λ (x : List ℕ). overwritten (i * 54) x t) (record-restarted e (length-entry 54 i t l) (entry-bytes 54 i t f) clock)
+
+-- what `mark_retried` writes
+pub marks : (i peer : ℕ) (t o : List ℕ) → i * 54 + 54 ≤ length t → Bytes t → o ≡ overwritten (i * 54 + 32) (toBe 8 peer) t
+    → o ≡ overwritten (i * 54) (requestBytes (withPeer peer (requestOf (entry recordSize i t)))) t
+unfolding entry
+marks i peer t o l f e =
+    e ∙ overwritten-within (i * 54) 54 32 (toBe 8 peer) t (omega arith) l
+    ∙ ap (λ (x : List ℕ). overwritten (i * 54) x t) (record-asked (entry recordSize i t) (length-entry 54 i t l) (entry-bytes 54 i t f) peer)
+
+entry-written : (i : ℕ) (x t u : List ℕ) → length x ≡ 54 → i * 54 + 54 ≤ length t → u ≡ overwritten (i * 54) x t → entry recordSize i u ≡ x
+entry-written i x t u l h e =
+    entry-part 54 i u ∙ rw e (ap (λ (n : ℕ). take n (drop (i * 54) (overwritten (i * 54) x t))) (sym l) ∙ read-back (i * 54) x t (omega arith))
 
 pub restarted-long : (clock : ℕ) (target : ℕ → ℕ) (e : List ℕ) → length e ≡ 54 → length (requestBytes (restartedTo clock target (requestOf e))) ≡ 54
 unfolding restartedTo restarted requestOf
 restarted-long clock target e l = length-request (restartedTo clock target (requestOf e)) (id-long e l)
 
--- ---- a record moved down, then restarted there
+-- what `retry` writes
+pub retries-as : (i clock : ℕ) (target : ℕ → ℕ) (t u v : List ℕ) (failed asked : ℕ) → i * 54 + 54 ≤ length t → Bytes t → clock < 2 ^ 64
+    → requestOf (entry recordSize i t) .checks + 1 < 2 ^ 32 → u ≡ overwritten (i * 54) (requestBytes (restarted clock (requestOf (entry recordSize i t)))) t
+    → failed ≡ fromBe (take 8 (drop (i * 54 + 32) u)) → asked ≡ target failed
+    → v ≡ overwritten (i * 54) (requestBytes (withPeer asked (requestOf (entry recordSize i u)))) u
+    → v ≡ overwritten (i * 54) (requestBytes (restartedTo clock target (requestOf (entry recordSize i t)))) t
+unfolding restartedTo restarted
+retries-as i clock target t u v failed asked l f c k eu ef ea ev =
+    let e : List ℕ = entry recordSize i t in
+    let le : length e ≡ 54 = length-entry 54 i t l in
+    let one : List ℕ = requestBytes (restarted clock (requestOf e)) in
+    let two : List ℕ = requestBytes (restartedTo clock target (requestOf e)) in
+    let l₁ : length one ≡ 54 = length-request (restarted clock (requestOf e)) (id-long e le) in
+    let l₂ : length two ≡ 54 = restarted-long clock target e le in
+    let s : requestOf (entry recordSize i u) ≡ restarted clock (requestOf e) = ap requestOf (entry-written i one t u l₁ l eu) ∙ restarted-back e le (entry-bytes 54 i t f) clock c k in
+    let p : asked ≡ target (requestOf e .peer) = ea ∙ ap target (ef ∙ peer-read i u ∙ ap (λ (r : Request). r .peer) s) in
+    ev ∙ rw (s, p, eu) (overwritten-again (i * 54) one two t (omega arith) (omega arith))
+
+-- ---- a record moved down, then retried there
 
 module _ (i place : ℕ) (t u : List ℕ) (h : place ≤ i) (l : i * 54 + 54 ≤ length t) (e : u ≡ overwritten (place * 54) (entry 54 i t) t) where
   fits : place * 54 + 54 ≤ length t
@@ -162,15 +204,14 @@ module _ (i place : ℕ) (t u : List ℕ) (h : place ≤ i) (l : i * 54 + 54 ≤
   long = length-entry 54 i t l
 
   pub entry-moved : entry recordSize place u ≡ entry recordSize i t
-  entry-moved =
-      entry-part 54 place u ∙ rw e (ap (λ (n : ℕ). take n (drop (place * 54) (overwritten (place * 54) (entry 54 i t) t))) (sym long) ∙ read-back (place * 54) (entry 54 i t) t (omega (arith, fits, long)))
+  entry-moved = entry-written place (entry 54 i t) t u long fits e
 
   pub moved-length : length u ≡ length t
   moved-length = ap length e ∙ length-overwritten (place * 54) (entry 54 i t) t (omega (arith, fits, long))
 
-  pub moved-restarted : (clock : ℕ) (target : ℕ → ℕ) (v : List ℕ) → v ≡ overwritten (place * 54) (requestBytes (restartedTo clock target (requestOf (entry recordSize place u)))) u
+  pub moved-retried : (clock : ℕ) (target : ℕ → ℕ) (v : List ℕ) → v ≡ overwritten (place * 54) (requestBytes (restartedTo clock target (requestOf (entry recordSize place u)))) u
       → v ≡ overwritten (place * 54) (requestBytes (restartedTo clock target (requestOf (entry recordSize i t)))) t
-  moved-restarted clock target v q =
+  moved-retried clock target v q =
       let new : List ℕ = requestBytes (restartedTo clock target (requestOf (entry recordSize i t))) in
       let n : length new ≡ 54 = restarted-long clock target (entry recordSize i t) long in
       q ∙ rw (entry-moved, e) (overwritten-again (place * 54) (entry 54 i t) new t (omega (arith, long)) (omega (arith, fits, long)))

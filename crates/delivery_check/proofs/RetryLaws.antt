@@ -49,7 +49,7 @@ aim-other (peer ∷ peers) gate first other g e o failed =
 
 -- ---- marking
 
-mark-none : (peer : ℕ) (id : Id) (rs : List Request) → isAmong id (idsOf rs) ≡ false → markRetried peer id rs ≡ rs
+pub mark-none : (peer : ℕ) (id : Id) (rs : List Request) → isAmong id (idsOf rs) ≡ false → markRetried peer id rs ≡ rs
 unfolding isAmong
 mark-none peer id [] h = refl
 mark-none peer id (r ∷ rs) h =
@@ -65,7 +65,7 @@ mark-past (i ∷ items) r rs h =
     let n = neither (same (r .id) (i .id)) (isAmong (r .id) (map (λ (j : Item). j .id) items)) h in
     rw (n .0) (mark-past items r (markRetried (i .peer) (i .id) rs) (n .1))
 
-not-among-later : (id : Id) (ids : List Id) → All (λ (other : Id). before id other ≡ true) ids → isAmong id ids ≡ false
+pub not-among-later : (id : Id) (ids : List Id) → All (λ (other : Id). before id other ≡ true) ids → isAmong id ids ≡ false
 unfolding isAmong
 not-among-later id [] h = refl
 not-among-later id (other ∷ ids) h = rw (before-not-same id other (h .0), not-among-later id ids (h .1))

@@ -9,7 +9,7 @@ ghost use Rattle.fields.specs.Overwrite.{overwritten};
 ghost use Rattle.model.specs.Check.{retryTarget};
 ghost use Rattle.model.specs.Image.{recordSize, requestOf, requestBytes};
 ghost use Rattle.model.specs.Lists.{peersIn};
-ghost use Rattle.model.specs.Delivery.{Request, verdict};
+ghost use Rattle.model.specs.Delivery.{Request, verdict, restarted, withPeer, markRetried};
 ghost use Rattle.settings.specs.Values.{settingsOf};
 ghost use Rattle.requests.specs.Pending.{requestsIn, holding};
 ghost use Rattle.delivery_check.specs.Checked.{aimedAt, pendingAfterCheck, checkedAs, retriedPlaces};
@@ -87,17 +87,34 @@ fn verdict_at(table: &[u8], i: usize, settings: Settings, clock: u64) -> Verdict
     Verdict::Retried
 }
 
-// The record of request i written anew: its peer, its stamp, its checks.
-fn restart(table: &mut [u8], i: usize, clock: u64, aim: Aim)
+// The stamp and the checks of request i written anew.
+fn restart(table: &mut [u8], i: usize, clock: u64)
+    requires { ⌜ (i * 54 + 54 ≤ length (now table)) × (requestOf (entry recordSize i (now table)) .checks + 1 < 2 ^ 32) ⌝ }
+    ensures { λ _. ⌜ now (table .exit) ≡ overwritten (i * 54) (requestBytes (restarted clock (requestOf (entry recordSize i (now (table .entry)))))) (now (table .entry)) ⌝ }
+{
+    let at = i * 54;
+    let checks = fields::read_u32(table, at + 50);
+    fields::write_u64(table, at + 42, clock);
+    fields::write_u32(table, at + 50, checks + 1);
+}
+
+// The peer of request i becomes the one now asked. Where ids rise this is the model's markRetried of its id.
+pub fn mark_retried(table: &mut [u8], i: usize, peer: u64)
+    requires { ⌜ i * 54 + 54 ≤ length (now table) ⌝ }
+    ensures { λ _. ⌜ now (table .exit) ≡ overwritten (i * 54) (requestBytes (withPeer peer (requestOf (entry recordSize i (now (table .entry)))))) (now (table .entry)) ⌝ }
+    ensures { λ _. ⌜ ((count : ℕ) → i < count → count * 54 ≤ length (now (table .entry)) → rising 32 (entries 54 count (now (table .entry))) ≡ true → requestsIn count (now (table .exit)) ≡ markRetried peer (requestOf (entry recordSize i (now (table .entry))) .id) (requestsIn count (now (table .entry)))) ⌝ }
+{
+    fields::write_u64(table, i * 54 + 32, peer);
+}
+
+// Request i is asked again, of its target.
+fn retry(table: &mut [u8], i: usize, clock: u64, aim: Aim)
     requires { ⌜ (i * 54 + 54 ≤ length (now table)) × (requestOf (entry recordSize i (now table)) .checks + 1 < 2 ^ 32) ⌝ }
     ensures { λ _. ⌜ now (table .exit) ≡ overwritten (i * 54) (requestBytes (restartedTo clock (aimedAt aim) (requestOf (entry recordSize i (now (table .entry)))))) (now (table .entry)) ⌝ }
 {
-    let at = i * 54;
-    let peer = fields::read_u64(table, at + 32);
-    let checks = fields::read_u32(table, at + 50);
-    fields::write_u64(table, at + 32, target(aim, peer));
-    fields::write_u64(table, at + 42, clock);
-    fields::write_u32(table, at + 50, checks + 1);
+    restart(table, i, clock);
+    let failed = fields::read_u64(table, i * 54 + 32);
+    mark_retried(table, i, target(aim, failed));
 }
 
 // Request i, with `counts` made up so far: its record moves down behind those that stay, or stays behind them to be
@@ -134,7 +151,7 @@ fn turn(
         }
         Verdict::Retried => {
             table::keep::move_entry(table, 54, i, place);
-            restart(table, place, clock, aim);
+            retry(table, place, clock, aim);
             places[retried] = place as u16;
             Checked {
                 pending: place + 1,

@@ -1,15 +1,14 @@
--- By the verdict; a retried record is moved and written anew where it goes (`moved-restarted`).
+-- By the verdict; a retried record is moved and restarted where it goes (`moved-retried`).
 use Rattle.fields.specs.Entries.{entry}
 use Rattle.model.specs.Delivery.{verdict, waiting, retried, abandoned, forgotten}
 use Rattle.model.specs.Image.{recordSize, requestOf}
 use Rattle.settings.specs.Values.{settingsOf}
 use Rattle.delivery_check.specs.Checked.{aimedAt}
 use Rattle.delivery_check.specs.Turn.{verdictOf}
-use Rattle.delivery_check.proofs.RecordLaws.{entry-moved, moved-length, moved-restarted}
+use Rattle.delivery_check.proofs.RecordLaws.{entry-moved, moved-length, moved-retried}
 use borrow.Author.Needs.{needs}
 use native.Mathlib.Nat.{mul-le-mul-right}
 use native.Mathlib.Omega.{arith}
-use Prim.Native.Nat.{_-_}
 use mathlib.Core.Path.{_≡_, refl, sym, ap, _∙_}
 use Rattle.delivery_check.proofs.check.turn.Statement.{statement}
 use Rattle.delivery_check.proofs.check.turn.Tie as tie
@@ -32,8 +31,8 @@ enum-told-2 c = search needs
 move-entry-requires-2 : tie.Need-move-entry-requires-2
 move-entry-requires-2 c κs = search needs
 
-restart-requires : tie.Need-restart-requires
-restart-requires c κs = let s = c .before .before .before .before .before .before .before .before .before .before .before in
+retry-requires : tie.Need-retry-requires
+retry-requires c κs = let s = c .before .before .before .before .before .before .before .before .before .before .before in
     let a = s .args in
     let u = c .before .before .before .move-entry2 in
     let e = entry-moved (a .i) (a .counts .pending) (a .table .now) (u .last .0) (s .pre .1 .0 .0) (s .pre .0 .0) (u .ensures) in
@@ -84,7 +83,7 @@ returns-2 : tie.Need-returns-2
 returns-2 c = let s = c .before .before .before .before .before .before .before .before .before .before .before .before .before .before .args in
     let e : verdict (settingsOf (s .settings)) (s .clock) (requestOf (entry recordSize (s .i) (s .table .now))) ≡ retried = sym (c .before .before .before .before .before .before .before .before .before .before .verdict-at .ensures) ∙ ap verdictOf (c .before .before .before .before .before .before .before .before .enum-told2 .given .1) in
     let p = c .before .before .before .before .before .before .before .before .before .before .before .before .before .before .pre in
-    rw e (refl, (moved-restarted (s .i) (s .counts .pending) (s .table .now) (c .before .before .before .before .before .before .move-entry2 .last .0) (p .1 .0 .0) (p .0 .0) (c .before .before .before .before .before .before .move-entry2 .ensures) (s .clock) (aimedAt (s .aim)) (c .before .before .restart .last .0) (c .before .before .restart .ensures), refl))
+    rw e (refl, (moved-retried (s .i) (s .counts .pending) (s .table .now) (c .before .before .before .before .before .before .move-entry2 .last .0) (p .1 .0 .0) (p .0 .0) (c .before .before .before .before .before .before .move-entry2 .ensures) (s .clock) (aimedAt (s .aim)) (c .before .before .retry .last .0) (c .before .before .retry .ensures), refl))
 
 same-length-4 : tie.Need-same-length-4
 same-length-4 c = search needs
@@ -112,7 +111,7 @@ turn-spec =
     add-t19
     enum-told-2
     move-entry-requires-2
-    restart-requires
+    retry-requires
     cast-places
     mul-places
     slice-write-places
