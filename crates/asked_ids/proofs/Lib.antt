@@ -1,2 +1,3 @@
 mod OrphanLaws
 mod IdsLaws
+mod FreshLaws

@@ -106,7 +106,7 @@ fn check_fresh_with(
     asks::ask_list(region, before, call, 101, peer, stored, &fresh[..size], out)
 }
 
-// A check; then the evicted ids go out as headers.
+// A check; then the evicted ids go out as headers. Mostly there are none, and it is a plain check.
 pub fn check_fresh(
     region: &mut [u8],
     head: Head,
@@ -123,6 +123,9 @@ pub fn check_fresh(
     requires { ⌜ (at + 49152 ≤ length (now out)) × (batch + 1026 < 65536) ⌝ }
     ensures { λ r. ⌜ ((st : State) (c : calls.Call) (ids view : List ℕ) → Given head (now (region .entry)) call ids (now (stored .entry)) (now (peers .entry)) view st c → (downloaded : ℕ) → Performs at batch (workedBy st c downloaded (works.CheckFresh peer)) (now (out .entry)) r (now (region .exit)) (now (out .exit))) ⌝ }
 {
+    if head.evicted == 0 {
+        return region_check::check(region, head, call, peers, out, at, batch);
+    }
     let mut fresh = [0u8; 32768];
     check_fresh_with(
         region,
