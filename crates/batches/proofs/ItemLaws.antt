@@ -2,17 +2,16 @@
 use Prim.Native.Nat.{ℕ, suc, _+_, _-_, _*_, _≤_, _<_}
 use mathlib.Core.Path.{_≡_, sym, ap, _∙_}
 use mathlib.Core.Bool.{Bool, true, false, cond, _&&_}
-use mathlib.Core.List.{List, [], _∷_, map}
+use mathlib.Core.List.{List, [], _∷_}
 use native.Mathlib.Omega.{arith}
-use native.Mathlib.Numerals.{add-one}
 use lib.Dec.{eqb}
 use lib.ListN.{length, take, drop, getD, drop-of-length-le}
-use lib.Seq.{drop-cons}
 use Rattle.fields.specs.Facts.{Bytes}
 use Rattle.fields.specs.Number.{fromBe}
 use Rattle.fields.specs.Entries.{entry}
 use Rattle.fields.proofs.NumberLaws.{bytes-take, bytes-drop}
-use Rattle.fields.proofs.EntriesLaws.{entry-field, entry-front}
+use Rattle.fields.proofs.EntriesLaws.{entry-field}
+use Rattle.places.proofs.MappedLaws.{next-mapped}
 use Rattle.model.specs.Image.{recordSize, requestOf}
 use Rattle.model.specs.Sections.{Item}
 use Rattle.batches.specs.Items.{itemOf, itemAt, itemsAt, alike, span}
@@ -34,10 +33,6 @@ module _ (i : ℕ) (t : List ℕ) where
   type-read = ap fromBe (sym (entry-field 54 i 40 2 t (omega arith)))
 
 module _ (t : List ℕ) where
-  pub item-id : (place : ℕ) → itemAt t place .id ≡ take 32 (drop (place * 54) t)
-  unfolding itemAt itemOf requestOf
-  item-id place = entry-front 54 place 32 t (omega arith)
-
   pub item-type : (place : ℕ) → fromBe (take 2 (drop (place * 54 + 40) t)) ≡ itemAt t place .typeId
   unfolding itemAt itemOf
   item-type place = type-read place t
@@ -57,9 +52,6 @@ module _ (t : List ℕ) where
       rw (fa, fb, fc, fd)
 
 -- ---- where a batch ends
-
-pub next-mapped {κ} : {B : Type κ} (f : ℕ → B) (places : List ℕ) (i : ℕ) → i < length places → map f (drop i places) ≡ f (getD places i 0) ∷ map f (drop (i + 1) places)
-next-mapped f places i h = rw (add-one, drop-cons places i 0 h)
 
 pub span-le : (test : Item → Bool) (items : List Item) → span test items ≤ length items
 span-le test [] = omega arith

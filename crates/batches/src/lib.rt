@@ -23,19 +23,13 @@ pub struct Batches {
     pub count: usize,
 }
 
-pub fn wide(x: u16) -> usize
-    ensures { λ r. ⌜ r ≡ x ⌝ }
-{
-    x as usize
-}
-
 // Whether the records at two places go into one batch.
 fn same_batch(table: &[u8], one: u16, other: u16) -> bool
     requires { ⌜ (one * 54 + 54 ≤ length (now table)) × (other * 54 + 54 ≤ length (now table)) ⌝ }
     ensures { λ r. ⌜ r ≡ alike (itemAt (now (table .entry)) one) (itemAt (now (table .entry)) other) ⌝ }
 {
-    let a = wide(one) * 54;
-    let b = wide(other) * 54;
+    let a = places::wide(one) * 54;
+    let b = places::wide(other) * 54;
     (fields::read_u16(table, a + 40) == fields::read_u16(table, b + 40))
         & (fields::read_u64(table, a + 32) == fields::read_u64(table, b + 32))
 }
@@ -61,7 +55,7 @@ pub fn next_batch(table: &[u8], places: &[u16], first: usize) -> Batch
     ensures { λ r. ⌜ r ≡ batchAt (now (table .entry)) (now (places .entry)) first ⌝ }
 {
     let end = batch_end(table, places, first);
-    let at = wide(places[first]) * 54;
+    let at = places::wide(places[first]) * 54;
     Batch {
         target: fields::read_u64(table, at + 32),
         typeid: fields::read_u16(table, at + 40) as u8,

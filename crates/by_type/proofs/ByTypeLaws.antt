@@ -1,8 +1,8 @@
 -- Pairs sorted by type are asked for type by type.
-use Prim.Native.Nat.{ℕ, zero, suc, _+_, _-_, _*_, _/_, _%_, _^_, _≤_, _<_}
+use Prim.Native.Nat.{ℕ, suc, _+_, _-_, _*_, _/_, _%_, _^_, _≤_, _<_}
 use mathlib.Core.Path.{_≡_, refl, sym, ap, _∙_}
 use mathlib.Core.Bool.{Bool, true, false, cond, _&&_, _||_}
-use mathlib.Core.List.{List, [], _∷_, _++_, map}
+use mathlib.Core.List.{List, [], _∷_, map}
 use native.Mathlib.Omega.{arith}
 use native.Mathlib.Nat.{lt-irrefl}
 use lib.Dec.{eqb, ltb}
@@ -20,6 +20,7 @@ use Rattle.fields.proofs.AllLaws.{all-map, entries-all}
 use Rattle.fields.proofs.TotalLaws.{total}
 use Rattle.places.specs.Numbers.{numbersFrom}
 use Rattle.places.proofs.NumberedLaws.{numbered-entries}
+use Rattle.places.proofs.MappedLaws.{next-mapped, drop-map, take-map}
 use Rattle.order.specs.Places.{keyAt, keyBelow}
 use Rattle.model.specs.Protocol.{Id}
 use Rattle.model.specs.Sections.{Item, itemBelow, Batch, adjacent, batchesOf}
@@ -32,18 +33,8 @@ use Rattle.requests.proofs.RunLaws.{take-ids, drop-ids}
 use Rattle.pairs.specs.Pairs.{Within, pairsAt, idsAt, typeAt, placesByType, ofType}
 use Rattle.by_type.specs.ByType.{pairItem, asksByType, asksOf}
 use Rattle.announced.proofs.RequestedLaws.{all-ids}
-use Rattle.pairs.proofs.PlacesLaws.{next-mapped, ids-wide, length-ids}
+use Rattle.pairs.proofs.PlacesLaws.{ids-wide, length-ids}
 use Rattle.pairs.proofs.FrontLaws.{all-within}
-
-drop-map {ℓ κ} : {A : Type ℓ} {B : Type κ} (f : A → B) (i : ℕ) (xs : List A) → drop i (map f xs) ≡ map f (drop i xs)
-drop-map f zero xs = refl
-drop-map f (suc i) [] = refl
-drop-map f (suc i) (x ∷ xs) = drop-map f i xs
-
-take-map {ℓ κ} : {A : Type ℓ} {B : Type κ} (f : A → B) (i : ℕ) (xs : List A) → take i (map f xs) ≡ map f (take i xs)
-take-map f zero xs = refl
-take-map f (suc i) [] = refl
-take-map f (suc i) (x ∷ xs) = ap (λ ys. f x ∷ ys) (take-map f i xs)
 
 -- ---- the first run of some pairs
 

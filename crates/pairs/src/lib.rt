@@ -6,7 +6,6 @@ ghost use Prim.Native.Nat.{suc, _+_, _*_, _/_, _≤_, _<_};
 ghost use lib.ListN.{length, take, drop, getD};
 ghost use Rattle.fields.specs.Facts.{All};
 ghost use Rattle.fields.specs.Entries.{joined};
-ghost use Rattle.fields.specs.Overwrite.{overwritten};
 ghost use Rattle.pairs.specs.Pairs.{Within, pairsAt, idsAt, typeAt, placesByType, ofType};
 
 fn number_and_sort(pairs: &[u8], places: &mut [u16], spare: &mut [u16])
@@ -63,26 +62,12 @@ pub fn type_end(pairs: &[u8], places: &[u16], first: usize) -> usize
     end
 }
 
-// The ids of the pairs at `places`, one after another at the front of `ids`.
-fn gather(pairs: &[u8], places: &[u16], ids: &mut [u8])
-    requires { ⌜ All (Within (now pairs)) (now places) × (length (now places) * 32 ≤ length (now ids)) ⌝ }
-    ensures { λ _. ⌜ now (ids .exit) ≡ overwritten 0 (joined (idsAt (now (pairs .entry)) (now (places .entry)))) (now (ids .entry)) ⌝ }
-{
-    let mut i = 0;
-    while i < places.len() {
-        let from = places::wide(places[i]) * 33 + 1;
-        let end = from + 32;
-        moving::overwrite(ids, i * 32, &pairs[from..end]);
-        i += 1;
-    }
-}
-
 // The ids of the pairs at `places`, one after another.
 pub fn ids_at(pairs: &[u8], places: &[u16]) -> [u8; 32768]
     requires { ⌜ All (Within (now pairs)) (now places) × (length (now places) ≤ 1024) ⌝ }
     ensures { λ r. ⌜ take (length (now (places .entry)) * 32) r ≡ joined (idsAt (now (pairs .entry)) (now (places .entry))) ⌝ }
 {
     let mut ids = [0u8; 32768];
-    gather(pairs, places, &mut ids);
+    gathering::gather(pairs, 33, 1, places, &mut ids);
     ids
 }

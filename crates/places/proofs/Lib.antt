@@ -1,1 +1,2 @@
 pub mod NumberedLaws
+pub mod MappedLaws

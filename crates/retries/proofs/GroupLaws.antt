@@ -1,6 +1,6 @@
 -- Neighbours of one target and type as one batch.
-use Prim.Native.Nat.{ℕ, zero, suc, _+_, _-_, _*_, _/_, _%_, _≤_, _<_}
-use mathlib.Core.Path.{_≡_, refl, sym, ap, _∙_}
+use Prim.Native.Nat.{ℕ, suc, _+_, _-_, _*_, _/_, _%_, _≤_, _<_}
+use mathlib.Core.Path.{_≡_, refl, sym, ap, _∙_, subst}
 use mathlib.Core.Bool.{Bool, true, false, cond, _&&_}
 use mathlib.Core.List.{List, [], _∷_, _++_, map, append-assoc, append-nil}
 use native.Mathlib.Omega.{arith}
@@ -15,12 +15,15 @@ use Rattle.fields.specs.Entries.{entry, joined}
 use Rattle.fields.specs.Overwrite.{overwritten}
 use Rattle.fields.specs.Sort.{sorted}
 use Rattle.fields.proofs.OrderLaws.{and-left, and-right, before-append, before-number, same-number}
-use Rattle.fields.proofs.OverwriteLaws.{length-overwritten, overwritten-next, overwritten-nil, overwritten-all}
+use Rattle.fields.proofs.OverwriteLaws.{length-overwritten, overwritten-next, overwritten-nil}
 use Rattle.fields.proofs.EntriesLaws.{length-entry, length-joined, entries-joined, Wide}
 use Rattle.fields.proofs.NumberLaws.{bytes-take, bytes-drop}
 use Rattle.fields.proofs.PartLaws.{part-below, length-part}
 use Rattle.fields.proofs.SortLaws.{map-sorted, all-sorted, length-sorted}
-use Rattle.fields.proofs.AllLaws.{all-at, all-drop, all-map}
+use Rattle.fields.proofs.AllLaws.{all-map, all-weaker}
+use Rattle.places.proofs.MappedLaws.{next-mapped, drop-map, take-map}
+use Rattle.gathering.specs.Gathered.{gathered}
+use Rattle.gathering.proofs.GatheredLaws.{gathered-wide, length-gathered, gathered-all}
 use Rattle.order.specs.Places.{keyAt, keyBelow}
 use Rattle.model.specs.Protocol.{Id}
 use Rattle.model.specs.Image.{recordSize, requestOf}
@@ -34,20 +37,8 @@ use Rattle.model.proofs.SendingLaws.{retries-sent-well, sendings-bytes, retries
 use Rattle.requests.specs.Sent.{sentBytes}
 use Rattle.requests.proofs.RunLaws.{take-ids, drop-ids}
 use Rattle.batches.specs.Items.{itemOf, Asked, itemAt, itemsAt, alike, span}
-use Rattle.batches.proofs.ItemLaws.{entry-bytes, item-id, next-mapped, span-le}
+use Rattle.batches.proofs.ItemLaws.{entry-bytes, span-le}
 use Rattle.retries.specs.Batches.{idsAt, sendingsOf}
-
--- ---- a list mapped, from an index on
-
-pub drop-map {ℓ κ} : {A : Type ℓ} {B : Type κ} (f : A → B) (i : ℕ) (xs : List A) → drop i (map f xs) ≡ map f (drop i xs)
-drop-map f zero xs = refl
-drop-map f (suc i) [] = refl
-drop-map f (suc i) (x ∷ xs) = drop-map f i xs
-
-pub take-map {ℓ κ} : {A : Type ℓ} {B : Type κ} (f : A → B) (i : ℕ) (xs : List A) → take i (map f xs) ≡ map f (take i xs)
-take-map f zero xs = refl
-take-map f (suc i) [] = refl
-take-map f (suc i) (x ∷ xs) = ap (λ ys. f x ∷ ys) (take-map f i xs)
 
 -- ---- the first batch of some items
 
@@ -169,15 +160,22 @@ all-ids es w =
 -- ---- the records at the places
 
 module _ (t : List ℕ) where
-  id-long : (place : ℕ) → place * 54 + 54 ≤ length t → length (itemAt t place .id) ≡ 32
-  id-long place h = ap length (item-id t place) ∙ length-part (place * 54) 32 t (omega arith)
+  pub within : (places : List ℕ) → All (Asked t) places → All (λ (place : ℕ). place * 54 + 54 ≤ length t) places
+  within = all-weaker (Asked t) (λ (place : ℕ). place * 54 + 54 ≤ length t) (λ place h. h .0)
+
+  -- a record begins with its id
+  ids-taken : (places : List ℕ) → gathered 54 0 t places ≡ idsAt t places
+  unfolding itemAt itemOf requestOf
+  ids-taken places = refl
 
   pub ids-wide : (places : List ℕ) → All (Asked t) places → Wide 32 (idsAt t places)
-  ids-wide [] w = tt
-  ids-wide (place ∷ places) w = (id-long place (w .0 .0), ids-wide places (w .1))
+  ids-wide places w = subst (Wide 32) (ids-taken places) (gathered-wide 54 0 t (omega arith) places (within places w))
 
   pub length-ids : (places : List ℕ) → All (Asked t) places → length (joined (idsAt t places)) ≡ length places * 32
-  length-ids places w = length-joined 32 (idsAt t places) (ids-wide places w) ∙ rw (length-map places (λ (place : ℕ). itemAt t place .id))
+  length-ids places w = rw (ids-taken places) at (length-gathered 54 0 t (omega arith) places (within places w))
+
+  pub ids-alone : (places d ids : List ℕ) → All (Asked t) places → length d ≡ length places * 32 → ids ≡ overwritten 0 (joined (gathered 54 0 t places)) d → ids ≡ joined (idsAt t places)
+  ids-alone places d ids w l e = gathered-all 54 0 t (omega arith) places d ids (within places w) e l ∙ ap joined (ids-taken places)
 
   ids-of-items : (places : List ℕ) → map (λ (i : Item). i .id) (itemsAt t places) ≡ idsAt t places
   ids-of-items [] = refl
@@ -198,40 +196,6 @@ module _ (t : List ℕ) where
       ap (drop i) (sym (ids-of-items places)) ∙ drop-map (λ (j : Item). j .id) i (itemsAt t places) ∙ ap (map (λ (j : Item). j .id)) here in
       sym (take-ids k (drop (i * 32) ids) m) ∙ ap (take k) (sym (drop-ids i ids (rw l (whole-ids (length places)))) ∙ ap (drop i) a ∙ b)
       ∙ take-map (λ (j : Item). j .id) k (x ∷ xs) ∙ rw ek
-
--- The ids gathered from place i on: what is written, then the rest, is the whole.
-pub record Gathering (t places d ids : List ℕ) (i : ℕ) : Type 0 where
-  pub i-le : i ≤ length places
-  pub long : length ids ≡ length d
-  pub rest : overwritten (i * 32) (joined (idsAt t (drop i places))) ids ≡ overwritten 0 (joined (idsAt t places)) d
-
-pub gather-starts : (t places d : List ℕ) → Gathering t places d d 0
-gather-starts t places d = record { i-le = omega arith; long = refl; rest = refl }
-
-module _ (t places d ids : List ℕ) (i : ℕ) (g : Gathering t places d ids i) (w : All (Asked t) places) (room : length d ≡ length places * 32) where
-  pub gather-turn : i < length places → (x o : List ℕ) → x ≡ take 32 (drop (getD places i 0 * 54) t) → o ≡ overwritten (i * 32) x ids → Gathering t places d o (i + 1)
-  gather-turn h x o ex eo =
-      let place : ℕ = getD places i 0 in
-      let xi : x ≡ itemAt t place .id = ex ∙ sym (item-id t place) in
-      let a = all-at (Asked t) places i 0 h w in
-      let lx : length x ≡ 32 = ap length xi ∙ id-long t place (a .0) in
-      let T : List ℕ = joined (idsAt t (drop (i + 1) places)) in
-      let lT : length T ≡ length (drop (i + 1) places) * 32 = length-ids t (drop (i + 1) places) (all-drop (Asked t) (i + 1) places w) in
-      let ld : length (drop (i + 1) places) ≡ length places - (i + 1) = length-drop (i + 1) places in
-      let e : (i + 1) * 32 ≡ i * 32 + length x = omega arith in
-      let r : overwritten (i * 32) (x ++ T) ids ≡ overwritten 0 (joined (idsAt t places)) d =
-      rw xi (rw (next-mapped (λ (p : ℕ). itemAt t p .id) places i h) at (g .rest)) in
-      record {
-        i-le = omega arith;
-        long = rw eo (length-overwritten (i * 32) x ids (omega (arith, g .long))) ∙ g .long;
-        rest = rw (e, eo) (overwritten-next (i * 32) x T ids (omega (arith, g .long)) ∙ r);
-      }
-
-  pub gather-ends : length places ≤ i → ids ≡ joined (idsAt t places)
-  gather-ends h =
-      let z : drop i places ≡ [] = drop-of-length-le places {i = i} h in
-      let a : overwritten (i * 32) [] ids ≡ overwritten 0 (joined (idsAt t places)) d = rw z at (g .rest) in
-      sym (overwritten-nil (i * 32) ids) ∙ a ∙ overwritten-all (joined (idsAt t places)) d (length-ids t places w ∙ sym room)
 
 pub asked-both : (t places : List ℕ) → All (λ (place : ℕ). place * 54 + 54 ≤ length t) places → All (λ (place : ℕ). requestOf (entry recordSize place t) .typeId < 256) places → All (Asked t) places
 asked-both t [] a b = tt

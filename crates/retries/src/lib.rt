@@ -21,20 +21,6 @@ pub struct Written {
     pub batch: u16,
 }
 
-// The ids of the records at `places`, one after another.
-fn gather(table: &[u8], places: &[u16], ids: &mut [u8])
-    requires { ⌜ All (Asked (now table)) (now places) × (length (now ids) ≡ length (now places) * 32) ⌝ }
-    ensures { λ _. ⌜ now (ids .exit) ≡ joined (idsAt (now (table .entry)) (now (places .entry))) ⌝ }
-{
-    let mut i = 0;
-    while i < places.len() {
-        let from = batches::wide(places[i]) * 54;
-        let end = from + 32;
-        moving::overwrite(ids, i * 32, &table[from..end]);
-        i += 1;
-    }
-}
-
 // A list to fill.
 fn no_batches() -> [Batch; 1024] {
     let none = Batch {
@@ -108,7 +94,7 @@ fn put_retries(
     ensures { λ r. ⌜ r .batch ≡ batch + length (retrySendings (map (λ (place : ℕ). itemOf (requestOf (entry recordSize place (now (table .entry))))) (now (places .entry)))) ⌝ }
 {
     order::sort(table, 54, 32, 10, places, spare);
-    gather(table, places, ids);
+    gathering::gather(table, 54, 0, places, ids);
     put_batches(table, places, ids, out, at, batch)
 }
 

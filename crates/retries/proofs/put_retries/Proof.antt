@@ -2,7 +2,7 @@
 use borrow.Author.Needs.{needs}
 use native.Mathlib.Omega.{arith}
 use Rattle.fields.specs.Facts.{Bytes}
-use Rattle.retries.proofs.GroupLaws.{asked-both, sorted-asked, sorted-length, sorted-room, sorted-written}
+use Rattle.retries.proofs.GroupLaws.{within, ids-alone, asked-both, sorted-asked, sorted-length, sorted-room, sorted-written}
 use Rattle.retries.proofs.put_retries.Statement.{statement}
 use Rattle.retries.proofs.put_retries.Tie as tie
 
@@ -15,16 +15,21 @@ gather-requires c κs = let s = c .before .before .before .before .before .befor
     let bytes : Bytes t = λ i. omega (arith, c .before .before .before .before .before .before .before .before .before .before .before .before .before .shared-slice-known .given i) in
     let w = asked-both t (s .args .places .now) (s .pre .0) (s .pre .1 .0) in
     let places = c .before .before .before .before .before .before .sort .last .1 .1 .1 .1 .0 in
-    (sorted-asked t bytes (s .args .places .now) places w (c .before .before .before .before .before .before .sort .ensures), omega (arith, sorted-length t bytes (s .args .places .now) places w (c .before .before .before .before .before .before .sort .ensures), s .pre .1 .1 .0))
+    let e = c .before .before .before .before .before .before .sort .ensures in
+    (within t places (sorted-asked t bytes (s .args .places .now) places w e), (omega arith, omega (arith, sorted-length t bytes (s .args .places .now) places w e, s .pre .1 .1 .0)))
 
 put-batches-requires : tie.Need-put-batches-requires
 put-batches-requires c κs = let s = c .before .before .before .before .before .before .before .before .before .before .before .before .before .before .before .before .before .before .before .before in
     let t = s .args .table .now in
     let bytes : Bytes t = λ i. omega (arith, c .before .before .before .before .before .before .before .before .before .before .before .before .before .before .before .before .before .before .before .shared-slice-known .given i) in
     let w = asked-both t (s .args .places .now) (s .pre .0) (s .pre .1 .0) in
-    let places = c .before .before .before .before .before .before .before .before .before .before .before .before .sort .last .1 .1 .1 .1 .0 in (
-      (sorted-asked t bytes (s .args .places .now) places w (c .before .before .before .before .before .before .before .before .before .before .before .before .sort .ensures), (c .before .before .before .before .before .gather .ensures, omega (arith, sorted-length t bytes (s .args .places .now) places w (c .before .before .before .before .before .before .before .before .before .before .before .before .sort .ensures), s .pre .1 .1 .1))),
-      (omega (arith, sorted-room t bytes (s .args .places .now) places w (c .before .before .before .before .before .before .before .before .before .before .before .before .sort .ensures) (s .args .batch), s .pre .1 .1 .1), omega (arith, sorted-length t bytes (s .args .places .now) places w (c .before .before .before .before .before .before .before .before .before .before .before .before .sort .ensures), s .pre .1 .1 .1)),
+    let places = c .before .before .before .before .before .before .before .before .before .before .before .before .sort .last .1 .1 .1 .1 .0 in
+    let e = c .before .before .before .before .before .before .before .before .before .before .before .before .sort .ensures in
+    let asked = sorted-asked t bytes (s .args .places .now) places w e in
+    let long = sorted-length t bytes (s .args .places .now) places w e in
+    let g = c .before .before .before .before .before .gather in (
+      (asked, (ids-alone t places (s .args .ids .now) (g .last .1 .1 .1 .1 .0) asked (omega (arith, long, s .pre .1 .1 .0)) (g .ensures), omega (arith, long, s .pre .1 .1 .1))),
+      (omega (arith, sorted-room t bytes (s .args .places .now) places w e (s .args .batch), s .pre .1 .1 .1), omega (arith, long, s .pre .1 .1 .1)),
     )
 
 same-length : tie.Need-same-length
