@@ -2,23 +2,6 @@
 //
 // The input is a list of cases: `%`, the case's name to the end of the line, then the case's input up to the next `%`.
 // For each the name is printed, and then what `keeper` prints.
-ghost use Prim.Native.Nat.{_≤_};
-ghost use lib.ListN.{length};
-
-// The index of the first `stop` from `from` on, or the length.
-fn find(text: &[u8], from: usize, stop: u8) -> usize
-    requires { ⌜ from ≤ length (now text) ⌝ }
-    ensures { λ r. ⌜ (from ≤ r) × (r ≤ length (now (text .entry))) ⌝ }
-{
-    let mut i = from;
-    while i < text.len() {
-        if text[i] == stop {
-            return i;
-        }
-        i += 1;
-    }
-    i
-}
 
 // What the program prints of an input of at most 1,536 bytes.
 fn print(input: &[u8]) {
@@ -33,7 +16,7 @@ fn print(input: &[u8]) {
 
 // One case, from its name on.
 fn case(text: &[u8]) {
-    let end = find(text, 0, b'\n');
+    let end = bytes::scan::find(text, 0, text.len(), b'\n');
     io::write_all(1, b"%");
     io::write_all(1, &text[..end]);
     io::write_all(1, b"\n");
@@ -44,10 +27,10 @@ fn case(text: &[u8]) {
 }
 
 fn cases(text: &[u8]) {
-    let mut from = find(text, 0, b'%');
+    let mut from = bytes::scan::find(text, 0, text.len(), b'%');
     while from < text.len() {
         let name = from + 1;
-        let end = find(text, name, b'%');
+        let end = bytes::scan::find(text, name, text.len(), b'%');
         case(&text[name..end]);
         from = end;
     }
