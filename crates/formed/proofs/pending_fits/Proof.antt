@@ -1,6 +1,6 @@
 -- The region is the rest of the area; settings and clock are the header's.
 use Prim.Native.Nat.{_-_}
-use mathlib.Core.Path.{_≡_, _∙_}
+use mathlib.Core.Path.{_≡_}
 use native.Mathlib.Omega.{arith}
 use lib.ListN.{length-drop, length, take, drop}
 use lib.Seq.{take-all}
@@ -37,7 +37,7 @@ returns c =
     let count = c .before .before .before .count-at in
     let clock = c .before .before .before .before .read-u64 in
     let rest : take (length area - 2560) (drop 2560 area) ≡ drop 2560 area = take-all (length area - 2560) (drop 2560 area) (rw (length-drop 2560 area) (omega arith)) in
-    c .records-fit .ensures ∙ pending-read area (take (length area - 2560) (drop 2560 area)) (settings .result) (clock .result) (count .result) (settings .ensures) (clock .ensures) (count .ensures) rest
+    pending-read area (take (length area - 2560) (drop 2560 area)) (settings .result) (clock .result) (count .result) (settings .ensures) (clock .ensures) (count .ensures) rest (c .records-fit .result) (c .records-fit .ensures)
 
 pub pending-fits-spec : {M : Type 1} → statement M
 pending-fits-spec =
