@@ -52,7 +52,43 @@ pub fn unasked_counts(pending: usize, evicted: usize, at: usize, batch: u16) -> 
     }
 }
 
-// One list of ids.
+// `rest` is room to work in.
+fn ask_list_with(
+    region: &mut [u8],
+    before: Counts,
+    call: Call,
+    typeid: u8,
+    peer: u64,
+    stored: &[u8],
+    ids: &[u8],
+    rest: &mut [u8],
+    out: &mut [u8],
+) -> Performed
+    requires { ⌜ (length (now ids) % 32 ≡ 0) × ((length (now ids) ≤ 32768) × ((length (now ids) ≤ length (now rest)) × ((before .pending + before .evicted ≤ 1024) × (55296 ≤ length (now region))))) ⌝ }
+    requires { ⌜ rising 32 (entries 54 (before .pending) (now region)) ≡ true ⌝ }
+    requires { ⌜ pairsFit (now stored) ≡ true ⌝ }
+    requires { ⌜ (before .at + length (now ids) / 32 * 48 ≤ length (now out)) × (before .batch + 1 < 65536) ⌝ }
+    ensures { λ r. ⌜ Asks (eqb (call .gate) 1) (call .clock) (ask typeid peer (pairsIn (now (stored .entry))) (idsIn (now (ids .entry))) ∷ []) before (now (region .entry)) (now (out .entry)) r (now (region .exit)) (now (out .exit)) ⌝ }
+{
+    let asked = announced::request::request_announced(
+        region,
+        before.pending,
+        1024 - before.evicted,
+        call.gate == 1,
+        call.clock,
+        typeid,
+        peer,
+        stored,
+        ids,
+        rest,
+        out,
+        before.at,
+        before.batch,
+    );
+    answer(asked, before)
+}
+
+// One list of ids. Mostly they are few, and so is the room to clear for them.
 pub fn ask_list(
     region: &mut [u8],
     before: Counts,
@@ -69,23 +105,32 @@ pub fn ask_list(
     requires { ⌜ (before .at + length (now ids) / 32 * 48 ≤ length (now out)) × (before .batch + 1 < 65536) ⌝ }
     ensures { λ r. ⌜ Asks (eqb (call .gate) 1) (call .clock) (ask typeid peer (pairsIn (now (stored .entry))) (idsIn (now (ids .entry))) ∷ []) before (now (region .entry)) (now (out .entry)) r (now (region .exit)) (now (out .exit)) ⌝ }
 {
+    if ids.len() <= 1024 {
+        let mut few = [0u8; 1024];
+        return ask_list_with(
+            region,
+            before,
+            call,
+            typeid,
+            peer,
+            stored,
+            ids,
+            &mut few,
+            out,
+        );
+    }
     let mut rest = [0u8; 32768];
-    let asked = announced::request::request_announced(
+    ask_list_with(
         region,
-        before.pending,
-        1024 - before.evicted,
-        call.gate == 1,
-        call.clock,
+        before,
+        call,
         typeid,
         peer,
         stored,
         ids,
         &mut rest,
         out,
-        before.at,
-        before.batch,
-    );
-    answer(asked, before)
+    )
 }
 
 // Pairs of type and id, one list a type.

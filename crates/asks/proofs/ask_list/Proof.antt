@@ -1,27 +1,14 @@
--- One list is one act: `list-asked`.
+-- Room for 32 ids where that is enough, else for 1,024.
 use borrow.Author.Needs.{needs}
 use native.Mathlib.Omega.{arith}
-use lib.Dec.{eqb}
-use Rattle.model.specs.Requests.{ask}
-use Rattle.model.specs.Lists.{idsIn, pairsIn}
-use Rattle.asks.proofs.AskedLaws.{list-asked}
 use Rattle.asks.proofs.ask_list.Statement.{statement}
 use Rattle.asks.proofs.ask_list.Tie as tie
 
-sub-request-announced : tie.Need-sub-request-announced
-sub-request-announced c = search needs
+slice-aggregate-ask-list-with : tie.Need-slice-aggregate-ask-list-with
+slice-aggregate-ask-list-with c = search needs
 
-slice-aggregate-request-announced : tie.Need-slice-aggregate-request-announced
-slice-aggregate-request-announced c = search needs
-
-request-announced-requires : tie.Need-request-announced-requires
-request-announced-requires c κs = let s = c .before .before .before .before .before .before .before .before .before in (
-  (s .pre .0 .0, (s .pre .0 .1 .0, (omega (arith, s .pre .0), (omega arith, omega (arith, s .pre .0))))),
-  (s .pre .1 .0, (s .pre .1 .1 .0, (omega (arith, s .pre .0), s .pre .1 .1 .1))),
-)
-
-answer-requires : tie.Need-answer-requires
-answer-requires c κs = search needs
+ask-list-with-requires : tie.Need-ask-list-with-requires
+ask-list-with-requires c κs = let s = c .before .before .before .before .before .before .before .before in ((s .pre .0 .0, (s .pre .0 .1 .0, (omega (arith, c .before .before .before .if1 .taken), s .pre .0 .1 .1))), s .pre .1)
 
 same-length : tie.Need-same-length
 same-length c = search needs
@@ -30,20 +17,34 @@ same-length-2 : tie.Need-same-length-2
 same-length-2 c = search needs
 
 returns : tie.Need-returns
-returns c = let s = c .before .before .before .before .before .before .before .before .before .before .before .before .before .before .before .before in
-    let a = s .args in
-    let m = c .before .before .before .before .before .before .request-announced in
-    list-asked (eqb (a .call .gate) 1) (a .call .clock) (ask (a .typeid) (a .peer) (pairsIn (a .stored .now)) (idsIn (a .ids .now))) (a .before) (a .region .now) (a .out .now) (m .result) (c .answer .result) (m .last .0) (m .last .1 .1 .1 .1 .1 .1 .1 .1 .1 .1 .0)
-    (m .ensures .0) (c .answer .ensures) (m .ensures .1 .0) (m .ensures .1 .1)
+returns c = search needs
+
+slice-aggregate-ask-list-with-2 : tie.Need-slice-aggregate-ask-list-with-2
+slice-aggregate-ask-list-with-2 c = search needs
+
+ask-list-with-requires-2 : tie.Need-ask-list-with-requires-2
+ask-list-with-requires-2 c κs = let s = c .before .before .before .before .before .before .before .before in ((s .pre .0 .0, (s .pre .0 .1 .0, (omega (arith, s .pre .0 .1 .0), s .pre .0 .1 .1))), s .pre .1)
+
+same-length-3 : tie.Need-same-length-3
+same-length-3 c = search needs
+
+same-length-4 : tie.Need-same-length-4
+same-length-4 c = search needs
+
+returns-2 : tie.Need-returns-2
+returns-2 c = search needs
 
 pub ask-list-spec : {M : Type 1} → statement M
 ask-list-spec =
     tie.close
     (tie.spec
-    sub-request-announced
-    slice-aggregate-request-announced
-    request-announced-requires
-    answer-requires
+    slice-aggregate-ask-list-with
+    ask-list-with-requires
     same-length
     same-length-2
-    returns)
+    returns
+    slice-aggregate-ask-list-with-2
+    ask-list-with-requires-2
+    same-length-3
+    same-length-4
+    returns-2)
