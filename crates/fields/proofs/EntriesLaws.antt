@@ -236,6 +236,14 @@ entries-then width n e s l h =
     let k : length (take (n * width) s) ≡ n * width = length-take-le (n * width) s (omega arith) in
     rw (entries-cut width n 1 (take (n * width) s) (e ++ drop (n * width + length e) s) k, entries-take width n (n * width) s (omega arith) (omega arith), entries-cons width 0 e (drop (n * width + length e) s) l)
 
+-- k entries written behind the first n
+pub entries-behind : (width n k : ℕ) (es s : List ℕ) → length es ≡ k * width → n * width + k * width ≤ length s
+    → entries width (n + k) (overwritten (n * width) es s) ≡ entries width n s ++ entries width k es
+unfolding overwritten
+entries-behind width n k es s l h =
+    let t : length (take (n * width) s) ≡ n * width = length-take-le (n * width) s (omega arith) in
+    rw (entries-cut width n k (take (n * width) s) (es ++ drop (n * width + length es) s) t, entries-take width n (n * width) s (omega arith) (omega arith), entries-front width k es (drop (n * width + length es) s) (omega arith))
+
 -- ---- a field, some bytes of an entry
 
 pub entry-field : (width i at size : ℕ) (bytes : List ℕ) → at + size ≤ width → take size (drop at (entry width i bytes)) ≡ take size (drop (i * width + at) bytes)

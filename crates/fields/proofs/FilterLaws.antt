@@ -1,14 +1,12 @@
 -- Lists cut down by a test or by marks.
-use Prim.Native.Nat.{ℕ, suc, _+_, _≤_, _<_}
+use Prim.Native.Nat.{ℕ, suc, _≤_}
 use mathlib.Core.Path.{_≡_, refl, ap}
 use mathlib.Core.Bool.{Bool, true, false, cond}
 use mathlib.Core.List.{List, [], _∷_, _++_, map}
 use native.Mathlib.Nat.{lt-irrefl}
-use native.Mathlib.Numerals.{add-one}
 use native.Mathlib.Omega.{arith}
 use lib.Dec.{eqb}
-use lib.ListN.{length, drop, getD}
-use lib.Seq.{drop-cons}
+use lib.ListN.{length}
 use Rattle.fields.specs.Filter.{consIf, kept, marked}
 
 module _ {ℓ} {A : Type ℓ} where
@@ -50,11 +48,6 @@ module _ {ℓ} {A : Type ℓ} where
   marked-behind [] more (x ∷ xs) h = absurd (lt-irrefl 0 (omega arith))
   marked-behind (m ∷ marks) more [] h = refl
   marked-behind (m ∷ marks) more (x ∷ xs) h = rw (marked-behind marks more xs (omega arith))
-
-  -- ---- one element at a time
-  module _ (marks : List ℕ) (xs : List A) (d : A) (i : ℕ) (h : i < length xs) (l : i < length marks) where
-    pub marked-next : marked (drop i marks) (drop i xs) ≡ consIf (eqb (getD marks i 0) 1) (getD xs i d) (marked (drop (i + 1) marks) (drop (i + 1) xs))
-    marked-next = rw (add-one, drop-cons marks i 0 l, drop-cons xs i d h)
 
   pub marked-end : (marks : List ℕ) → _≡_ {A = List A} (marked marks []) []
   marked-end [] = refl

@@ -15,7 +15,7 @@ use Rattle.fields.specs.Entries.{entries, rising}
 use Rattle.fields.specs.Overwrite.{overwritten}
 use Rattle.fields.proofs.RisingLaws.{rising-ascending}
 use Rattle.fields.proofs.AllLaws.{all-drop}
-use Rattle.fields.proofs.EntriesLaws.{length-entries, entries-wide, entries-bytes, entries-cut, entries-front, entries-take, drop-entries}
+use Rattle.fields.proofs.EntriesLaws.{length-entries, entries-wide, entries-bytes, entries-take, entries-behind, drop-entries}
 use Rattle.model.specs.Protocol.{Id}
 use Rattle.model.specs.Delivery.{Request, markRequested}
 use Rattle.model.specs.Image.{requestOf, requestBytes}
@@ -44,14 +44,6 @@ module _ (clock typeId peer : ℕ) where
   entered-longer : (ids : List Id) (rs : List Request) → length rs ≤ length (enterAll clock typeId peer ids rs)
   entered-longer [] rs = omega arith
   entered-longer (id ∷ ids) rs = omega (arith, enter-longer id rs, entered-longer ids (enter clock typeId peer id rs))
-
--- some entries written behind the first n
-entries-behind : (width n k : ℕ) (es s : List ℕ) → length es ≡ k * width → n * width + k * width ≤ length s
-    → entries width (n + k) (overwritten (n * width) es s) ≡ entries width n s ++ entries width k es
-unfolding overwritten
-entries-behind width n k es s l h =
-    let t : length (take (n * width) s) ≡ n * width = length-take-le (n * width) s (omega arith) in
-    rw (entries-cut width n k (take (n * width) s) (es ++ drop (n * width + length es) s) t, entries-take width n (n * width) s (omega arith) (omega arith), entries-front width k es (drop (n * width + length es) s) (omega arith))
 
 module _ (clock typeId peer most count : ℕ) (t ids places first room : List ℕ) (front : Front) (s : Merging clock typeId peer most count t ids places first room front)
     (lt : count * 54 ≤ length t) (f : Bytes t) (fits : most * 54 + 54 ≤ length first) (r : rising 32 (entries 54 count t) ≡ true) where

@@ -1,2 +1,3 @@
 pub mod EditLaws
+pub mod RunLaws
 pub mod KeepLaws
