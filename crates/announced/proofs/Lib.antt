@@ -1,3 +1,2 @@
-pub mod RecordedLaws
 pub mod RequestedLaws
 pub mod PerformLaws

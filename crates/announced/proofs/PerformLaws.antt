@@ -1,42 +1,38 @@
 -- Acts performed one after another on a table and a command area.
-use Prim.Native.Nat.{ℕ, suc, _+_, _-_, _*_, _^_, _≤_, _<_, max}
+use Prim.Native.Nat.{ℕ, suc, _+_, _*_, _^_, _≤_, _<_}
 use mathlib.Core.Path.{_≡_, refl, sym, ap, _∙_}
 use mathlib.Core.Bool.{Bool, true, false, cond}
-use mathlib.Core.List.{List, [], _∷_, _++_, map, append-assoc, append-nil}
+use mathlib.Core.List.{List, [], _∷_, _++_, append-assoc, append-nil}
 use native.Mathlib.Omega.{arith}
 use native.Mathlib.Nat.{add-zero, lt-irrefl, mul-le-mul-right}
 use lib.Dec.{leb}
-use lib.ListN.{length, length-append, length-map}
+use lib.ListN.{length, length-append}
 use borrow.Author.Tests.{le-leb, lt-leb, leb-true, leb-false}
 use Rattle.fields.specs.Facts.{All, Bytes}
-use Rattle.fields.specs.Entries.{entries, rising, replaced}
+use Rattle.fields.specs.Entries.{entries, rising}
 use Rattle.fields.specs.Overwrite.{overwritten}
-use Rattle.fields.proofs.RisingLaws.{rising-ascending, ascending-rising}
 use Rattle.fields.proofs.OverwriteLaws.{length-overwritten, overwritten-next, overwritten-nil}
 use Rattle.fields.proofs.TotalLaws.{total}
-use Rattle.fields.proofs.EntriesLaws.{Wide, entries-wide, entries-bytes, entries-replaced, length-replaced, replaced-again}
 use Rattle.model.specs.Protocol.{Id}
-use Rattle.model.specs.Delivery.{Request}
+use Rattle.model.specs.Delivery.{Request, idsOf}
 use Rattle.model.specs.Requests.{Sending, Command, commandsOf, commandsFrom, Act, ask, send, wanted, requestOf, perform, performAll}
 use Rattle.model.specs.Requests as model
-use Rattle.model.specs.Image as image
-use Rattle.model.specs.Image.{requestBytes}
 use Rattle.model.specs.Commands.{commandBytes, allCommandBytes}
+use Rattle.model.proofs.Well.{RisingIds}
 use Rattle.model.proofs.Widths.{WellAct}
-use Rattle.model.proofs.RecordLaws.{Recorded, records-wide, requests-of-records, records-rise, ids-rise}
+use Rattle.model.proofs.RecordLaws.{Recorded}
 use Rattle.model.proofs.PendingLaws.{rising-performed, wanted-well}
 use Rattle.model.proofs.SendingLaws.{sendings-bytes, performed-sends-well, performed-weight, actWeight}
 use Rattle.requests.specs.Pending.{requestsIn, holding}
 use Rattle.requests.specs.Sent.{sentBytes}
 use Rattle.entering.specs.Marking.{heldWithin}
 use Rattle.entering.proofs.AnswerLaws.{few-held}
-use Rattle.marking.proofs.ManyLaws.{marked-longer}
-use Rattle.requests.proofs.RecordedLaws.{entries-recorded}
-use Rattle.announced.proofs.RecordedLaws.{marked-recorded}
+use Rattle.entering.proofs.MarkedLaws.{marked-length, marked-recorded}
+use Rattle.requests.proofs.HoldingLaws.{Grown, not-grown, grown-recorded, grown-rising, new-requests, grows, length-requests}
 use Rattle.announced.specs.Requested.{requestedAs, sentWithin}
 use Rattle.announced.specs.declared.request.Requested.the-variants.{Done, Full}
 use Rattle.announced.specs.declared.request.Written.{Written}
-use Rattle.announced.proofs.RequestedLaws.{few-requested, few-sent, length-requests, holding-same}
+use Rattle.announced.proofs.RequestedLaws.{few-requested, few-sent}
 
 -- ---- what an answer says
 
@@ -68,7 +64,7 @@ module _ (most at batch : ℕ) (done : model.Done) where
 -- ---- one act
 
 act-longer : (gate : Bool) (clock : ℕ) (act : Act) (rs : List Request) → length rs ≤ length (perform gate clock act rs .pending)
-act-longer true clock (ask typeId peer pairs ids) rs = marked-longer clock typeId peer (wanted rs typeId pairs ids) rs
+act-longer true clock (ask typeId peer pairs ids) rs = marked-length clock typeId peer (wanted rs typeId pairs ids) rs .0
 act-longer false clock (ask typeId peer pairs ids) rs = omega arith
 act-longer gate clock (send s) rs = omega arith
 
@@ -127,12 +123,8 @@ act-within gate clock batch act rs w =
 -- The table and the area before the acts `left`: these bring them to what all acts bring the first ones to.
 pub record Performing (gate : Bool) (clock most count at batch : ℕ) (acts : List Act) (d e : List ℕ) (left : List Act) (t o : List ℕ) (held place number : ℕ) : Type 0 where
   pub few : held ≤ most
-  pub more : count ≤ held
-  pub table-long : length t ≡ length d
+  pub grown : Grown count d held t
   pub out-long : length o ≡ length e
-  pub known : Bytes t
-  pub rise : rising 32 (entries 54 held t) ≡ true
-  pub table : t ≡ holding count (requestsIn held t) d
   pub well : All WellAct left
   pub room : place + total actWeight left ≤ length e
   pub numbers : number + length left < 65535
@@ -147,12 +139,8 @@ module _ (gate : Bool) (clock most count at batch : ℕ) (acts : List Act) (d e 
   perform-starts le fits f r w room n =
       record {
         few = le;
-        more = omega arith;
-        table-long = refl;
+        grown = not-grown count d (omega (arith, mul-le-mul-right 54 le)) f r;
         out-long = refl;
-        known = f;
-        rise = r;
-        table = sym (holding-same count d (omega (arith, mul-le-mul-right 54 le)) f);
         well = w;
         room = room;
         numbers = n;
@@ -177,7 +165,7 @@ module _ (gate : Bool) (clock most count at batch : ℕ) (acts : List Act) (d e 
         let l : held ≡ length (whole .pending) = sym (length-requests held t) ∙ ap length p in
         let m : leb (length (whole .pending)) most ≡ true = le-leb (length (whole .pending)) most (omega (arith, s .few)) in (
           sym (few-requested most at batch whole m ∙ rw (← l, ← a, ← b, add-zero place, add-zero number)),
-          ((λ h. s .table ∙ ap (λ (rs : List Request). holding count rs d) p), (λ h. sym (overwritten-nil place o) ∙ c)),
+          ((λ h. s .grown .table ∙ ap (λ (rs : List Request). holding count rs d) p), (λ h. sym (overwritten-nil place o) ∙ c)),
         )
 
     module _ (act : Act) (others : List Act) (here : left ≡ act ∷ others) (fits : most * 54 ≤ length d) where
@@ -202,49 +190,24 @@ module _ (gate : Bool) (clock most count at batch : ℕ) (acts : List Act) (d e 
           let l : length (one .pending) ≤ length (performAll gate clock others (one .pending) .pending) = performed-longer gate clock others (one .pending) in
           lt-leb (length (performAll gate clock acts (requestsIn count d) .pending)) most (omega (arith, ap length p))
 
-      fits-now : held * 54 ≤ length t
-      fits-now = omega (arith, mul-le-mul-right 54 (s .few), s .table-long)
-
       module _ (hc : clock < 2 ^ 64) where
-        old-recorded : All Recorded (requestsIn held t)
-        old-recorded = entries-recorded (entries 54 held t) (entries-wide 54 held t fits-now) (entries-bytes 54 held t (s .known))
-
-        one-recorded : All Recorded (perform gate clock act (requestsIn held t) .pending)
-        one-recorded = act-recorded gate clock hc act (requestsIn held t) act-well old-recorded
-
-        one-rises : rising 32 (map requestBytes (perform gate clock act (requestsIn held t) .pending)) ≡ true
-        one-rises =
-            ascending-rising 32 (map requestBytes (perform gate clock act (requestsIn held t) .pending))
-            (records-rise (perform gate clock act (requestsIn held t) .pending) one-recorded
-            (rising-performed gate clock (act ∷ []) (requestsIn held t) (ids-rise (entries 54 held t) (rising-ascending 32 (entries 54 held t) (s .rise)))))
-
-        again : (new : List Request) → count ≤ held → held ≤ length new → replaced 54 held (map requestBytes new) t ≡ replaced 54 count (map requestBytes new) d
-        unfolding holding
-        again new a b =
-            let lo : length (map requestBytes (requestsIn held t)) ≡ held = length-map (requestsIn held t) requestBytes ∙ length-requests held t in
-            let ln : length (map requestBytes new) ≡ length new = length-map new requestBytes in
-            let w : Wide 54 (map requestBytes (requestsIn held t)) = records-wide (requestsIn held t) old-recorded in
-            let q : replaced 54 held (map requestBytes new) t ≡ replaced 54 held (map requestBytes new) (replaced 54 count (map requestBytes (requestsIn held t)) d) = ap (replaced 54 held (map requestBytes new)) (s .table) in
-            q ∙ rw lo at (replaced-again 54 count (map requestBytes (requestsIn held t)) (map requestBytes new) d w (omega arith))
-
         pub perform-turn : (w : Written) (t′ o′ : List ℕ) → Done w ≡ requestedAs most place number (perform gate clock act (requestsIn held t))
             → t′ ≡ heldWithin most held (perform gate clock act (requestsIn held t) .pending) t → o′ ≡ sentWithin most place number (perform gate clock act (requestsIn held t)) o → Bytes t′
             → Performing gate clock most count at batch acts d e others t′ o′ (w .count) (w .at) (w .batch)
-        unfolding holding
         perform-turn w t′ o′ er et eo f′ =
             let one : model.Done = perform gate clock act (requestsIn held t) in
             let rest : model.Done = performAll gate clock others (one .pending) in
             let p = requested-done most place number one w er in
-            let wide : Wide 54 (map requestBytes (one .pending)) = records-wide (one .pending) one-recorded in
-            let lb : length (map requestBytes (one .pending)) ≡ length (one .pending) = length-map (one .pending) requestBytes in
             let lr : length (requestsIn held t) ≡ held = length-requests held t in
             let longer : length (requestsIn held t) ≤ length (one .pending) = act-longer gate clock act (requestsIn held t) in
             let few : length (one .pending) ≤ most = leb-true (length (one .pending)) most (p .0) in
-            let ht : t′ ≡ replaced 54 held (map requestBytes (one .pending)) t = et ∙ few-held most held (one .pending) t (p .0) in
+            let more : held ≤ length (one .pending) = omega arith in
+            let in-room : length (one .pending) * 54 ≤ length d = omega (arith, mul-le-mul-right 54 few) in
+            let fit : All Recorded (one .pending) = act-recorded gate clock hc act (requestsIn held t) act-well (grown-recorded count d held t (s .grown)) in
+            let up : RisingIds (idsOf (one .pending)) = rising-performed gate clock (act ∷ []) (requestsIn held t) (grown-rising count d held t (s .grown)) in
+            let ht : t′ ≡ holding held (one .pending) t = et ∙ few-held most held (one .pending) t (p .0) in
             let ho : o′ ≡ overwritten place (sentBytes number (one .sendings)) o = eo ∙ few-sent most place number one o (p .0) in
-            let es : entries 54 (w .count) t′ ≡ map requestBytes (one .pending) = rw (p .1 .0, ← lb, ht) (entries-replaced 54 held (map requestBytes (one .pending)) t wide) in
-            let rs : requestsIn (w .count) t′ ≡ one .pending = ap (map image.requestOf) es ∙ requests-of-records (one .pending) one-recorded in
-            let in-room : max held (length (map requestBytes (one .pending))) * 54 ≤ length t = omega (arith, mul-le-mul-right 54 few, s .table-long) in
+            let rs : requestsIn (w .count) t′ ≡ one .pending = new-requests count d held t (s .grown) (one .pending) fit up more in-room (w .count) t′ (p .1 .0) ht in
             let ws : All WellAct (act ∷ others) = rw here at (s .well) in
             let rm : place + total actWeight (act ∷ others) ≤ length e = rw here at (s .room) in
             let nm : number + suc (length others) < 65535 = rw here at (s .numbers) in
@@ -261,12 +224,8 @@ module _ (gate : Bool) (clock most count at batch : ℕ) (acts : List Act) (d e 
             let ss : overwritten place (sentBytes number (one .sendings ++ rest .sendings)) o ≡ overwritten at (sentBytes batch (performAll gate clock acts (requestsIn count d) .sendings)) e = rw here at (s .sent) in
             record {
               few = omega (arith, p .1 .0);
-              more = omega (arith, p .1 .0, s .more);
-              table-long = ap length ht ∙ length-replaced 54 held (map requestBytes (one .pending)) t wide in-room ∙ s .table-long;
+              grown = grows count d held t (s .grown) (one .pending) fit up more in-room (w .count) t′ (p .1 .0) ht f′;
               out-long = ap length ho ∙ length-overwritten place A o (omega (arith, s .out-long)) ∙ s .out-long;
-              known = f′;
-              rise = rw es one-rises;
-              table = rw rs (ht ∙ again (one .pending) (s .more) (omega arith));
               well = ws .1;
               room = omega (arith, p .1 .1 .0);
               numbers = omega (arith, p .1 .1 .1);

@@ -6,28 +6,26 @@ use mathlib.Core.List.{List, [], _∷_, _++_, append-nil}
 use native.Mathlib.Omega.{arith}
 use native.Mathlib.Nat.{add-zero, mul-le-mul-right}
 use lib.Dec.{leb}
-use lib.ListN.{length, take, length-map}
+use lib.ListN.{length, take}
 use borrow.Author.Tests.{le-leb}
 use Rattle.fields.specs.Facts.{Bytes}
-use Rattle.fields.specs.Entries.{entries, joined}
+use Rattle.fields.specs.Entries.{joined}
 use Rattle.fields.specs.Filter.{kept}
 use Rattle.fields.specs.Overwrite.{overwritten}
 use Rattle.fields.proofs.OverwriteLaws.{overwritten-nil, front-read-back}
 use Rattle.fields.proofs.FilterLaws.{length-kept}
-use Rattle.fields.proofs.EntriesLaws.{Wide, length-entries, entries-wide, entries-bytes, entries-joined, length-joined, replaced-same}
+use Rattle.fields.proofs.EntriesLaws.{Wide, entries-joined, length-joined}
 use Rattle.model.specs.Protocol.{Id}
 use Rattle.model.specs.Delivery.{Request, isPending, markRequested}
 use Rattle.model.specs.Requests.{Pair, isStored, request, commandsOf, requestOf, wanted, requestAnnounced, perform, ask}
 use Rattle.model.specs.Requests as model
-use Rattle.model.specs.Image as image
 use Rattle.model.specs.Commands.{allCommandBytes}
 use Rattle.model.specs.Lists.{idsIn}
 use Rattle.model.proofs.Widths.{WellList}
-use Rattle.model.proofs.RecordLaws.{records-of-requests}
 use Rattle.model.proofs.PendingLaws.{wanted-well}
 use Rattle.model.proofs.CommandLaws.{ids-wide}
 use Rattle.model.proofs.SendingLaws.{sendings-bytes}
-use Rattle.requests.specs.Pending.{requestsIn, holding}
+use Rattle.requests.specs.Pending.{requestsIn}
 use Rattle.requests.specs.Sent.{sentBytes}
 use Rattle.entering.specs.Marking.{markedAs, heldWithin}
 use Rattle.entering.specs.declared.Marked.{Marked}
@@ -35,6 +33,7 @@ use Rattle.entering.specs.declared.Marked.the-variants as marked
 use Rattle.requests.proofs.WriteLaws.{length-ids}
 use Rattle.entering.proofs.AnswerLaws.{marked-pending, marked-full, few-held}
 use Rattle.requests.proofs.RecordedLaws.{well-ids}
+use Rattle.requests.proofs.HoldingLaws.{length-requests, holding-same}
 use Rattle.announced.specs.Requested.{requestedAs, sentWithin}
 use Rattle.announced.specs.declared.request.Requested.the-variants.{Done, Full}
 
@@ -57,16 +56,6 @@ module _ (most at batch : ℕ) (done : model.Done) where
   pub many-sent : (o : List ℕ) → leb (length (done .pending)) most ≡ false → sentWithin most at batch done o ≡ o
   unfolding sentWithin
   many-sent o h = rw h
-
--- ---- the table as it was
-
-pub length-requests : (count : ℕ) (t : List ℕ) → length (requestsIn count t) ≡ count
-length-requests count t = length-map (entries 54 count t) image.requestOf ∙ length-entries 54 count t
-
-pub holding-same : (count : ℕ) (t : List ℕ) → count * 54 ≤ length t → Bytes t → holding count (requestsIn count t) t ≡ t
-unfolding holding
-holding-same count t fits f =
-    rw (records-of-requests (entries 54 count t) (entries-wide 54 count t fits) (entries-bytes 54 count t f)) (replaced-same 54 count t)
 
 -- ---- nothing done
 

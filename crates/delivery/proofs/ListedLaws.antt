@@ -1,11 +1,10 @@
 -- Records whose id is listed: marks taken from them, id by id.
-use Prim.Native.Nat.{ℕ, suc, _+_, _-_, _/_, _%_, _≤_, _<_}
+use Prim.Native.Nat.{ℕ, _+_, _-_, _%_, _≤_, _<_}
 use mathlib.Core.Path.{_≡_, refl, sym, _∙_}
 use mathlib.Core.Bool.{Bool, true, false, not, _&&_, _||_}
 use mathlib.Core.List.{List, [], _∷_}
 use native.Mathlib.Omega.{arith}
-use lib.ListN.{length, take, drop, getD, set, length-drop, drop-of-length-le}
-use lib.Seq.{drop-drop, length-take-le}
+use lib.ListN.{length, take, drop, getD, set, drop-of-length-le}
 use Rattle.fields.specs.Facts.{All}
 use Rattle.fields.specs.Order.{same}
 use Rattle.fields.specs.Entries.{rising}
@@ -20,6 +19,7 @@ use Rattle.search.proofs.FindLaws.{at-inside, at-same, at-key, gap-absent}
 use Rattle.model.specs.Protocol.{Id, isAmong}
 use Rattle.model.specs.Image.{idSize}
 use Rattle.model.specs.Lists.{idsIn}
+use Rattle.requests.proofs.RunLaws.{ids-from, ids-none}
 use Rattle.delivery.specs.Records.{unlisted}
 
 neither-of : (a b : Bool) → not (a || false) && not b ≡ not (a || b)
@@ -73,34 +73,14 @@ module _ (id : List ℕ) (es : List (List ℕ)) (marks : List ℕ) (i : ℕ) (l 
 
 -- ---- one after another
 
-ids-next : (bytes : List ℕ) → length bytes % 32 ≡ 0 → 0 < length bytes → idsIn bytes ≡ take 32 bytes ∷ idsIn (drop 32 bytes)
-unfolding idsIn
-ids-next bytes h l =
-    let d : length (drop 32 bytes) ≡ length bytes - 32 = length-drop 32 bytes in
-    let q : length bytes / 32 ≡ suc (length (drop 32 bytes) / 32) = rw d (omega arith) in
-    rw q
-
-ids-none : idsIn [] ≡ []
-unfolding idsIn
-ids-none = refl
-
 module _ (ids : List ℕ) (at : ℕ) where
   pub listed-turn : (marks marks′ : List ℕ) (es : List (List ℕ)) → length ids % 32 ≡ 0 → at % 32 ≡ 0 → at < length ids
       → marked marks′ es ≡ unlisted (take (at + 32 - at) (drop at ids) ∷ []) (marked marks es)
       → unlisted (idsIn (drop (at + 32) ids)) (marked marks′ es) ≡ unlisted (idsIn (drop at ids)) (marked marks es)
   listed-turn marks marks′ es h a o e =
-      let k : at + 32 - at ≡ 32 = omega arith in
-      let d : length (drop at ids) ≡ length ids - at = length-drop at ids in
-      let n : idsIn (drop at ids) ≡ take 32 (drop at ids) ∷ idsIn (drop (at + 32) ids) =
-      ids-next (drop at ids) (rw d (omega arith)) (rw d (omega arith)) ∙ rw drop-drop in
-      rw (e, k, n) (unlisted-cons (take 32 (drop at ids)) (idsIn (drop (at + 32) ids)) (marked marks es))
+      rw (e, ids-from at ids h a o) (unlisted-cons (take (at + 32 - at) (drop at ids)) (idsIn (drop (at + 32) ids)) (marked marks es))
 
   pub listed-end : (es all : List (List ℕ)) → length ids ≤ at → unlisted (idsIn (drop at ids)) es ≡ all → es ≡ all
   listed-end es all h e =
       let d : drop at ids ≡ [] = drop-of-length-le ids {i = at} h in
       sym (unlisted-none es) ∙ rw (d, ids-none) at e
-
-pub length-id : (at : ℕ) (bytes : List ℕ) → at + 32 ≤ length bytes → length (take (at + 32 - at) (drop at bytes)) ≡ 32
-length-id at bytes h =
-    let k : at + 32 - at ≡ 32 = omega arith in
-    rw k (length-take-le 32 (drop at bytes) (rw (length-drop at bytes) (omega arith)))

@@ -1,3 +1,5 @@
 pub mod RecordLaws
 pub mod AnswerLaws
 pub mod OneLaws
+pub mod MarkedLaws
+pub mod EachLaws

@@ -1,32 +1,28 @@
 -- One request marked in a table of records.
-use Prim.Native.Nat.{ℕ, zero, suc, _+_, _*_, _/_, _≤_, _<_}
+use Prim.Native.Nat.{ℕ, zero, suc, _+_, _*_, _≤_, _<_}
 use mathlib.Core.Path.{_≡_, refl, sym, ap, _∙_}
 use mathlib.Core.Bool.{true, false}
 use mathlib.Core.List.{List, [], _∷_, map}
 use native.Mathlib.Omega.{arith}
-use native.Mathlib.Nat.{not-suc-le-zero, le-of-suc-le-suc, mul-le-mul-right}
-use lib.ListN.{length, take, getD, length-map}
-use lib.Seq.{take-all, length-take-le}
-use borrow.Author.Tests.{le-leb, lt-leb}
+use native.Mathlib.Nat.{not-suc-le-zero, le-of-suc-le-suc}
+use lib.ListN.{length, take, getD}
+use lib.Seq.{length-take-le}
 use Rattle.fields.specs.Facts.{All, Bytes}
 use Rattle.fields.specs.Order.{before}
 use Rattle.fields.specs.Sort.{inserted}
 use Rattle.fields.specs.Entries.{entries, rising, insertedAt, replaced}
 use Rattle.fields.proofs.SortLaws.{length-inserted, map-inserted}
-use Rattle.fields.proofs.EntriesLaws.{Wide, length-entries, entries-wide, entries-bytes, replaced-same}
+use Rattle.fields.proofs.EntriesLaws.{Wide, length-entries, entries-wide, entries-bytes}
 use Rattle.search.specs.Find.{found}
 use Rattle.search.specs.declared.find.Found.the-variants.{At, Gap}
 use Rattle.search.proofs.FindLaws.{gap-stop}
 use Rattle.model.specs.Delivery.{Request, isPending, idBefore, markRequested}
 use Rattle.model.specs.Image.{requestOf, requestBytes}
-use Rattle.model.specs.Lists.{idsIn}
 use Rattle.model.proofs.RecordLaws.{request-id, records-of-requests}
 use Rattle.requests.specs.Pending.{requestsIn, holding}
-use Rattle.entering.specs.Marking.{markedAs, heldWithin, newRequest}
-use Rattle.entering.specs.declared.Marked.{Marked}
-use Rattle.entering.specs.declared.Marked.the-variants.{Pending, Full}
-use Rattle.entering.proofs.AnswerLaws.{few-marked, many-marked, few-held, many-held}
+use Rattle.requests.proofs.HoldingLaws.{length-requests, holding-same}
 use Rattle.wanted.proofs.WantedLaws.{pending-key, found-has, gap-has}
+use Rattle.entering.specs.Marking.{newRequest}
 
 -- ---- the gap of a search is the place of an insertion
 
@@ -41,29 +37,17 @@ inserted-at e (y ∷ ys) (suc g) h f s =
 
 -- ---- one request
 
-length-requests : (count : ℕ) (t : List ℕ) → length (requestsIn count t) ≡ count
-length-requests count t = length-map (entries 54 count t) requestOf ∙ length-entries 54 count t
-
 ids-long : (es : List (List ℕ)) → Wide 54 es → All (λ (r : Request). length (r .id) ≡ 32) (map requestOf es)
 unfolding requestOf
 ids-long [] w = tt
 ids-long (e ∷ es) w = let l : length e ≡ 54 = w .0 in (length-take-le 32 e (omega arith), ids-long es (w .1))
 
-module _ (clock typeId peer most count : ℕ) (id t : List ℕ) (lid : length id ≡ 32) (le : count ≤ most) (room : most * 54 ≤ length t) (f : Bytes t) (r : rising 32 (entries 54 count t) ≡ true) where
-  fits : count * 54 ≤ length t
-  fits = omega (arith, mul-le-mul-right 54 le)
-
-  back : map requestBytes (requestsIn count t) ≡ entries 54 count t
-  back = records-of-requests (entries 54 count t) (entries-wide 54 count t fits) (entries-bytes 54 count t f)
-
+module _ (clock typeId peer count : ℕ) (id t : List ℕ) (lid : length id ≡ 32) (fits : count * 54 ≤ length t) (f : Bytes t) (r : rising 32 (entries 54 count t) ≡ true) where
   pub one-pending : (i : ℕ) → found id 0 (entries 54 count t) ≡ At i
-      → (Pending count ≡ markedAs most (markRequested clock typeId peer (id ∷ []) (requestsIn count t))) × (t ≡ heldWithin most count (markRequested clock typeId peer (id ∷ []) (requestsIn count t)) t)
-  unfolding holding
+      → (count ≡ length (markRequested clock typeId peer (id ∷ []) (requestsIn count t))) × (t ≡ holding count (markRequested clock typeId peer (id ∷ []) (requestsIn count t)) t)
   one-pending i h =
       let p : isPending id (requestsIn count t) ≡ true = pending-key id (entries 54 count t) lid ∙ found-has id (entries 54 count t) i h in
-      let l : length (requestsIn count t) ≡ count = length-requests count t in
-      let q : Pending (length (requestsIn count t)) ≡ markedAs most (requestsIn count t) = few-marked most (requestsIn count t) (omega arith) in
-      rw p (rw l at q, sym (few-held most count (requestsIn count t) t (le-leb (length (requestsIn count t)) most (omega arith)) ∙ rw back (replaced-same 54 count t)))
+      rw p (sym (length-requests count t), sym (holding-same count t fits f))
 
   module _ (g : ℕ) (h : found id 0 (entries 54 count t) ≡ Gap g) where
     rk : rising (length id) (entries 54 count t) ≡ true
@@ -78,15 +62,10 @@ module _ (clock typeId peer most count : ℕ) (id t : List ℕ) (lid : length id
     longer : length (inserted idBefore (newRequest clock typeId peer id) (requestsIn count t)) ≡ suc count
     longer = length-inserted idBefore (newRequest clock typeId peer id) (requestsIn count t) ∙ ap suc (length-requests count t)
 
-    pub one-full : most ≤ count
-        → (Full ≡ markedAs most (markRequested clock typeId peer (id ∷ []) (requestsIn count t))) × (t ≡ heldWithin most count (markRequested clock typeId peer (id ∷ []) (requestsIn count t)) t)
-    one-full m =
-        let new : List Request = inserted idBefore (newRequest clock typeId peer id) (requestsIn count t) in
-        rw absent (many-marked most new (omega (arith, longer)), sym (many-held most count new t (lt-leb (length new) most (omega (arith, longer)))))
-
     as-bytes : map requestBytes (inserted idBefore (newRequest clock typeId peer id) (requestsIn count t)) ≡ insertedAt g (requestBytes (newRequest clock typeId peer id)) (entries 54 count t)
     as-bytes =
         let key : take 32 (requestBytes (newRequest clock typeId peer id)) ≡ id = request-id (newRequest clock typeId peer id) lid in
+        let back : map requestBytes (requestsIn count t) ≡ entries 54 count t = records-of-requests (entries 54 count t) (entries-wide 54 count t fits) (entries-bytes 54 count t f) in
         map-inserted idBefore (λ (x y : List ℕ). before (take 32 x) (take 32 y)) requestBytes (λ (x : Request). length (x .id) ≡ 32)
         (λ x y a b. rw (request-id x a, request-id y b)) (newRequest clock typeId peer id) (requestsIn count t) lid (ids-long (entries 54 count t) (entries-wide 54 count t fits))
         ∙ rw back
@@ -94,24 +73,7 @@ module _ (clock typeId peer most count : ℕ) (id t : List ℕ) (lid : length id
         (λ j l. rw key (rw lid at (gap-stop id (entries 54 count t) g h .below j l)))
         (λ l. rw key (rw lid at (gap-stop id (entries 54 count t) g h .stops l))))
 
-    pub one-entered : count < most → (entry′ t′ : List ℕ) → entry′ ≡ requestBytes (newRequest clock typeId peer id)
-        → t′ ≡ replaced 54 count (insertedAt g entry′ (entries 54 count t)) t
-        → (Pending (count + 1) ≡ markedAs most (markRequested clock typeId peer (id ∷ []) (requestsIn count t))) × (t′ ≡ heldWithin most count (markRequested clock typeId peer (id ∷ []) (requestsIn count t)) t)
+    pub one-entered : (entry′ t′ : List ℕ) → entry′ ≡ requestBytes (newRequest clock typeId peer id) → t′ ≡ replaced 54 count (insertedAt g entry′ (entries 54 count t)) t
+        → (count + 1 ≡ length (markRequested clock typeId peer (id ∷ []) (requestsIn count t))) × (t′ ≡ holding count (markRequested clock typeId peer (id ∷ []) (requestsIn count t)) t)
     unfolding holding
-    one-entered m entry′ t′ er et =
-        let new : List Request = inserted idBefore (newRequest clock typeId peer id) (requestsIn count t) in
-        let l : length new ≡ count + 1 = longer ∙ omega arith in
-        let q : Pending (length new) ≡ markedAs most new = few-marked most new (omega arith) in
-        rw absent (rw l at q, et ∙ rw (er, ← as-bytes) (sym (few-held most count new t (le-leb (length new) most (omega arith)))))
-
--- a list of one id
-single : (ids : List ℕ) → length ids ≡ 32 → idsIn ids ≡ ids ∷ []
-unfolding idsIn
-single ids h =
-    let n : length ids / 32 ≡ 1 = omega arith in
-    rw n (ap (λ (id : List ℕ). id ∷ []) (take-all 32 ids (omega arith)))
-
-pub one-id : (clock typeId peer most count : ℕ) (ids t t′ : List ℕ) (r : Marked) → length ids ≡ 32
-    → (r ≡ markedAs most (markRequested clock typeId peer (ids ∷ []) (requestsIn count t))) × (t′ ≡ heldWithin most count (markRequested clock typeId peer (ids ∷ []) (requestsIn count t)) t)
-    → (r ≡ markedAs most (markRequested clock typeId peer (idsIn ids) (requestsIn count t))) × (t′ ≡ heldWithin most count (markRequested clock typeId peer (idsIn ids) (requestsIn count t)) t)
-one-id clock typeId peer most count ids t t′ r h p = rw (single ids h) p
+    one-entered entry′ t′ er et = rw absent (omega (arith, longer), et ∙ rw (er, ← as-bytes))

@@ -1,17 +1,18 @@
-// A new request: its record, and one id's place in the table of pending requests.
+// A new request: its record, and the places of a few ids in the table of pending requests.
 //
 // An id costs a search and a move of the records behind it.
 ghost use mathlib.Core.Path.{_≡_};
 ghost use mathlib.Core.Bool.{true};
-ghost use Prim.Native.Nat.{_+_, _*_, _≤_};
+ghost use Prim.Native.Nat.{_+_, _*_, _/_, _%_, _≤_};
 ghost use mathlib.Core.List.{[], _∷_};
 ghost use lib.ListN.{length};
 ghost use Rattle.fields.specs.Overwrite.{overwritten};
 ghost use Rattle.model.specs.Image.{requestBytes};
 ghost use Rattle.fields.specs.Entries.{entries, rising};
 ghost use Rattle.model.specs.Delivery.{markRequested};
-ghost use Rattle.requests.specs.Pending.{requestsIn};
-ghost use Rattle.entering.specs.Marking.{markedAs, heldWithin, newRequest};
+ghost use Rattle.model.specs.Lists.{idsIn};
+ghost use Rattle.requests.specs.Pending.{requestsIn, holding};
+ghost use Rattle.entering.specs.Marking.{newRequest};
 use search::find::Found;
 
 // How many requests are pending, or that they would be too many.
@@ -42,30 +43,43 @@ pub fn new_record(clock: u64, typeid: u8, peer: u64, id: &[u8]) -> [u8; 54]
     record
 }
 
-// One id, by a search and a move of the records behind it.
-pub fn mark_one(
+// One id, by a search and a move of the records behind it. Answers how many requests are pending then.
+fn mark_one(table: &mut [u8], count: usize, clock: u64, typeid: u8, peer: u64, id: &[u8]) -> usize
+    requires { ⌜ (length (now id) ≡ 32) × (count * 54 + 54 ≤ length (now table)) ⌝ }
+    requires { ⌜ rising 32 (entries 54 count (now table)) ≡ true ⌝ }
+    ensures { λ r. ⌜ r ≡ length (markRequested clock typeid peer (now (id .entry) ∷ []) (requestsIn count (now (table .entry)))) ⌝ }
+    ensures { λ _. ⌜ now (table .exit) ≡ holding count (markRequested clock typeid peer (now (id .entry) ∷ []) (requestsIn count (now (table .entry)))) (now (table .entry)) ⌝ }
+{
+    match search::find::find(table, 54, count, id) {
+        Found::At(_) => count,
+        Found::Gap(gap) => {
+            let record = new_record(clock, typeid, peer, id);
+            table::edit::insert(table, 54, count, gap, &record);
+            count + 1
+        }
+    }
+}
+
+// Ids one after another into a table that has room for all of them. Answers how many requests are pending then.
+pub fn mark_each(
     table: &mut [u8],
     count: usize,
-    most: usize,
     clock: u64,
     typeid: u8,
     peer: u64,
-    id: &[u8],
-) -> Marked
-    requires { ⌜ (length (now id) ≡ 32) × ((count ≤ most) × ((most ≤ 1024) × (most * 54 ≤ length (now table)))) ⌝ }
+    ids: &[u8],
+) -> usize
+    requires { ⌜ (length (now ids) % 32 ≡ 0) × ((count + length (now ids) / 32) * 54 ≤ length (now table)) ⌝ }
     requires { ⌜ rising 32 (entries 54 count (now table)) ≡ true ⌝ }
-    ensures { λ r. ⌜ r ≡ markedAs most (markRequested clock typeid peer (now (id .entry) ∷ []) (requestsIn count (now (table .entry)))) ⌝ }
-    ensures { λ _. ⌜ now (table .exit) ≡ heldWithin most count (markRequested clock typeid peer (now (id .entry) ∷ []) (requestsIn count (now (table .entry)))) (now (table .entry)) ⌝ }
+    ensures { λ r. ⌜ r ≡ length (markRequested clock typeid peer (idsIn (now (ids .entry))) (requestsIn count (now (table .entry)))) ⌝ }
+    ensures { λ _. ⌜ now (table .exit) ≡ holding count (markRequested clock typeid peer (idsIn (now (ids .entry))) (requestsIn count (now (table .entry)))) (now (table .entry)) ⌝ }
 {
-    match search::find::find(table, 54, count, id) {
-        Found::At(_) => Marked::Pending(count),
-        Found::Gap(gap) => {
-            if most <= count {
-                return Marked::Full;
-            }
-            let record = new_record(clock, typeid, peer, id);
-            table::edit::insert(table, 54, count, gap, &record);
-            Marked::Pending(count + 1)
-        }
+    let mut pending = count;
+    let mut at = 0;
+    while at < ids.len() {
+        let end = at + 32;
+        pending = mark_one(table, pending, clock, typeid, peer, &ids[at..end]);
+        at = end;
     }
+    pending
 }

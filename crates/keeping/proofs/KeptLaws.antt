@@ -15,7 +15,7 @@ use Rattle.model.proofs.Well.{RisingIds}
 use Rattle.model.proofs.RecordLaws.{Recorded, records-wide, requests-of-records, records-rise, ids-rise}
 use Rattle.settings.specs.Values.{settingsOf}
 use Rattle.requests.specs.Pending.{requestsIn, holding}
-use Rattle.announced.proofs.RequestedLaws.{length-requests}
+use Rattle.requests.proofs.HoldingLaws.{length-requests}
 use Rattle.keeping.specs.Keeping.{Keeping}
 use Rattle.keeping.specs.Kept.{keepingIn, Fits, Kept, keeperOf}
 use Rattle.keeping.specs.declared.Keeper.{Keeper}

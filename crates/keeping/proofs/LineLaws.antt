@@ -29,7 +29,7 @@ use Rattle.announced.specs.Requested.{requestedAs}
 use Rattle.announced.specs.declared.request.Requested.{Requested}
 use Rattle.announced.specs.declared.request.Requested.the-variants.{Done, Full}
 use Rattle.announced.specs.declared.request.Written.{Written}
-use Rattle.announced.proofs.RequestedLaws.{holding-same}
+use Rattle.requests.proofs.HoldingLaws.{holding-same}
 use Rattle.entering.proofs.AnswerLaws.{few-held}
 use Rattle.announced.proofs.PerformLaws.{requested-full, requested-done}
 use Rattle.delivery_check.specs.Checked.{pendingAfterCheck, checkedAs}

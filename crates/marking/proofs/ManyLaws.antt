@@ -1,41 +1,42 @@
--- Many ids marked at once: in the order of the ids, in a room of their own, and copied back unless they are too many.
-use Prim.Native.Nat.{ℕ, _*_, _≤_}
+-- Ids marked where they all have room; or at once: in the order of the ids, in a room of their own, and copied back unless
+-- they are too many.
+use Prim.Native.Nat.{ℕ, _+_, _*_, _/_, _≤_}
 use mathlib.Core.Path.{_≡_, sym, ap, _∙_}
-use mathlib.Core.Bool.{Bool, true, false, cond}
-use mathlib.Core.List.{List, [], _∷_, _++_, map}
+use mathlib.Core.Bool.{true}
+use mathlib.Core.List.{List, _++_, map}
 use native.Mathlib.Omega.{arith}
 use lib.Dec.{leb}
 use lib.ListN.{length, take, drop, length-map}
-use borrow.Author.Tests.{leb-true}
+use borrow.Author.Tests.{leb-true, le-leb}
 use Rattle.fields.specs.Order.{before}
-use Rattle.fields.specs.Sort.{inserted, sorted}
+use Rattle.fields.specs.Sort.{sorted}
 use Rattle.fields.specs.Entries.{entries, joined, rising}
-use Rattle.fields.proofs.SortLaws.{length-inserted, sorted-twice, before-order}
+use Rattle.fields.proofs.SortLaws.{sorted-twice, before-order}
 use Rattle.fields.proofs.RisingLaws.{rising-ascending}
-use Rattle.fields.proofs.EntriesLaws.{length-entries, joined-entries, replaced-more}
-use Rattle.model.specs.Protocol.{Id}
-use Rattle.model.specs.Delivery.{Request, isPending, idBefore, markRequested}
-use Rattle.model.specs.Image.{requestOf, requestBytes}
+use Rattle.fields.proofs.EntriesLaws.{joined-entries, replaced-more}
+use Rattle.model.specs.Delivery.{Request, markRequested}
+use Rattle.model.specs.Image.{requestBytes}
 use Rattle.model.specs.Lists.{idsIn}
 use Rattle.model.proofs.RecordLaws.{ids-rise}
 use Rattle.requests.specs.Pending.{requestsIn, holding}
-use Rattle.entering.specs.Marking.{markedAs, heldWithin, newRequest}
-use Rattle.choosing.specs.Choices.{idsAt}
+use Rattle.requests.proofs.WriteLaws.{length-ids}
+use Rattle.requests.proofs.HoldingLaws.{length-requests}
+use Rattle.entering.specs.Marking.{markedAs, heldWithin}
 use Rattle.entering.specs.declared.Marked.{Marked}
 use Rattle.entering.specs.declared.Marked.the-variants.{Pending, Full}
-use Rattle.entering.proofs.AnswerLaws.{marked-pending, marked-full, few-held, many-held}
+use Rattle.entering.proofs.AnswerLaws.{marked-pending, marked-full, few-marked, few-held, many-held}
+use Rattle.entering.proofs.MarkedLaws.{marked-length}
+use Rattle.choosing.specs.Choices.{idsAt}
 use Rattle.merging.proofs.EnterLaws.{marked-sorted}
 
-pub marked-longer : (clock typeId peer : ℕ) (ids : List Id) (rs : List Request) → length rs ≤ length (markRequested clock typeId peer ids rs)
-marked-longer clock typeId peer [] rs = omega arith
-marked-longer clock typeId peer (id ∷ ids) rs =
-    let next : List Request = cond (isPending id rs) rs (inserted idBefore (newRequest clock typeId peer id) rs) in
-    let a : length rs ≤ length next = go (isPending id rs) in
-    omega (arith, marked-longer clock typeId peer ids next)
-  where
-    go : (b : Bool) → length rs ≤ length (cond b rs (inserted idBefore (newRequest clock typeId peer id) rs))
-    go true = omega arith
-    go false = omega (arith, length-inserted idBefore (newRequest clock typeId peer id) rs)
+-- few ids, all of which have room
+pub few-ids : (clock typeId peer most count : ℕ) (ids t t′ : List ℕ) (held : ℕ) → count + length ids / 32 ≤ most
+    → (held ≡ length (markRequested clock typeId peer (idsIn ids) (requestsIn count t))) × (t′ ≡ holding count (markRequested clock typeId peer (idsIn ids) (requestsIn count t)) t)
+    → (Pending held ≡ markedAs most (markRequested clock typeId peer (idsIn ids) (requestsIn count t))) × (t′ ≡ heldWithin most count (markRequested clock typeId peer (idsIn ids) (requestsIn count t)) t)
+few-ids clock typeId peer most count ids t t′ held room e =
+    let all : List Request = markRequested clock typeId peer (idsIn ids) (requestsIn count t) in
+    let fits : length all ≤ most = omega (arith, marked-length clock typeId peer (idsIn ids) (requestsIn count t), length-requests count t, length-ids ids) in
+    (ap Pending (e .0) ∙ few-marked most all fits, e .1 ∙ sym (few-held most count all t (le-leb (length all) most fits)))
 
 pub still-sorted : (ids places : List ℕ) → idsAt ids places ≡ sorted before (idsIn ids) → sorted before (idsAt ids places) ≡ idsAt ids places
 still-sorted ids places e = rw e (sorted-twice before before-order (idsIn ids))
@@ -71,8 +72,7 @@ module _ (clock typeId peer most count : ℕ) (ids places t : List ℕ) (e : ids
     copied-back room t′ w et =
         let new : List (List ℕ) = map requestBytes all in
         let ln : length new ≡ length all = length-map all requestBytes in
-        let lr : length (requestsIn count t) ≡ count = length-map (entries 54 count t) requestOf ∙ length-entries 54 count t in
-        let more : count ≤ length new = omega (arith, marked-longer clock typeId peer (idsIn ids) (requestsIn count t)) in
+        let more : count ≤ length new = omega (arith, marked-length clock typeId peer (idsIn ids) (requestsIn count t), length-requests count t) in
         let es : entries 54 (length all) room ≡ new = rw as-given at (w (rw as-given (says .0))) in
         let j : take (length all * 54) room ≡ joined new = sym (joined-entries 54 (length all) room) ∙ ap joined es in
         let c : t′ ≡ joined new ++ drop (length new * 54) t = et ∙ rw (says .1, j, ln) in

@@ -1,6 +1,6 @@
 // mark_requested: new ids enter the table of pending requests.
 //
-// A single id costs a search and a move of the records behind it. Many are sorted and merged with the table in one pass.
+// A few cost a search and a move of the records behind them each. Many are sorted and merged with the table in one pass.
 ghost use mathlib.Core.Path.{_≡_};
 ghost use mathlib.Core.Bool.{true};
 ghost use Prim.Native.Nat.{_+_, _*_, _/_, _%_, _≤_};
@@ -72,8 +72,9 @@ pub fn mark_requested(
     ensures { λ _. ⌜ now (table .exit) ≡ heldWithin most count (markRequested clock typeid peer (idsIn (now (ids .entry))) (requestsIn count (now (table .entry)))) (now (table .entry)) ⌝ }
 {
     let number = ids.len() / 32;
-    if ids.len() == 32 {
-        return entering::mark_one(table, count, most, clock, typeid, peer, ids);
+    // A table that fills up must stay as it was, so ids go in one after another only where all of them have room.
+    if (number <= 8) & (count + number <= most) {
+        return Marked::Pending(entering::mark_each(table, count, clock, typeid, peer, ids));
     }
     let mut places = [0u16; 1024];
     let mut spare = [0u16; 1024];

@@ -1,3 +1,4 @@
 pub mod WriteLaws
 pub mod RunLaws
 pub mod RecordedLaws
+pub mod HoldingLaws

@@ -70,6 +70,31 @@ module _ (m : ℕ) (bytes : List ℕ) (whole : length bytes % 32 ≡ 0) where
           let t : drop m (entries 32 (length bytes / 32) bytes) ≡ entries 32 (length bytes / 32 - m) (drop (m * 32) bytes) = rw s at (drop-entries 32 m (length bytes / 32 - m) bytes) in
           t ∙ rw n
 
+-- ---- one id after another
+
+ids-next : (bytes : List ℕ) → length bytes % 32 ≡ 0 → 0 < length bytes → idsIn bytes ≡ take 32 bytes ∷ idsIn (drop 32 bytes)
+unfolding idsIn
+ids-next bytes h l =
+    let d : length (drop 32 bytes) ≡ length bytes - 32 = length-drop 32 bytes in
+    let q : length bytes / 32 ≡ suc (length (drop 32 bytes) / 32) = rw d (omega arith) in
+    rw q
+
+pub ids-none : idsIn [] ≡ []
+unfolding idsIn
+ids-none = refl
+
+pub ids-from : (at : ℕ) (bytes : List ℕ) → length bytes % 32 ≡ 0 → at % 32 ≡ 0 → at < length bytes
+    → idsIn (drop at bytes) ≡ take (at + 32 - at) (drop at bytes) ∷ idsIn (drop (at + 32) bytes)
+ids-from at bytes h a o =
+    let k : at + 32 - at ≡ 32 = omega arith in
+    let d : length (drop at bytes) ≡ length bytes - at = length-drop at bytes in
+    ids-next (drop at bytes) (rw d (omega arith)) (rw d (omega arith)) ∙ rw (k, drop-drop)
+
+pub length-id : (at : ℕ) (bytes : List ℕ) → at + 32 ≤ length bytes → length (take (at + 32 - at) (drop at bytes)) ≡ 32
+length-id at bytes h =
+    let k : at + 32 - at ≡ 32 = omega arith in
+    rw k (length-take-le 32 (drop at bytes) (rw (length-drop at bytes) (omega arith)))
+
 -- ---- the commands of a list
 
 abbrev pub requestsFor : ℕ → ℕ → ℕ → List ℕ → List ℕ

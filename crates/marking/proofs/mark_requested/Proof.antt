@@ -1,23 +1,36 @@
--- A list of one id is that id: `one-id`; else many at once, with room for their places: `room-long`.
+-- A few ids that have room: `few-ids`; else many at once, with room for their places: `room-long`.
 use borrow.Author.Needs.{needs}
 use native.Mathlib.Omega.{arith}
+use native.Mathlib.Nat.{mul-le-mul-right}
+use Prim.Native.Nat.{_+_, _/_, _≤_}
 use mathlib.Core.Path.{refl, sym}
+use lib.Dec.{leb}
 use lib.ListN.{length}
-use Rattle.entering.proofs.OneLaws.{one-id}
+use borrow.Author.Tests.{leb-true}
+use Rattle.fields.proofs.OrderLaws.{and-right}
+use Rattle.marking.proofs.ManyLaws.{few-ids}
 use Rattle.marking.proofs.SortedLaws.{room-long}
 use Rattle.marking.proofs.mark_requested.Statement.{statement}
 use Rattle.marking.proofs.mark_requested.Tie as tie
 
-mark-one-requires : tie.Need-mark-one-requires
-mark-one-requires c κs = search needs
+add-if1 : tie.Need-add-if1
+add-if1 c = search needs
+
+mark-each-requires : tie.Need-mark-each-requires
+mark-each-requires c κs = let s = c .before .before .before .before in
+    let a = s .args in
+    let n = length (a .ids .now) / 32 in
+    let room : a .count + n ≤ a .most = leb-true (a .count + n) (a .most) (and-right (leb n 8) (leb (a .count + n) (a .most)) (c .before .if1 .taken)) in
+    ((s .pre .0 .0, omega (arith, mul-le-mul-right 54 room, s .pre .0 .1 .1 .1 .1)), s .pre .1)
 
 same-length : tie.Need-same-length
 same-length c = search needs
 
 returns : tie.Need-returns
-returns c = let s = c .before .before .before .before .before .before .before in
-    let a = s .args in
-    one-id (a .clock) (a .typeid) (a .peer) (a .most) (a .count) (a .ids .now) (a .table .now) (c .before .before .mark-one .last .0) (c .before .before .mark-one .result) (c .before .before .before .before .if1 .taken) (c .before .before .mark-one .ensures)
+returns c = let a = c .before .before .before .before .before .before .before .args in
+    let n = length (a .ids .now) / 32 in
+    let room : a .count + n ≤ a .most = leb-true (a .count + n) (a .most) (and-right (leb n 8) (leb (a .count + n) (a .most)) (c .before .before .before .before .if1 .taken)) in
+    few-ids (a .clock) (a .typeid) (a .peer) (a .most) (a .count) (a .ids .now) (a .table .now) (c .before .before .mark-each .last .0) (c .before .before .mark-each .result) room (c .before .before .mark-each .ensures)
 
 array-borrow-prefix-places : tie.Need-array-borrow-prefix-places
 array-borrow-prefix-places c = search needs
@@ -49,7 +62,8 @@ pub mark-requested-spec : {M : Type 1} → statement M
 mark-requested-spec =
     tie.close
     (tie.spec
-    mark-one-requires
+    add-if1
+    mark-each-requires
     same-length
     returns
     array-borrow-prefix-places

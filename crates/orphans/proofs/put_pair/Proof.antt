@@ -4,7 +4,7 @@ use native.Mathlib.Omega.{arith}
 use Prim.Native.Nat.{_+_, _-_, _*_}
 use mathlib.Core.Path.{_≡_, refl, _∙_}
 use lib.ListN.{length, take, drop, getD, set, length-set}
-use Rattle.delivery.proofs.ListedLaws.{length-id}
+use Rattle.requests.proofs.RunLaws.{length-id}
 use Rattle.orphans.proofs.OrphanLaws.{pair-put}
 use Rattle.orphans.proofs.put_pair.Statement.{statement}
 use Rattle.orphans.proofs.put_pair.Tie as tie
