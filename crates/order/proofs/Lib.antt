@@ -2,3 +2,4 @@ pub mod MergeLaws
 pub mod KeyLaws
 pub mod LoopLaws
 pub mod WholeLaws
+pub mod SortedLaws
