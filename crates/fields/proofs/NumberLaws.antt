@@ -1,6 +1,6 @@
 -- Numbers in bytes: their width, there and back, and a number of m + n bytes in two.
 use Prim.Native.Nat.{ℕ, zero, suc, _+_, _-_, _*_, _/_, _%_, _^_, _≤_, _<_}
-use mathlib.Core.Path.{_≡_, refl, sym, _∙_}
+use mathlib.Core.Path.{_≡_, refl, sym, ap, _∙_}
 use mathlib.Core.List.{List, [], _∷_, _++_, append-assoc, append-nil}
 use native.Mathlib.Nat.{add-zero, zero-add, add-mul, mul-assoc, pow-succ', pow-le-pow-right, mul-le-mul-right, mod-lt, div-div-eq-div-mul}
 use native.Mathlib.Numerals.{add-one}
@@ -8,7 +8,7 @@ use native.Mathlib.Omega.{arith}
 use lib.ListN.{length, take, drop, getD, length-append, length-drop, drop-of-length-le}
 use lib.Seq.{drop-cons, drop-drop, take-add, length-take-le, getD-take, getD-drop}
 use Rattle.fields.specs.Facts.{Bytes}
-use Rattle.fields.specs.Number.{fromBe, fromBeAfter, toBe}
+use Rattle.fields.specs.Number.{fromBe, fromBeAfter, toBe, toLe}
 
 -- ---- every byte is below 256
 
@@ -124,6 +124,62 @@ toBe-split m (suc n) v =
     let s : m + suc n ≡ suc (m + n) = omega arith in
     let d : v / 256 ^ suc n ≡ v / 256 / 256 ^ n = rw (pow-succ' 256 n) (sym (div-div-eq-div-mul v 256 (256 ^ n))) in
     rw (s, toBe-split m n (v / 256), d, append-assoc)
+
+-- ---- the low byte first
+
+pub length-toLe : (width n : ℕ) → length (toLe width n) ≡ width
+length-toLe zero n = refl
+length-toLe (suc width) n = ap suc (length-toLe width (n / 256))
+
+toLe-bytes : (width n : ℕ) → Bytes (toLe width n)
+toLe-bytes zero n = bytes-nil
+toLe-bytes (suc width) n = bytes-cons (n % 256) (toLe width (n / 256)) (mod-lt n (omega arith)) (toLe-bytes width (n / 256))
+
+toLe-parts : (m n low high : ℕ) → low < 256 ^ m → toLe (m + n) (high * 256 ^ m + low) ≡ toLe m low ++ toLe n high
+toLe-parts zero n low high h =
+    let e : high * 256 ^ 0 + low ≡ high = omega arith in
+    rw (zero-add, e)
+toLe-parts (suc m) n low high h =
+    let p : high * 256 ^ suc m ≡ high * 256 ^ m * 256 = rw (pow-succ' 256 m) (omega arith) in
+    let r : (high * 256 ^ suc m + low) % 256 ≡ low % 256 = rw p (omega arith) in
+    let q : (high * 256 ^ suc m + low) / 256 ≡ high * 256 ^ m + low / 256 = rw p (omega arith) in
+    let s : suc m + n ≡ suc (m + n) = omega arith in
+    rw (s, r, q, toLe-parts m n (low / 256) high (omega arith))
+
+-- two parts of s, the low one in front
+pub low-parts : (s : List ℕ) (at m next n width low high both : ℕ) → at + m ≡ next → m + n ≡ width → both ≡ high * 256 ^ m + low → low < 256 ^ m
+    → toLe m low ≡ take m (drop at s) → toLe n high ≡ take n (drop next s) → toLe width both ≡ take width (drop at s)
+low-parts s at m next n width low high both p e b l h k =
+    rw (← e, b, toLe-parts m n low high l, h, k, take-add m n (drop at s), drop-drop m at s, p)
+
+pub low-one : (s : List ℕ) (at b : ℕ) → at < length s → b < 256 → b ≡ getD s at 0 → toLe 1 b ≡ take 1 (drop at s)
+low-one s at b h l e =
+    let m : b % 256 ≡ getD s at 0 = omega arith in
+    rw (drop-cons s at 0 h, m)
+
+-- one more byte of v: the low byte of what is left
+pub toLe-next : (width i v : ℕ) → i < width → toLe (width - i) v ≡ v % 256 ∷ toLe (width - (i + 1)) (v / 256)
+toLe-next width i v h =
+    let e : width - i ≡ suc (width - (i + 1)) = omega arith in
+    rw e
+
+pub turned-turn : (width i v high : ℕ) → i < width → fromBeAfter high (toLe (width - i) v) ≡ fromBeAfter (high * 256 + v % 256) (toLe (width - (i + 1)) (v / 256))
+turned-turn width i v high h = rw (toLe-next width i v h)
+
+pub turned-end : (width i v high : ℕ) → width ≤ i → fromBeAfter high (toLe (width - i) v) ≡ high
+turned-end width i v high h =
+    let e : width - i ≡ 0 = omega arith in
+    rw e
+
+-- turned and read the other way round, the bytes are as they were
+pub toLe-turned : (width n : ℕ) → toLe width (fromBe (toLe width n)) ≡ toBe width n
+toLe-turned zero n = refl
+toLe-turned (suc width) n =
+    let bs : List ℕ = toLe width (n / 256) in
+    let l : fromBe bs < 256 ^ width = rw (length-toLe width (n / 256)) at (fromBe-below bs (toLe-bytes width (n / 256))) in
+    let v : fromBe (n % 256 ∷ bs) ≡ n % 256 * 256 ^ width + fromBe bs = fromBe-cons (n % 256) bs ∙ rw (length-toLe width (n / 256)) in
+    let r : n % 256 % 256 ≡ n % 256 = omega arith in
+    ap (toLe (suc width)) v ∙ (rw (add-one width) at (toLe-parts width 1 (fromBe bs) (n % 256) l)) ∙ rw (r, toLe-turned width (n / 256))
 
 -- ---- reading byte by byte
 

@@ -7,9 +7,9 @@ use native.Mathlib.Numerals.{add-one}
 use native.Mathlib.Omega.{arith}
 use lib.ListN.{length, take, drop, getD, set, length-append, length-drop, take-append-drop, drop-of-length-le}
 use lib.Seq.{take-append-le, drop-append-le, take-at, drop-at, getD-at, set-at, drop-drop, take-take, take-add, take-suc, drop-cons, length-take-le, getD-take, drop-append-add, take-nil, take-all, set-split}
-use Rattle.fields.specs.Number.{fromBe, toBe}
+use Rattle.fields.specs.Number.{fromBe, toBe, toLe}
 use Rattle.fields.specs.Overwrite.{overwritten}
-use Rattle.fields.proofs.NumberLaws.{length-toBe, fromBe-toBe}
+use Rattle.fields.proofs.NumberLaws.{length-toBe, fromBe-toBe, length-toLe, toLe-next, toLe-turned}
 
 pub overwritten-nil : (at : ℕ) (s : List ℕ) → overwritten at [] s ≡ s
 unfolding overwritten
@@ -163,6 +163,31 @@ module _ (s : List ℕ) (at width n j v : ℕ) (h : at + width ≤ length s) (l 
 pub write-none : (at width n : ℕ) (s : List ℕ) → overwritten (at + width) (drop width (toBe width n)) s ≡ s
 write-none at width n s =
     rw (drop-of-length-le (toBe width n) {i = width} (rw length-toBe (omega arith))) (overwritten-nil (at + width) s)
+
+-- the same upwards, the low byte first
+module _ (s : List ℕ) (at width n i v : ℕ) (h : at + width ≤ length s) (l : i < width) (q : drop i (toLe width n) ≡ toLe (width - i) v) where
+  inside : i < length (toLe width n)
+  inside = rw length-toLe l
+
+  low-next : getD (toLe width n) i 0 ∷ drop (suc i) (toLe width n) ≡ v % 256 ∷ toLe (width - (i + 1)) (v / 256)
+  low-next = sym (drop-cons (toLe width n) i 0 inside) ∙ q ∙ toLe-next width i v l
+
+  pub low-left : drop (i + 1) (toLe width n) ≡ toLe (width - (i + 1)) (v / 256)
+  low-left =
+      let e : drop (suc i) (toLe width n) ≡ toLe (width - (i + 1)) (v / 256) = cc low-next in
+      ap (λ (k : ℕ). drop k (toLe width n)) (add-one i) ∙ e
+
+  pub low-turn : set (overwritten at (take i (toLe width n)) s) (at + i) (v % 256) ≡ overwritten at (take (i + 1) (toLe width n)) s
+  low-turn =
+      let e : v % 256 ≡ getD (toLe width n) i 0 = cc low-next in
+      rw e (turn-up at i (toLe width n) s (rw length-toLe h) inside)
+
+pub low-all : (at width n i : ℕ) (s : List ℕ) → width ≤ i → overwritten at (take i (toLe width n)) s ≡ overwritten at (toLe width n) s
+low-all at width n i s h = rw (take-all i (toLe width n) (rw length-toLe h))
+
+-- the low byte of the turned number is the high byte of n
+pub low-turned : (at width n other : ℕ) (s t : List ℕ) → other ≡ fromBe (toLe width n) → t ≡ overwritten at (toLe width other) s → t ≡ overwritten at (toBe width n) s
+low-turned at width n other s t e w = w ∙ rw (e, toLe-turned width n)
 
 -- ---- copying over the front, byte by byte
 

@@ -1,4 +1,4 @@
--- Numbers in bytes, the high byte first.
+-- Numbers in bytes, the high byte first; and the low byte first, as memory holds them.
 use Prim.Native.Nat.{ℕ, zero, suc, _+_, _*_, _/_, _%_}
 use mathlib.Core.List.{List, [], _∷_, _++_}
 
@@ -15,3 +15,8 @@ fromBe bytes = fromBeAfter 0 bytes
 abbrev pub toBe : ℕ → ℕ → List ℕ
 toBe zero n = []
 toBe (suc width) n = toBe width (n / 256) ++ (n % 256 ∷ [])
+
+-- the same bytes, the low one first
+abbrev pub toLe : ℕ → ℕ → List ℕ
+toLe zero n = []
+toLe (suc width) n = n % 256 ∷ toLe width (n / 256)

@@ -5,7 +5,7 @@
 ghost use mathlib.Core.Path.{_≡_};
 ghost use Prim.Native.Nat.{_+_, _*_, _^_, _≤_, _<_};
 ghost use lib.ListN.{length, take, drop};
-ghost use Rattle.fields.specs.Number.{fromBe, toBe};
+ghost use Rattle.fields.specs.Number.{fromBe, toBe, toLe};
 ghost use Rattle.fields.specs.Overwrite.{overwritten};
 
 fn wide(x: u8) -> u64
@@ -42,8 +42,8 @@ pub fn write(s: &mut [u8], at: usize, width: usize, n: u64)
     }
 }
 
-// Two bytes. Wider numbers are sums of these: of the ways to write such a sum, the one that becomes a single load
-// wherever it is inlined.
+// Two bytes. Four are a sum of these: of the ways to write such a sum, the one that becomes a single load wherever it is
+// inlined.
 fn pair(s: &[u8], at: usize) -> u64
     requires { ⌜ at + 2 ≤ length (now s) ⌝ }
     ensures { λ r. ⌜ (r ≡ fromBe (take 2 (drop at (now (s .entry))))) × (r < 65536) ⌝ }
@@ -65,14 +65,61 @@ pub fn read_u32(s: &[u8], at: usize) -> u32
     (pair(s, at) * 65536 + pair(s, at + 2)) as u32
 }
 
+// Eight bytes are read and written the low byte first, as memory holds a number, and turned round. LLVM makes one load or
+// store and one swap of that before it inlines; bytes summed up the high one first become a load only in the machine
+// code, and until then they weigh on every function that reads a word.
+fn low_pair(s: &[u8], at: usize) -> u64
+    requires { ⌜ at + 2 ≤ length (now s) ⌝ }
+    ensures { λ r. ⌜ (toLe 2 r ≡ take 2 (drop at (now (s .entry)))) × (r < 65536) ⌝ }
+{
+    wide(s[at + 1]) * 256 + wide(s[at])
+}
+
+// The number whose bytes these eight are, the low byte first.
+fn read_low_first(s: &[u8], at: usize) -> u64
+    requires { ⌜ at + 8 ≤ length (now s) ⌝ }
+    ensures { λ r. ⌜ toLe 8 r ≡ take 8 (drop at (now (s .entry))) ⌝ }
+{
+    low_pair(s, at + 6) * 281474976710656
+        + low_pair(s, at + 4) * 4294967296
+        + low_pair(s, at + 2) * 65536
+        + low_pair(s, at)
+}
+
+// The bytes of n written from `at` on, the low byte first.
+fn write_low_first(s: &mut [u8], at: usize, n: u64)
+    requires { ⌜ at + 8 ≤ length (now s) ⌝ }
+    ensures { λ _. ⌜ now (s .exit) ≡ overwritten at (toLe 8 n) (now (s .entry)) ⌝ }
+{
+    let mut rest = n;
+    let mut j = 0;
+    while j < 8 {
+        s[at + j] = (rest % 256) as u8;
+        rest = rest / 256;
+        j += 1;
+    }
+}
+
+// The number with the bytes of n in the other order.
+fn turned(n: u64) -> u64
+    ensures { λ r. ⌜ r ≡ fromBe (toLe 8 n) ⌝ }
+{
+    let mut high: u64 = 0;
+    let mut low = n;
+    let mut i: usize = 0;
+    while i < 8 {
+        high = high * 256 + low % 256;
+        low = low / 256;
+        i += 1;
+    }
+    high
+}
+
 pub fn read_u64(s: &[u8], at: usize) -> u64
     requires { ⌜ at + 8 ≤ length (now s) ⌝ }
     ensures { λ r. ⌜ r ≡ fromBe (take 8 (drop at (now (s .entry)))) ⌝ }
 {
-    pair(s, at) * 281474976710656
-        + pair(s, at + 2) * 4294967296
-        + pair(s, at + 4) * 65536
-        + pair(s, at + 6)
+    turned(read_low_first(s, at))
 }
 
 pub fn write_u16(s: &mut [u8], at: usize, n: u16)
@@ -93,5 +140,5 @@ pub fn write_u64(s: &mut [u8], at: usize, n: u64)
     requires { ⌜ at + 8 ≤ length (now s) ⌝ }
     ensures { λ _. ⌜ now (s .exit) ≡ overwritten at (toBe 8 n) (now (s .entry)) ⌝ }
 {
-    write(s, at, 8, n)
+    write_low_first(s, at, turned(n))
 }
