@@ -47,6 +47,9 @@ unfolding sentBytes commandBytes
 said-short batch none = omega arith
 said-short batch (some peer) = omega arith
 
+pub said-end : (at batch end : ℕ) (peer : Option ℕ) → end ≡ at + length (sentBytes batch (said peer)) → end ≤ at + 16
+said-end at batch end peer e = omega (arith, said-short batch peer)
+
 -- the length among the numbers told
 pub told-length : (r : Answer) (x : calls.Answer) → answerOf r ≡ x → r .length ≡ x .length
 unfolding answerOf

@@ -1,6 +1,6 @@
 -- Its parts one after another.
 use Rattle.peers.specs.Values.{listedPeer}
-use Rattle.finish.proofs.SaidLaws.{said-short}
+use Rattle.finish.proofs.SaidLaws.{said-end}
 use borrow.Author.Needs.{needs}
 use native.Mathlib.Omega.{arith}
 use Prim.Native.Nat.{_-_}
@@ -14,7 +14,7 @@ complete-requires : tie.Need-complete-requires
 complete-requires c κs = search needs
 
 finished-requires : tie.Need-finished-requires
-finished-requires c κs = let s = c .before .before .before .before .before .before .before .before .before .before .before .before in let m = c .before .before .before .before .before .before .say in let n = said-short (s .args .counts .batch) (listedPeer (s .args .plan .says)) in let k = s .pre .1 .1 in ((omega (arith, k), (omega (arith, k), omega (arith, m .ensures .1, n, s .pre .1 .0 .1 .1))), (omega (arith, k), (omega (arith, k), (omega (arith, k), omega (arith, k)))))
+finished-requires c κs = let s = c .before .before .before .before .before .before .before .before .before .before .before .before in let m = c .before .before .before .before .before .before .say in let n = said-end _ _ _ (listedPeer (s .args .plan .says)) (m .ensures .1) in let k = s .pre .1 .1 in ((omega (arith, k), (omega (arith, k), omega (arith, n, s .pre .1 .0 .1 .1))), (omega (arith, k), (omega (arith, k), (omega (arith, k), omega (arith, k)))))
 
 same-length : tie.Need-same-length
 same-length c = search needs
