@@ -5,10 +5,14 @@ use mathlib.Core.Bool.{Bool, true, false, cond, _&&_, _||_}
 use mathlib.Core.List.{List, [], _∷_, map}
 use mathlib.Core.Option.{none, some}
 use native.Mathlib.Omega.{arith}
+use mir.Syntax.{w64}
+use mir.Val.{Fits}
 use lib.Dec.{eqb, leb, ltb}
 use lib.ListN.{length, take, drop, getD, length-drop, drop-of-length-le}
 use lib.Seq.{getD-take, getD-drop, drop-drop}
+use borrow.Author.Needs.{fits-under}
 use borrow.Author.Tests.{leb-true, ltb-true, le-leb, lt-leb, le-ltb}
+use Rattle.fields.specs.Facts.{Bytes}
 use Rattle.fields.specs.Entries.{entries, entry}
 use Rattle.fields.proofs.OrderLaws.{and-left, and-right}
 use Rattle.fields.proofs.EntriesLaws.{length-entry, entry-field}
@@ -17,6 +21,9 @@ use Rattle.model.specs.Lists.{rowSize, placeSize, sectionOf, headerOf, firstHei
 use Rattle.view_rows.specs.Rows.{rowAt, sectionsOf, isAbsent, isComplete}
 
 -- ---- bytes
+
+pub byte-fits : (view : List ℕ) → Bytes view → (at : ℕ) → Fits w64 (getD view at 0)
+byte-fits view bytes at = fits-under w64 (getD view at 0) 256 (bytes at) tt
 
 module _ (i : ℕ) (view : List ℕ) where
   pub row-byte : (j : ℕ) → j < rowSize → getD (rowAt i view) j 0 ≡ getD view (i * 103 + 4 + j) 0
@@ -49,6 +56,9 @@ absent-row row = go (eqb (getD row 0 0) 255)
     go : (t : Bool) → t ≡ isAbsent (cond t absent (present (map sectionOf (entries placeSize (getD row 0 0) (drop 1 row)))))
     go true = refl
     go false = refl
+
+pub absent-byte : (i : ℕ) (view : List ℕ) → eqb (getD view (i * 103 + 4) 0) 255 ≡ isAbsent (headerOf (rowAt i view))
+absent-byte i view = rw (← row-first i view) (absent-row (rowAt i view))
 
 pub present-row : (row : List ℕ) → isAbsent (headerOf row) ≡ false → headerOf row ≡ present (sectionsOf row)
 unfolding headerOf sectionsOf

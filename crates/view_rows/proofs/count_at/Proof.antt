@@ -2,8 +2,7 @@
 use borrow.Author.Needs.{needs}
 use native.Mathlib.Omega.{arith}
 use mathlib.Core.Path.{sym}
-use Prim.Native.Nat.{_+_, _*_}
-use Rattle.view_rows.proofs.RowLaws.{row-first}
+use Rattle.view_rows.proofs.RowLaws.{byte-fits, row-first}
 use Rattle.view_rows.proofs.count_at.Statement.{statement}
 use Rattle.view_rows.proofs.count_at.Tie as tie
 
@@ -17,7 +16,7 @@ shared-slice-read-result : tie.Need-shared-slice-read-result
 shared-slice-read-result c = search needs
 
 cast-result : tie.Need-cast-result
-cast-result c = omega (arith, c .shared-slice-known .given (c .before .args .i * 103 + 4))
+cast-result c = byte-fits (c .before .args .view .now) (λ i. omega (arith, c .shared-slice-known .given i)) _
 
 returns : tie.Need-returns
 returns c = let s = c .before .args in sym (row-first (s .i) (s .view .now))
