@@ -17,6 +17,12 @@ fn read_all(bytes: &[u8]) -> u64 {
     })
 }
 
+/// One read of the state area.
+pub fn time_read(case: &Case, areas: &mut Areas) -> Duration {
+    case.restore(areas);
+    time(|| read_all(black_box(areas.state.bytes())))
+}
+
 /// The memory part of the limit, on the areas of the core's own calls.
 pub fn time_memory(case: &Case, areas: &mut Areas) -> Duration {
     case.restore(areas);

@@ -83,7 +83,6 @@ impl Case {
     pub fn refused(what: &str, number: u32, state: State, call: Call) -> Self {
         Self {
             number,
-            memory: Memory::Read,
             beside: Beside::ImageTest,
             ..Self::step(what, state, call)
         }

@@ -78,7 +78,6 @@ pub fn refused() -> Vec<Case> {
         ),
         view,
         Case {
-            memory: Memory::ReadAndCopied,
             beside: Beside::Tracker,
             ..Case::refused("10, 400 ids into 700", 10, before, too_many)
         },

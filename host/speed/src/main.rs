@@ -77,8 +77,8 @@ fn show_growth(areas: &mut Areas) {
 
 fn show_all(areas: &mut Areas) -> Vec<String> {
     use table::{
-        CORE, HELD_TO, MEDIAN, MEMORY, PLAIN, TO_HASHED, TO_LIMIT, TO_ORIGINAL, TO_PLAIN,
-        TO_TRACKER, TRACKER, WHAT,
+        CORE, HELD_TO, MEDIAN, MEMORY, PLAIN, READ, TO_HASHED, TO_LIMIT, TO_ORIGINAL, TO_PLAIN,
+        TO_READ, TO_TRACKER, TRACKER, WHAT,
     };
     let steps = [
         WHAT,
@@ -94,6 +94,9 @@ fn show_all(areas: &mut Areas) -> Vec<String> {
     ];
     let idle = [WHAT, CORE, MEDIAN, MEMORY, TO_LIMIT, HELD_TO];
     let refused = [
+        WHAT, CORE, MEDIAN, MEMORY, TO_LIMIT, HELD_TO, READ, TO_READ, PLAIN, TO_PLAIN,
+    ];
+    let questions = [
         WHAT, CORE, MEDIAN, MEMORY, TO_LIMIT, HELD_TO, PLAIN, TO_PLAIN,
     ];
     let mut over = shown("### Idle steps", &idle, cases::idle(), areas);
@@ -110,7 +113,12 @@ fn show_all(areas: &mut Areas) -> Vec<String> {
         areas,
     ));
     over.extend(shown("### Other steps", &steps, cases::others(), areas));
-    over.extend(shown("### Questions", &refused, cases::questions(), areas));
+    over.extend(shown(
+        "### Questions",
+        &questions,
+        cases::questions(),
+        areas,
+    ));
     show_growth(areas);
     over
 }

@@ -1,6 +1,6 @@
 //! All sides of a case, timed in turn.
 
-use crate::beside::{filled, listed, time_memory, time_plain, time_tracker, track};
+use crate::beside::{filled, listed, time_memory, time_plain, time_read, time_tracker, track};
 use crate::case::{Areas, Beside, Case, Entry, Memory};
 use crate::times::{time, Times};
 use keeper_oracle::{Maps, Oracle};
@@ -12,6 +12,8 @@ pub struct Measured {
     pub core: Times,
     /// The memory part of the limit.
     pub memory: Times,
+    /// One read of the state area: what a refused call cannot do without.
+    pub read: Times,
     /// The original's tracker over `BTreeMap`.
     pub ordered: Times,
     /// The same over `HashMap`.
@@ -83,6 +85,9 @@ pub fn measure(case: &Case, areas: &mut Areas, rounds: usize, measured: &mut Mea
         let (took, calls) = time_core(case, areas);
         measured.core.add(took, calls);
         measured.memory.add(time_memory(case, areas), 1);
+        if case.number != 0 {
+            measured.read.add(time_read(case, areas), 1);
+        }
         for (maps, times) in [
             (Maps::Ordered, &mut measured.ordered),
             (Maps::Hashed, &mut measured.hashed),

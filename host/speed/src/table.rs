@@ -34,6 +34,10 @@ pub const WHAT: Column = ("", |case, _| case.what.clone());
 pub const CORE: Column = ("core, ns", |_, m| nanoseconds(m.core.best()));
 pub const MEDIAN: Column = ("median", |_, m| nanoseconds(m.core.median()));
 pub const MEMORY: Column = ("memory, ns", |_, m| nanoseconds(m.memory.best()));
+pub const READ: Column = ("one read, ns", |_, m| nanoseconds(m.read.best()));
+pub const TO_READ: Column = ("to one read", |_, m| {
+    times(against(m.core.best(), m.read.best()))
+});
 pub const TRACKER: Column = ("tracker, ns", |_, m| nanoseconds(m.ordered.best()));
 pub const PLAIN: Column = ("plain Rust, ns", |_, m| nanoseconds(m.plain.best()));
 pub const TO_LIMIT: Column = ("to the limit", |case, m| times(m.ratio(case)));
