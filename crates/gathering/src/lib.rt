@@ -10,7 +10,7 @@ ghost use Rattle.fields.specs.Overwrite.{overwritten};
 ghost use Rattle.gathering.specs.Gathered.{gathered};
 
 // An id copied to `to`. All of it is read before it is written, so that it moves by words.
-fn put_id(table: &[u8], from: usize, ids: &mut [u8], to: usize)
+pub fn put_id(table: &[u8], from: usize, ids: &mut [u8], to: usize)
     requires { ⌜ (from + 32 ≤ length (now table)) × (to + 32 ≤ length (now ids)) ⌝ }
     ensures { λ _. ⌜ now (ids .exit) ≡ overwritten to (take 32 (drop from (now (table .entry)))) (now (ids .entry)) ⌝ }
 {

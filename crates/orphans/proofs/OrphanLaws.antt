@@ -62,16 +62,15 @@ module _ (i : ℕ) (table : List ℕ) where
 
   pub pair-put : (to : ℕ) (pairs x y : List ℕ) → i * recordSize + recordSize ≤ length table → to * 33 + 33 ≤ length pairs → getD (entry recordSize i table) 40 0 ≡ 0
       → x ≡ set pairs (to * 33) (getD table (i * recordSize + 41) 0)
-      → y ≡ overwritten (to * 33 + 1) (take (i * recordSize + 32 - i * recordSize) (drop (i * recordSize) table)) x
+      → y ≡ overwritten (to * 33 + 1) (take 32 (drop (i * recordSize) table)) x
       → y ≡ overwritten (to * 33) (pairIn (entry recordSize i table)) pairs
   unfolding pairIn
   pair-put to pairs x y h l z p q =
       let low : ℕ = getD table (i * recordSize + 41) 0 in
       let id : List ℕ = take 32 (drop (i * recordSize) table) in
-      let k : i * recordSize + 32 - i * recordSize ≡ 32 = omega arith in
       let n : length id ≡ 32 = length-take-le 32 (drop (i * recordSize) table) (rw (length-drop (i * recordSize) table) (omega arith)) in
       let e : x ≡ overwritten (to * 33) (low ∷ []) pairs = p ∙ overwritten-one (to * 33) low pairs (omega arith) in
-      q ∙ rw (e, k, type-low h z, id-at) (overwritten-next (to * 33) (low ∷ []) id pairs (omega arith))
+      q ∙ rw (e, type-low h z, id-at) (overwritten-next (to * 33) (low ∷ []) id pairs (omega arith))
 
 -- the high byte of each type is zero
 narrow-each : (es : List (List ℕ)) (i : ℕ) → typesNarrow es ≡ true → i < length es → getD (getD es i []) 40 0 ≡ 0

@@ -30,10 +30,9 @@ fn put_pair(table: &[u8], i: usize, pairs: &mut [u8], to: usize)
     ensures { λ _. ⌜ now (pairs .exit) ≡ overwritten (to * 33) (pairIn (entry 54 i (now (table .entry)))) (now (pairs .entry)) ⌝ }
 {
     let from = i * 54;
-    let end = from + 32;
     let at = to * 33;
     pairs[at] = table[from + 41];
-    moving::overwrite(pairs, at + 1, &table[from..end]);
+    gathering::put_id(table, from, pairs, at + 1);
 }
 
 // The peer's requests that are no transactions, as pairs of type and id at the front of `pairs`, in the table's order.

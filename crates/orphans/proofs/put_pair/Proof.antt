@@ -1,19 +1,15 @@
 -- A byte and 32 bytes behind it are one write: `pair-put`.
 use borrow.Author.Needs.{needs}
 use native.Mathlib.Omega.{arith}
-use Prim.Native.Nat.{_+_, _-_, _*_}
-use mathlib.Core.Path.{_≡_, refl, _∙_}
-use lib.ListN.{length, take, drop, getD, set, length-set}
-use Rattle.requests.proofs.RunLaws.{length-id}
+use Prim.Native.Nat.{_+_, _*_}
+use mathlib.Core.Path.{refl, _∙_}
+use lib.ListN.{getD, set, length-set}
 use Rattle.orphans.proofs.OrphanLaws.{pair-put}
 use Rattle.orphans.proofs.put_pair.Statement.{statement}
 use Rattle.orphans.proofs.put_pair.Tie as tie
 
 mul-from : tie.Need-mul-from
 mul-from c = search needs
-
-add-end : tie.Need-add-end
-add-end c = search needs
 
 mul-at : tie.Need-mul-at
 mul-at c = search needs
@@ -27,47 +23,31 @@ shared-slice-read-pairs c = search needs
 slice-write-pairs : tie.Need-slice-write-pairs
 slice-write-pairs c = search needs
 
-add-overwrite : tie.Need-add-overwrite
-add-overwrite c = search needs
+add-put-id : tie.Need-add-put-id
+add-put-id c = search needs
 
-sub-overwrite : tie.Need-sub-overwrite
-sub-overwrite c = search needs
-
-part-overwrite-start : tie.Need-part-overwrite-start
-part-overwrite-start c = search needs
-
-part-overwrite-end : tie.Need-part-overwrite-end
-part-overwrite-end c = search needs
-
-overwrite-requires : tie.Need-overwrite-requires
-overwrite-requires c κs = let s = c .before .before .before .before .before in
-    let a = s .args in
-    let k : length (take (a .i * 54 + 32 - a .i * 54) (drop (a .i * 54) (a .table .now))) ≡ 32 = length-id (a .i * 54) (a .table .now) (omega arith) in
-    rw length-set (omega arith)
+put-id-requires : tie.Need-put-id-requires
+put-id-requires c κs = (omega arith, rw length-set (omega arith))
 
 same-length : tie.Need-same-length
-same-length c = let a = c .before .before .before .before .before .before .before .before .args in
-    c .before .before .overwrite .kept .0 ∙ length-set (a .pairs .now) (a .to * 33) _
+same-length c = let a = c .before .before .before .before .before .before .before .args in
+    c .before .before .put-id .kept .1 .1 .0 ∙ length-set (a .pairs .now) (a .to * 33) _
 
 returns : tie.Need-returns
-returns c = let s = c .before .before .before .before .before .before .before .before in
+returns c = let s = c .before .before .before .before .before .before .before in
     let a = s .args in
-    pair-put (a .i) (a .table .now) (a .to) (a .pairs .now) (set (a .pairs .now) (a .to * 33) (getD (a .table .now) (a .i * 54 + 41) 0)) (c .before .before .overwrite .last .0) (s .pre .0 .0) (s .pre .0 .1) (s .pre .1) refl (c .before .before .overwrite .ensures)
+    pair-put (a .i) (a .table .now) (a .to) (a .pairs .now) (set (a .pairs .now) (a .to * 33) (getD (a .table .now) (a .i * 54 + 41) 0)) (c .before .before .put-id .last .1 .1 .0) (s .pre .0 .0) (s .pre .0 .1) (s .pre .1) refl (c .before .before .put-id .ensures)
 
 pub put-pair-spec : {M : Type 1} → statement M
 put-pair-spec =
     tie.close
     (tie.spec
     mul-from
-    add-end
     mul-at
     add-pairs
     shared-slice-read-pairs
     slice-write-pairs
-    add-overwrite
-    sub-overwrite
-    part-overwrite-start
-    part-overwrite-end
-    overwrite-requires
+    add-put-id
+    put-id-requires
     same-length
     returns)
