@@ -293,11 +293,11 @@ module _ (s t : List ℕ) (f : Bytes s) (g : Bytes t) where
     alike : length (take m (drop p s)) ≡ length (take m (drop q t))
     alike = word s p p′ e h ∙ sym (word t q q′ d k)
 
-    pub word-before : before (take m (drop p s)) (take m (drop q t)) ≡ ltb (fromBe (take m (drop p s))) (fromBe (take m (drop q t)))
+    word-before : before (take m (drop p s)) (take m (drop q t)) ≡ ltb (fromBe (take m (drop p s))) (fromBe (take m (drop q t)))
     word-before =
         before-number (take m (drop p s)) (take m (drop q t)) alike (bytes-take m (drop p s) (bytes-drop p s f)) (bytes-take m (drop q t) (bytes-drop q t g))
 
-    pub word-same : same (take m (drop p s)) (take m (drop q t)) ≡ eqb (fromBe (take m (drop p s))) (fromBe (take m (drop q t)))
+    word-same : same (take m (drop p s)) (take m (drop q t)) ≡ eqb (fromBe (take m (drop p s))) (fromBe (take m (drop q t)))
     word-same =
         same-number (take m (drop p s)) (take m (drop q t)) alike (bytes-take m (drop p s) (bytes-drop p s f)) (bytes-take m (drop q t) (bytes-drop q t g))
 

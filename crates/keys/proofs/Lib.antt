@@ -1,1 +1,1 @@
-pub mod FourWordLaws
+pub mod UnlikeLaws

@@ -14,7 +14,7 @@ pub enum Found {
 
 // By halving; the answer is that of a walk from the front.
 pub fn find(table: &[u8], width: usize, count: usize, key: &[u8]) -> Found
-    requires { ⌜ (length (now key) ≤ width) × (count * width ≤ length (now table)) ⌝ }
+    requires { ⌜ (length (now key) ≤ width) × ((count * width ≤ length (now table)) × (8 ≤ length (now key))) ⌝ }
     requires { ⌜ rising (length (now key)) (entries width count (now table)) ≡ true ⌝ }
     ensures { λ r. ⌜ r ≡ found (now (key .entry)) 0 (entries width count (now (table .entry))) ⌝ }
 {

@@ -16,7 +16,7 @@ use search::find::Found;
 
 // Whether an entry starts with the key.
 fn has_key(table: &[u8], width: usize, count: usize, key: &[u8]) -> bool
-    requires { ⌜ (length (now key) ≤ width) × (count * width ≤ length (now table)) ⌝ }
+    requires { ⌜ (length (now key) ≤ width) × ((count * width ≤ length (now table)) × (8 ≤ length (now key))) ⌝ }
     requires { ⌜ rising (length (now key)) (entries width count (now table)) ≡ true ⌝ }
     ensures { λ r. ⌜ r ≡ hasKey (now (key .entry)) (entries width count (now (table .entry))) ⌝ }
 {

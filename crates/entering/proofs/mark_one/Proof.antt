@@ -12,7 +12,7 @@ use Rattle.entering.proofs.mark_one.Statement.{statement}
 use Rattle.entering.proofs.mark_one.Tie as tie
 
 find-requires : tie.Need-find-requires
-find-requires c κs = let s = c .before .before .before in ((omega arith, omega (arith, s .pre .0 .1)), rw (s .pre .0 .0) (s .pre .1))
+find-requires c κs = let s = c .before .before .before in ((omega arith, (omega (arith, s .pre .0 .1), omega arith)), rw (s .pre .0 .0) (s .pre .1))
 
 enum-told : tie.Need-enum-told
 enum-told c = search needs

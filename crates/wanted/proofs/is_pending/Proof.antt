@@ -7,7 +7,7 @@ use Rattle.wanted.proofs.is_pending.Statement.{statement}
 use Rattle.wanted.proofs.is_pending.Tie as tie
 
 has-key-requires : tie.Need-has-key-requires
-has-key-requires c κs = let s = c .before .before in ((omega arith, s .pre .0 .1), rw (s .pre .0 .0) (s .pre .1))
+has-key-requires c κs = let s = c .before .before in ((omega arith, (s .pre .0 .1, omega arith)), rw (s .pre .0 .0) (s .pre .1))
 
 returns : tie.Need-returns
 returns c = let s = c .before .before .before in c .has-key .ensures ∙ sym (pending-key (s .args .id .now) (entries 54 (s .args .count) (s .args .table .now)) (s .pre .0 .0))

@@ -24,7 +24,7 @@ has-key-requires : tie.Need-has-key-requires
 has-key-requires c κs = let s = c .before .before .before .before .before .before in
     let e = pair-key (s .args .typeid) (s .args .id .now) (c .before .before .overwrite .last .0) (s .pre .0) (c .before .before .overwrite .ensures) in
     let l : length (c .before .before .overwrite .last .0) ≡ 33 = ap length e ∙ ap suc (s .pre .0) in
-    ((omega arith, omega arith), rw l (pairs-rise (s .args .stored .now) (s .pre .1)))
+    ((omega arith, (omega arith, omega arith)), rw l (pairs-rise (s .args .stored .now) (s .pre .1)))
 
 returns : tie.Need-returns
 returns c = let s = c .before .before .before .before .before .before .before in

@@ -11,7 +11,7 @@ use Rattle.delivery.proofs.marks.unmark.Statement.{statement}
 use Rattle.delivery.proofs.marks.unmark.Tie as tie
 
 find-requires : tie.Need-find-requires
-find-requires c κs = let s = c .before .before .before in ((omega arith, s .pre .0 .1 .0), rw (s .pre .0 .0) (s .pre .1))
+find-requires c κs = let s = c .before .before .before in ((omega arith, (s .pre .0 .1 .0, omega arith)), rw (s .pre .0 .0) (s .pre .1))
 
 enum-known-i : tie.Need-enum-known-i
 enum-known-i c = search needs
