@@ -89,7 +89,8 @@ impl Tree {
         Ok(())
     }
 
-    /// `crate::module::function`, if the crate has that word; `None` for what is no such path.
+    /// `crate::module::function`, if the crate has these words; `None` for what is no such path. Crates in Rust, whose names
+    /// begin with `keeper_`, are passed over.
     fn has_path(&self, name: &str) -> Option<bool> {
         let parts: Vec<&str> = name.split("::").collect();
         let plain = |part: &&str| part.chars().all(|c| c.is_alphanumeric() || c == '_');
@@ -97,8 +98,11 @@ impl Tree {
         {
             return None;
         }
-        let words = self.code.get(parts[0]);
-        Some(words.is_some_and(|words| parts[1..].iter().all(|part| words.contains(*part))))
+        match self.code.get(parts[0]) {
+            Some(words) => Some(parts[1..].iter().all(|part| words.contains(*part))),
+            None if parts[0].starts_with("keeper_") => None,
+            None => Some(false),
+        }
     }
 
     /// `File.name`, a definition or a law.
