@@ -9,14 +9,14 @@ use native.Mathlib.Numerals.{add-one}
 use lib.Dec.{ltb}
 use lib.ListN.{length, take, drop, getD, drop-of-length-le}
 use lib.Seq.{drop-cons}
-use borrow.Author.Tests.{ltb-true, ltb-false, lt-ltb, le-ltb}
+use borrow.Author.Tests.{ltb-true, ltb-false, ne-eqb}
 use Rattle.fields.specs.Facts.{All, Bytes}
 use Rattle.fields.specs.Number.{fromBe}
 use Rattle.fields.specs.Order.{before, same}
 use Rattle.fields.specs.Entries.{entries, entry}
 use Rattle.fields.proofs.AllLaws.{all-at}
 use Rattle.fields.proofs.EntriesLaws.{length-entries, entries-at, entry-front}
-use Rattle.order.proofs.KeyLaws.{first-word-before, first-word-same}
+use Rattle.keys.proofs.UnlikeLaws.{first-decides, first-less, first-more}
 use Rattle.model.specs.Protocol.{Id}
 use Rattle.model.specs.Delivery.{Request}
 use Rattle.model.specs.Image.{requestOf}
@@ -29,19 +29,13 @@ use Rattle.choosing.specs.declared.Choice.the-variants.{Keep, Skip, Ente
 module _ (s t : List ℕ) (f : Bytes s) (g : Bytes t) (p q a b : ℕ) (h : p + 32 ≤ length s) (k : q + 32 ≤ length t)
     (ea : a ≡ fromBe (take 8 (drop p s))) (eb : b ≡ fromBe (take 8 (drop q t))) where
   pub word-keeps : a < b → Keep ≡ chosen (take 32 (drop p s)) (take 32 (drop q t))
-  word-keeps l =
-      let n : a ≡ b → ⊥ = λ e. lt-irrefl a (omega arith) in
-      let w : before (take 32 (drop p s)) (take 32 (drop q t)) ≡ true = sym (first-word-before s t f g p q 32 a b (omega arith) h k ea eb n) ∙ lt-ltb a b l in
-      rw w
-
-  pub word-enters : b < a → Enter ≡ chosen (take 32 (drop p s)) (take 32 (drop q t))
-  word-enters l =
-      let n : a ≡ b → ⊥ = λ e. lt-irrefl a (omega arith) in
-      let w : before (take 32 (drop p s)) (take 32 (drop q t)) ≡ false = sym (first-word-before s t f g p q 32 a b (omega arith) h k ea eb n) ∙ le-ltb a b (omega arith) in
-      rw (w, first-word-same s t f g p q 32 a b (omega arith) h k ea eb n)
+  word-keeps l = rw (← first-less s t f g p q 32 a b (omega arith) h k ea eb l)
 
   pub word-differs : (a ≡ b → ⊥) → false ≡ same (take 32 (drop p s)) (take 32 (drop q t))
-  word-differs n = sym (first-word-same s t f g p q 32 a b (omega arith) h k ea eb n)
+  word-differs n = sym (ne-eqb a b n) ∙ first-decides s t f g p q 32 a b (omega arith) h k ea eb n .equality
+
+  pub word-enters : b < a → Enter ≡ chosen (take 32 (drop p s)) (take 32 (drop q t))
+  word-enters l = rw (← first-more s t f g p q 32 a b (omega arith) h k ea eb l, ← word-differs (λ e. lt-irrefl a (omega arith)))
 
 module _ (x y : List ℕ) (b : Bool) (eb : b ≡ before x y) where
   pub keep-chosen : b ≡ true → Keep ≡ chosen x y

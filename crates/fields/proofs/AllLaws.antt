@@ -1,5 +1,5 @@
 -- A fact of every element of a list.
-use Prim.Native.Nat.{ℕ, zero, suc, _+_, _*_, _≤_, _<_}
+use Prim.Native.Nat.{ℕ, zero, suc, _*_, _≤_, _<_}
 use mathlib.Core.Path.{_≡_, refl}
 use mathlib.Core.Bool.{Bool, true, false, cond}
 use mathlib.Core.List.{List, [], _∷_, _++_, map}
@@ -8,7 +8,7 @@ use native.Mathlib.Omega.{arith}
 use lib.ListN.{length, take, drop, getD, set, take-append-drop}
 use lib.Dec.{eqb}
 use Rattle.fields.specs.Facts.{All, Bytes}
-use Rattle.fields.specs.Entries.{entries, insertedAt, removedAt}
+use Rattle.fields.specs.Entries.{entries, insertedAt}
 use Rattle.fields.specs.Filter.{consIf, kept, marked}
 use Rattle.fields.proofs.EntriesLaws.{entries-wide, entries-bytes}
 
@@ -74,10 +74,6 @@ module _ {A : Type 0} (P : A → Type 0) where
   pub all-insertedAt : (i : ℕ) (x : A) (xs : List A) → P x → All P xs → All P (insertedAt i x xs)
   unfolding insertedAt
   all-insertedAt i x xs p q = all-append P (take i xs) (x ∷ drop i xs) (all-take P i xs q) (p, all-drop P i xs q)
-
-  pub all-removedAt : (i : ℕ) (xs : List A) → All P xs → All P (removedAt i xs)
-  unfolding removedAt
-  all-removedAt i xs q = all-append P (take i xs) (drop (i + 1) xs) (all-take P i xs q) (all-drop P (i + 1) xs q)
 
 pub all-map {ℓ κ ν} : {A : Type ℓ} {B : Type κ} (P : A → Type ν) (Q : B → Type ν) (f : A → B) → ((x : A) → P x → Q (f x)) → (xs : List A) → All P xs → All Q (map f xs)
 all-map P Q f g [] p = tt

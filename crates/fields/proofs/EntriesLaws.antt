@@ -8,12 +8,12 @@ use borrow.Author.Tests.{leb-true, leb-false}
 use native.Mathlib.Nat.{add-mul, suc-mul, zero-mul, zero-add, suc-add, not-suc-le-zero, le-of-suc-le-suc, mul-le-mul-right}
 use native.Mathlib.Omega.{arith}
 use lib.ListN.{length, take, drop, getD, set, length-append, length-drop, length-set, take-append-drop}
-use lib.Seq.{take-append-le, drop-append-le, take-at, drop-at, drop-drop, take-take, take-add, take-all, length-take-le, set-split, drop-append-add}
+use lib.Seq.{take-append-le, drop-append-le, take-at, drop-at, drop-drop, take-take, take-add, length-take-le, set-split, drop-append-add}
 use Rattle.fields.specs.Zero.{zeros}
 use Rattle.fields.specs.Overwrite.{overwritten}
-use Rattle.fields.specs.Entries.{entries, entry, joined, insertedAt, removedAt, replaced}
+use Rattle.fields.specs.Entries.{entries, entry, joined, insertedAt, replaced}
 use Rattle.fields.proofs.ZeroLaws.{length-zeros, zeros-append, drop-zeros}
-use Rattle.fields.proofs.OverwriteLaws.{drop-take, length-overwritten, overwritten-within}
+use Rattle.fields.proofs.OverwriteLaws.{drop-take}
 use Rattle.fields.specs.Facts.{All, Bytes}
 use Rattle.fields.proofs.NumberLaws.{bytes-nil, bytes-append, bytes-take, bytes-drop}
 
@@ -142,18 +142,10 @@ module _ (width count : ℕ) (new : List (List ℕ)) (bytes : List ℕ) (wide : 
   unfolding replaced
   entries-replaced = entries-joined width new (zeros ((count - length new) * width) ++ drop (max count (length new) * width) bytes) wide
 
-  pub take-replaced : take (length new * width) (replaced width count new bytes) ≡ joined new
-  unfolding replaced
-  take-replaced = take-at (joined new) (zeros ((count - length new) * width) ++ drop (max count (length new) * width) bytes) (length new * width) (length-joined width new wide)
-
   -- what follows the new entries: what is freed, then what was there
   pub drop-new : drop (length new * width) (replaced width count new bytes) ≡ zeros ((count - length new) * width) ++ drop (max count (length new) * width) bytes
   unfolding replaced
   drop-new = drop-at (joined new) (zeros ((count - length new) * width) ++ drop (max count (length new) * width) bytes) (length new * width) (length-joined width new wide)
-
-  pub freed-zero : take ((count - length new) * width) (drop (length new * width) (replaced width count new bytes)) ≡ zeros ((count - length new) * width)
-  freed-zero =
-      rw (drop-new, take-at (zeros ((count - length new) * width)) (drop (max count (length new) * width) bytes) ((count - length new) * width) (length-zeros ((count - length new) * width)))
 
   -- what stands behind both tables stays
   pub drop-replaced : (q : ℕ) → max count (length new) * width ≤ q → drop q (replaced width count new bytes) ≡ drop q bytes
@@ -188,14 +180,6 @@ module _ (width m n : ℕ) (bytes : List ℕ) where
   unfolding insertedAt
   inserted-entries e = rw (take-entries width m n bytes, drop-entries width m n bytes)
 
-  pub removed-entries : removedAt m (entries width (m + suc n) bytes) ≡ entries width m bytes ++ entries width n (drop (m * width + width) bytes)
-  unfolding removedAt
-  removed-entries =
-      let s : m + suc n ≡ (m + 1) + n = omega arith in
-      let z : (m + 1) * width ≡ m * width + width = omega arith in
-      let d : drop (m + 1) (entries width (m + suc n) bytes) ≡ entries width n (drop (m * width + width) bytes) = rw (s, drop-entries width (m + 1) n bytes, z) in
-      rw (take-entries width m (suc n) bytes, d)
-
   pub replaced-inserted : (e : List ℕ)
       → replaced width (m + n) (insertedAt m e (entries width (m + n) bytes)) bytes
       ≡ take (m * width) bytes ++ (e ++ (take (n * width) (drop (m * width) bytes) ++ drop ((m + n) * width + width) bytes))
@@ -207,26 +191,6 @@ module _ (width m n : ℕ) (bytes : List ℕ) where
       rw inserted-entries
       (replaced-more width (m + n) new bytes (omega arith)
       ∙ rw (l, z, joined-append (entries width m bytes) (e ∷ entries width n (drop (m * width) bytes)), joined-entries width m bytes, joined-entries width n (drop (m * width) bytes)) (simp append-assoc))
-
-  pub replaced-removed : replaced width (m + suc n) (removedAt m (entries width (m + suc n) bytes)) bytes
-      ≡ take (m * width) bytes ++ (take (n * width) (drop (m * width + width) bytes) ++ (zeros width ++ drop ((m + suc n) * width) bytes))
-  replaced-removed =
-      let new : List (List ℕ) = entries width m bytes ++ entries width n (drop (m * width + width) bytes) in
-      let l : length new ≡ m + n =
-      length-append (entries width m bytes) (entries width n (drop (m * width + width) bytes)) ∙ rw (length-entries width m bytes, length-entries width n (drop (m * width + width) bytes)) in
-      let z : m + suc n - (m + n) ≡ 1 = omega arith in
-      let o : 1 * width ≡ width = omega arith in
-      rw removed-entries
-      (replaced-fewer width (m + suc n) new bytes (omega arith)
-      ∙ rw (l, z, o, joined-append (entries width m bytes) (entries width n (drop (m * width + width) bytes)), joined-entries width m bytes, joined-entries width n (drop (m * width + width) bytes)) (simp append-assoc))
-
-  pub replaced-appended : (new : List ℕ) → length new ≡ n * width
-      → replaced width m (entries width m bytes ++ entries width n new) bytes ≡ take (m * width) bytes ++ (new ++ drop ((m + n) * width) bytes)
-  replaced-appended new h =
-      let l : length (entries width m bytes ++ entries width n new) ≡ m + n = length-append (entries width m bytes) (entries width n new) ∙ rw (length-entries width m bytes, length-entries width n new) in
-      let t : take (n * width) new ≡ new = take-all (n * width) new (omega arith) in
-      replaced-more width m (entries width m bytes ++ entries width n new) bytes (omega arith)
-      ∙ rw (l, joined-append (entries width m bytes) (entries width n new), joined-entries width m bytes, joined-entries width n new, t) (simp append-assoc)
 
 -- an entry written behind the first n
 pub entries-then : (width n : ℕ) (e s : List ℕ) → length e ≡ width → n * width + width ≤ length s
@@ -277,15 +241,6 @@ module _ (width count i : ℕ) (bytes : List ℕ) (h : i < count) where
   replaced-set e l =
       let s : i + suc (count - i - 1) ≡ count = omega arith in
       rw s at (set-at-split width i (count - i - 1) e bytes l)
-
-  -- a field written over
-  pub replaced-field : (at : ℕ) (new : List ℕ) → at + length new ≤ width → count * width ≤ length bytes
-      → overwritten (i * width + at) new bytes ≡ replaced width count (set (entries width count bytes) i (overwritten at new (entry width i bytes))) bytes
-  unfolding entry
-  replaced-field at new l k =
-      let a : i * width + width ≤ count * width = omega (arith, mul-le-mul-right width h) in
-      let n : length (entry width i bytes) ≡ width = length-entry width i bytes (omega arith) in
-      overwritten-within (i * width) width at new bytes l (omega arith) ∙ replaced-set (overwritten at new (entry width i bytes)) (length-overwritten at new (entry width i bytes) (omega arith) ∙ n)
 
 -- ---- two replacements in a row are one, unless the first reached past both tables
 

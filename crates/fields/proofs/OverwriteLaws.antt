@@ -1,5 +1,5 @@
 -- Bytes written over others: what stays, what is read back, and writes one after another.
-use Prim.Native.Nat.{ℕ, zero, suc, _+_, _-_, _/_, _%_, _^_, _≤_, _<_}
+use Prim.Native.Nat.{ℕ, zero, suc, _+_, _-_, _/_, _%_, _≤_, _<_}
 use mathlib.Core.Path.{_≡_, refl, sym, ap, _∙_}
 use mathlib.Core.List.{List, [], _∷_, _++_, append-assoc, append-nil}
 use native.Mathlib.Nat.{add-zero, zero-add, suc-add}
@@ -9,7 +9,7 @@ use lib.ListN.{length, take, drop, getD, set, length-append, length-drop, take-a
 use lib.Seq.{take-append-le, drop-append-le, take-at, drop-at, getD-at, set-at, drop-drop, take-take, take-add, take-suc, drop-cons, length-take-le, getD-take, drop-append-add, take-nil, take-all, set-split}
 use Rattle.fields.specs.Number.{fromBe, toBe, toLe}
 use Rattle.fields.specs.Overwrite.{overwritten}
-use Rattle.fields.proofs.NumberLaws.{length-toBe, fromBe-toBe, length-toLe, toLe-next, toLe-turned}
+use Rattle.fields.proofs.NumberLaws.{length-toBe, length-toLe, toLe-next, toLe-turned}
 
 pub overwritten-nil : (at : ℕ) (s : List ℕ) → overwritten at [] s ≡ s
 unfolding overwritten
@@ -74,12 +74,6 @@ module _ (at : ℕ) (new s : List ℕ) (h : at + length new ≤ length s) where
   -- the k bytes from n on, where those end before `at`
   pub part-before : (n k : ℕ) → n + k ≤ at → take k (drop n (overwritten at new s)) ≡ take k (drop n s)
   part-before n k l = sym (drop-take n k (overwritten at new s)) ∙ ap (drop n) (take-before (n + k) l) ∙ drop-take n k s
-
-pub number-back : (at width n : ℕ) (s : List ℕ) → at + width ≤ length s → n < 256 ^ width → fromBe (take width (drop at (overwritten at (toBe width n) s))) ≡ n
-number-back at width n s h l =
-    let r : take (length (toBe width n)) (drop at (overwritten at (toBe width n) s)) ≡ toBe width n = read-back at (toBe width n) s (rw length-toBe h) in
-    let b : take width (drop at (overwritten at (toBe width n) s)) ≡ toBe width n = rw (length-toBe width n) at r in
-    rw b (fromBe-toBe width n l)
 
 -- a write behind a write is one write
 pub overwritten-next : (at : ℕ) (a b s : List ℕ) → at + length a + length b ≤ length s

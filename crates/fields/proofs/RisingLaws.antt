@@ -4,18 +4,16 @@ use mathlib.Core.Path.{_≡_, refl, _∙_}
 use mathlib.Core.Bool.{Bool, true, false, _&&_}
 use mathlib.Core.List.{List, [], _∷_, _++_}
 use native.Mathlib.Nat.{not-suc-le-zero, le-of-suc-le-suc, lt-irrefl}
-use native.Mathlib.Numerals.{add-one}
 use native.Mathlib.Omega.{arith}
 use lib.ListN.{length, take, drop, getD, length-drop}
 use lib.Seq.{drop-cons}
 use Rattle.fields.specs.Order.{before}
-use Rattle.fields.specs.Entries.{entries, rising, insertedAt, removedAt}
-use Rattle.fields.specs.Filter.{consIf, kept, marked}
+use Rattle.fields.specs.Entries.{entries, rising, insertedAt}
+use Rattle.fields.specs.Filter.{consIf, kept}
 use Rattle.fields.proofs.OrderLaws.{and-left, and-right, before-transitive}
 use Rattle.fields.proofs.EntriesLaws.{length-entries, entries-at, entry-front}
-use lib.Dec.{eqb}
 use Rattle.fields.specs.Facts.{All}
-use Rattle.fields.proofs.AllLaws.{all-at, all-insertedAt, all-kept, all-marked, all-removedAt, all-weaker}
+use Rattle.fields.proofs.AllLaws.{all-at, all-insertedAt, all-kept, all-weaker}
 
 -- e's key comes before f's
 abbrev pub KeyBefore : ℕ → List ℕ → List ℕ → Type 0
@@ -81,19 +79,6 @@ module _ (size : ℕ) where
   rising-end es i h = short (drop i es) (simp length-drop (omega arith))
 
   -- ---- after an edit
-  ascending-removed : (i : ℕ) (es : List (List ℕ)) → Ascending size es → Ascending size (take i es ++ drop (suc i) es)
-  unfolding removedAt
-  ascending-removed zero [] p = tt
-  ascending-removed (suc i) [] p = tt
-  ascending-removed zero (e ∷ es) p = p .1
-  ascending-removed (suc i) (e ∷ es) p =
-      let q : All (KeyBefore size e) (take i es ++ drop (suc i) es) = rw add-one at (all-removedAt (KeyBefore size e) i es (p .0)) in
-      (q, ascending-removed i es (p .1))
-
-  pub rising-removed : (i : ℕ) (es : List (List ℕ)) → rising size es ≡ true → rising size (removedAt i es) ≡ true
-  unfolding removedAt
-  rising-removed i es h = rw add-one (ascending-rising (take i es ++ drop (suc i) es) (ascending-removed i es (rising-ascending es h)))
-
   ascending-consIf : (t : Bool) (e : List ℕ) (es : List (List ℕ)) → All (KeyBefore size e) es → Ascending size es → Ascending size (consIf t e es)
   ascending-consIf true e es p q = (p, q)
   ascending-consIf false e es p q = q
@@ -104,14 +89,6 @@ module _ (size : ℕ) where
 
   pub rising-kept : (test : List ℕ → Bool) (es : List (List ℕ)) → rising size es ≡ true → rising size (kept test es) ≡ true
   rising-kept test es h = ascending-rising (kept test es) (ascending-kept test es (rising-ascending es h))
-
-  ascending-marked : (marks : List ℕ) (es : List (List ℕ)) → Ascending size es → Ascending size (marked marks es)
-  ascending-marked [] es p = tt
-  ascending-marked (m ∷ marks) [] p = tt
-  ascending-marked (m ∷ marks) (e ∷ es) p = ascending-consIf (eqb m 1) e (marked marks es) (all-marked (KeyBefore size e) marks es (p .0)) (ascending-marked marks es (p .1))
-
-  pub rising-marked : (marks : List ℕ) (es : List (List ℕ)) → rising size es ≡ true → rising size (marked marks es) ≡ true
-  rising-marked marks es h = ascending-rising (marked marks es) (ascending-marked marks es (rising-ascending es h))
 
   -- an entry put in where all before it come before, and the one behind it comes behind
   ascending-inserted : (i : ℕ) (x : List ℕ) (es : List (List ℕ)) → Ascending size es

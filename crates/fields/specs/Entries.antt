@@ -1,6 +1,6 @@
 -- Tables: entries of one width, one after another, at the front of some bytes.
-use Prim.Native.Nat.{ℕ, zero, suc, _+_, _-_, _*_, max}
-use mathlib.Core.Bool.{Bool, true, false, _&&_}
+use Prim.Native.Nat.{ℕ, zero, suc, _-_, _*_, max}
+use mathlib.Core.Bool.{Bool, true, _&&_}
 use mathlib.Core.List.{List, [], _∷_, _++_}
 use lib.ListN.{length, take, drop}
 use Rattle.fields.specs.Zero.{zeros}
@@ -21,9 +21,6 @@ joined (e ∷ es) = e ++ joined es
 
 unfoldable pub insertedAt : {A : Type 0} → ℕ → A → List A → List A
 insertedAt i x xs = take i xs ++ (x ∷ drop i xs)
-
-unfoldable pub removedAt : {A : Type 0} → ℕ → List A → List A
-removedAt i xs = take i xs ++ drop (i + 1) xs
 
 -- the bytes once `new` stands in place of the table's `count` entries: what that frees is zero, what follows stays
 unfoldable pub replaced : ℕ → ℕ → List (List ℕ) → List ℕ → List ℕ

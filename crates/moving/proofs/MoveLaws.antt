@@ -12,7 +12,7 @@ use Rattle.fields.specs.Overwrite.{overwritten}
 use Rattle.fields.specs.Facts.{Bytes}
 use Rattle.fields.proofs.NumberLaws.{bytes-take, bytes-drop, toBe-fromBe}
 use Rattle.fields.proofs.ZeroLaws.{length-zeros}
-use Rattle.fields.proofs.OverwriteLaws.{overwritten-nil, overwritten-next, overwritten-in-front, overwritten-same, length-overwritten, drop-after, part-before}
+use Rattle.fields.proofs.OverwriteLaws.{overwritten-nil, overwritten-next, overwritten-in-front, drop-after, part-before}
 use Rattle.moving.specs.Move.{moved}
 
 pub length-part : (from size : ℕ) (s : List ℕ) → from + size ≤ length s → length (take size (drop from s)) ≡ size
@@ -21,20 +21,9 @@ length-part from size s h = length-take-le size (drop from s) (simp length-drop 
 part-add : (from m n : ℕ) (s : List ℕ) → take m (drop from s) ++ take n (drop (from + m) s) ≡ take (m + n) (drop from s)
 part-add from m n s = rw (take-add m n (drop from s), drop-drop)
 
-pub length-moved : (from to size : ℕ) (s : List ℕ) → from + size ≤ length s → to + size ≤ length s → length (moved from to size s) ≡ length s
-unfolding moved
-length-moved from to size s h l =
-    let e : length (take size (drop from s)) ≡ size = length-part from size s h in
-    length-overwritten to (take size (drop from s)) s (omega arith)
-
 pub moved-none : (from to : ℕ) (s : List ℕ) → moved from to 0 s ≡ s
 unfolding moved
 moved-none from to s = overwritten-nil to s
-
--- what stands where it is to go
-pub moved-nowhere : (from size : ℕ) (s : List ℕ) → from + size ≤ length s → moved from from size s ≡ s
-unfolding moved
-moved-nowhere from size s h = overwritten-same from size s h
 
 -- bytes read as a number and written again
 word-again : (from size word : ℕ) (s : List ℕ) → Bytes s → from + size ≤ length s → word ≡ fromBe (take size (drop from s)) → toBe size word ≡ take size (drop from s)

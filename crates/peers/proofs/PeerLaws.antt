@@ -5,19 +5,14 @@ use mathlib.Core.Bool.{true, false}
 use mathlib.Core.List.{List, [], _∷_, map}
 use mathlib.Core.Option.{none, some}
 use native.Mathlib.Omega.{arith}
-use lib.ListN.{length, take, drop, getD, length-drop, length-map}
+use lib.ListN.{length, take, drop, getD, length-drop}
 use lib.Seq.{drop-drop}
 use borrow.Author.Tests.{eq-eqb, ne-eqb}
 use Rattle.fields.specs.Number.{fromBe}
 use Rattle.fields.specs.Entries.{entries}
-use Rattle.fields.proofs.EntriesLaws.{length-entries}
 use Rattle.model.specs.Peers.{isListed, firstUnstalled}
 use Rattle.model.specs.Check.{retryTarget}
 use Rattle.model.specs.Lists.{peersIn}
-
-pub length-peers : (bytes : List ℕ) → length (peersIn bytes) ≡ length bytes / 8
-unfolding peersIn
-length-peers bytes = length-map (entries 8 (length bytes / 8) bytes) fromBe ∙ length-entries 8 (length bytes / 8) bytes
 
 pub peers-none : (bytes : List ℕ) → length bytes < 8 → peersIn bytes ≡ []
 unfolding peersIn

@@ -1,29 +1,23 @@
 -- What the moves and writes of an edit make of a table.
-use Prim.Native.Nat.{ℕ, suc, _+_, _-_, _*_, _≤_, _<_}
+use Prim.Native.Nat.{ℕ, _+_, _-_, _*_, _≤_}
 use mathlib.Core.Path.{_≡_, sym, ap, _∙_}
-use mathlib.Core.List.{List, _++_, append-assoc}
+use mathlib.Core.List.{List, _++_}
 use native.Mathlib.Omega.{arith}
 use lib.ListN.{length, take, drop}
 use Rattle.fields.specs.Zero.{zeros}
 use Rattle.fields.proofs.ZeroLaws.{length-zeros}
 use Rattle.fields.specs.Overwrite.{overwritten}
-use Rattle.fields.specs.Entries.{entries, joined, insertedAt, removedAt, replaced}
-use Rattle.fields.proofs.OverwriteLaws.{take-before, take-through, drop-from, drop-after}
-use Rattle.fields.proofs.EntriesLaws.{length-entries, joined-entries, replaced-fewer, replaced-inserted, replaced-removed, replaced-appended}
+use Rattle.fields.specs.Entries.{entries, joined, insertedAt, replaced}
+use Rattle.fields.proofs.OverwriteLaws.{take-before, drop-from}
+use Rattle.fields.proofs.EntriesLaws.{length-entries, joined-entries, replaced-fewer, replaced-inserted}
 use Rattle.moving.specs.Move.{moved}
 use Rattle.moving.proofs.MoveLaws.{length-part}
 
--- the bytes before an entry and from it on; and behind it
+-- the bytes before an entry and from it on
 pub bytes-from : (width count at : ℕ) → at ≤ count → at * width + (count - at) * width ≡ count * width
 bytes-from width count at h =
     let s : at + (count - at) ≡ count = omega arith in
     let e : (at + (count - at)) * width ≡ at * width + (count - at) * width = omega arith in
-    sym e ∙ rw s
-
-pub bytes-behind : (width count at : ℕ) → at < count → at * width + width + (count - at - 1) * width ≡ count * width
-bytes-behind width count at h =
-    let s : at + 1 + (count - at - 1) ≡ count = omega arith in
-    let e : (at + 1 + (count - at - 1)) * width ≡ at * width + width + (count - at - 1) * width = omega arith in
     sym e ∙ rw s
 
 -- d is the table, x what the move leaves, y what the write leaves
@@ -46,34 +40,6 @@ pub inserted : (width count at : ℕ) (e d x y : List ℕ) → at ≤ count → 
 inserted width count at e d x y a l h p q =
     let s : at + (count - at) ≡ count = omega arith in
     rw s at (inserted-at width at (count - at) e d x y l (rw s h) p q)
-
-removed-at : (width m n : ℕ) (d x y : List ℕ) → (m + suc n) * width ≤ length d
-    → x ≡ moved (m * width + width) (m * width) (n * width) d → y ≡ overwritten (m * width + n * width) (zeros width) x
-    → y ≡ replaced width (m + suc n) (removedAt m (entries width (m + suc n) d)) d
-unfolding moved overwritten
-removed-at width m n d x y h p q =
-    let b : List ℕ = take (n * width) (drop (m * width + width) d) in
-    let lb : length b ≡ n * width = length-part (m * width + width) (n * width) d (omega arith) in
-    let lz : length (zeros width) ≡ width = length-zeros width in
-    let f : take (m * width + n * width) (overwritten (m * width) b d) ≡ take (m * width) d ++ b =
-    ap (λ (k : ℕ). take (m * width + k) (overwritten (m * width) b d)) (sym lb) ∙ take-through (m * width) b d (omega arith) in
-    let z : m * width + n * width + width ≡ (m + suc n) * width = omega arith in
-    let g : drop ((m + suc n) * width) (overwritten (m * width) b d) ≡ drop ((m + suc n) * width) d = drop-after (m * width) b d (omega arith) ((m + suc n) * width) (omega arith) in
-    q ∙ rw (p, lz, f, z, g) (append-assoc (take (m * width) d) b (zeros width ++ drop ((m + suc n) * width) d) ∙ sym (replaced-removed width m n d))
-
-pub removed : (width count at : ℕ) (d x y : List ℕ) → at < count → count * width ≤ length d
-    → x ≡ moved (at * width + width) (at * width) ((count - at - 1) * width) d → y ≡ overwritten (at * width + (count - at - 1) * width) (zeros width) x
-    → y ≡ replaced width count (removedAt at (entries width count d)) d
-removed width count at d x y a h p q =
-    let s : at + suc (count - at - 1) ≡ count = omega arith in
-    rw s at (removed-at width at (count - at - 1) d x y (rw s h) p q)
-
-pub appended : (width count more : ℕ) (new d y : List ℕ) → length new ≡ more * width → y ≡ overwritten (count * width) new d
-    → y ≡ replaced width count (entries width count d ++ entries width more new) d
-unfolding overwritten
-appended width count more new d y l q =
-    let z : count * width + more * width ≡ (count + more) * width = omega arith in
-    q ∙ rw (l, z) (sym (replaced-appended width count more d new l))
 
 -- the first entries stay, and the rest is cleared
 pub cut-down : (width count left : ℕ) (new : List (List ℕ)) (d x y : List ℕ) → left ≤ count → count * width ≤ length x

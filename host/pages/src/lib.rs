@@ -1,4 +1,6 @@
-//! What the pages name. The test of this crate sees that each of them is there.
+//! What the pages name, and the edits of the crates. The tests of this crate see that each name is there and each edit fits.
+
+pub mod edits;
 
 use std::collections::{HashMap, HashSet};
 use std::path::{Path, PathBuf};
@@ -13,6 +15,8 @@ pub struct Tree {
     laws: HashMap<String, HashSet<String>>,
     /// Edits as `name` and as `crate/name`.
     edits: HashSet<String>,
+    /// Edits that do not fit their crate, and why.
+    pub misfits: Vec<String>,
 }
 
 /// A name in a page that nothing has.
@@ -58,13 +62,13 @@ impl Tree {
             let name = stem(&folder);
             tree.code.entry(name.clone()).or_default();
             for path in files(&folder)? {
-                tree.take(&name, &path)?;
+                tree.take(&name, &folder, &path)?;
             }
         }
         Ok(tree)
     }
 
-    fn take(&mut self, name: &str, path: &Path) -> io::Result<()> {
+    fn take(&mut self, name: &str, folder: &Path, path: &Path) -> io::Result<()> {
         match path.extension().and_then(|ending| ending.to_str()) {
             Some("rt") => {
                 let text = fs::read_to_string(path)?;
@@ -82,7 +86,11 @@ impl Tree {
             }
             Some("edit") => {
                 self.edits.insert(stem(path));
-                self.edits.insert(format!("{name}/{}", stem(path)));
+                let edit = format!("{name}/{}", stem(path));
+                if let Some(why) = edits::misfit(folder, &fs::read_to_string(path)?) {
+                    self.misfits.push(format!("{edit}: {why}"));
+                }
+                self.edits.insert(edit);
             }
             _ => {}
         }

@@ -1,5 +1,7 @@
-//! Every link of the pages leads somewhere, and every function, definition and edit that they name is there.
+//! Every link of the pages leads somewhere, every function, definition and edit that they name is there, and every edit fits
+//! its crate.
 
+use keeper_pages::edits::misfit;
 use keeper_pages::{Missing, Tree};
 use std::fs;
 use std::path::{Path, PathBuf};
@@ -49,4 +51,25 @@ fn a_name_that_nothing_has_is_noticed() {
         name: name.to_string(),
     });
     assert_eq!(missing, expected);
+}
+
+#[test]
+fn every_edit_fits_its_crate() {
+    let tree = Tree::read(&root()).expect("crates can be read");
+    assert!(tree.misfits.is_empty(), "{:#?}", tree.misfits);
+}
+
+#[test]
+fn an_edit_that_does_not_fit_is_noticed() {
+    let folder = root().join("crates/steps");
+    let cases = [
+        ("file: src/lib.rt\nold: pub fn run(\nnew: pub fn walk(", true),
+        ("file: src/lib.rt\nold: pub fn walk(\nnew: pub fn run(", false),
+        ("file: src/lib.rt\nold: ghost use\nnew: use", false),
+        ("file: src/gone.rt\nold: a\nnew: b", false),
+        ("file: src/lib.rt", false),
+    ];
+    for (edit, fits) in cases {
+        assert_eq!(misfit(&folder, edit).is_none(), fits, "{edit}");
+    }
 }
