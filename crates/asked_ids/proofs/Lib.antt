@@ -1,3 +1,1 @@
-mod OrphanLaws
 mod IdsLaws
-mod FreshLaws

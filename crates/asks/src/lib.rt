@@ -1,7 +1,7 @@
 // Lists asked for through rule 3, behind what a work has done before.
 //
-// The works with a peer to ask stand above: asked_ids, asked_sections. Where there is no room, the answer is Full and the
-// scratch is of no use.
+// The works with a peer to ask stand above: asked_ids, asked_orphans, asked_fresh, asked_sections. Where there is no room,
+// the answer is Full and the scratch is of no use.
 ghost use mathlib.Core.Path.{_≡_};
 ghost use mathlib.Core.Bool.{true};
 ghost use mathlib.Core.List.{[], _∷_};

@@ -1,7 +1,7 @@
 // A plan's work on the region of a scratch image, whichever it is.
 //
-// The works without a peer to ask stand in tracker, removals and region_check, those with one in asked_ids and
-// asked_sections. Where there is no room, the answer is Full and the scratch is of no use.
+// The works without a peer to ask stand in tracker, removals and region_check, those with one in asked_ids,
+// asked_orphans, asked_fresh and asked_sections. Where there is no room, the answer is Full and the scratch is of no use.
 ghost use mathlib.Core.Path.{_≡_};
 ghost use mathlib.Core.Bool.{true};
 ghost use Prim.Native.Nat.{_+_, _%_, _≤_, _<_};
@@ -65,7 +65,7 @@ pub fn perform(
             batch,
         ),
         Work::Lose => removals::lose(region, head, call, at, batch),
-        Work::LoseAsk(peer) => asked_ids::lose_ask(
+        Work::LoseAsk(peer) => asked_orphans::lose_ask(
             region,
             head,
             call,
@@ -76,7 +76,7 @@ pub fn perform(
             batch,
         ),
         Work::Check => region_check::check(region, head, call, peers, out, at, batch),
-        Work::CheckFresh(peer) => asked_ids::check_fresh(
+        Work::CheckFresh(peer) => asked_fresh::check_fresh(
             region,
             head,
             call,

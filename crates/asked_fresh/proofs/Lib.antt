@@ -1,0 +1,2 @@
+mod PlainLaws
+mod FreshLaws

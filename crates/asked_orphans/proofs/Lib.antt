@@ -1,0 +1,2 @@
+mod OrphanLaws
+mod LostLaws
