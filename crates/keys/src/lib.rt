@@ -44,6 +44,18 @@ pub fn run_same(s: &[u8], p: usize, t: &[u8], q: usize, size: usize) -> bool
     words.left == words.right
 }
 
+// Where keys of a table first differ: nearly always in their first words.
+pub fn key_unlike(s: &[u8], p: usize, t: &[u8], q: usize, size: usize) -> Words
+    requires { ⌜ (8 ≤ size) × ((p + size ≤ length (now s)) × (q + size ≤ length (now t))) ⌝ }
+    ensures { λ r. ⌜ Decides (r .left) (r .right) (take size (drop p (now (s .entry)))) (take size (drop q (now (t .entry)))) ⌝ }
+{
+    let first = unlike::words_at(s, p, t, q);
+    if first.left != first.right {
+        return first;
+    }
+    run_unlike(s, p, t, q, size)
+}
+
 // Which of two keys of a table comes first. Small enough to be inlined into a loop, where keys that rise take one branch
 // each.
 pub fn comes_before(s: &[u8], p: usize, t: &[u8], q: usize, size: usize) -> bool

@@ -1,0 +1,27 @@
+-- First words that differ decide (`first-decides`), else the whole runs.
+use borrow.Author.Needs.{needs}
+use native.Mathlib.Omega.{arith}
+use Rattle.fields.specs.Facts.{Bytes}
+use Rattle.keys.proofs.UnlikeLaws.{first-decides}
+use Rattle.keys.proofs.key_unlike.Statement.{statement}
+use Rattle.keys.proofs.key_unlike.Tie as tie
+
+words-at-requires : tie.Need-words-at-requires
+words-at-requires c κs = search needs
+
+returns : tie.Need-returns
+returns c =
+    let s = c .before .before .before .before .before in
+    let f : Bytes (s .args .s .now) = λ i. omega (arith, c .before .before .before .before .shared-slice-known .given i) in
+    let g : Bytes (s .args .t .now) = λ i. omega (arith, c .before .before .before .shared-slice-known2 .given i) in
+    let w = c .before .before .words-at in
+    first-decides (s .args .s .now) (s .args .t .now) f g (s .args .p) (s .args .q) (s .args .size) (w .result .left) (w .result .right) (s .pre .0) (s .pre .1 .0) (s .pre .1 .1) (w .ensures .0) (w .ensures .1) (c .if1 .taken)
+
+run-unlike-requires : tie.Need-run-unlike-requires
+run-unlike-requires c κs = search needs
+
+returns-2 : tie.Need-returns-2
+returns-2 c = search needs
+
+pub key-unlike-spec : {M : Type 1} → statement M
+key-unlike-spec = tie.close (tie.spec words-at-requires returns run-unlike-requires returns-2)
