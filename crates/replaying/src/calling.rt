@@ -1,52 +1,23 @@
 // The calls of the core that a line asks for.
-ghost use mathlib.Core.Path.{_≡_};
 ghost use Prim.Native.Nat.{_≤_};
 ghost use lib.ListN.{length};
+use call_parts::numbers;
 use finish::Answer;
-use plans::Call;
+use line_words::ASKING;
+use line_words::OPENING;
 use words::Words;
-
-pub const OPENING: u8 = 0;
-
-pub const STEPPING: u8 = 1;
-
-pub const ASKING: u8 = 2;
-
-// The shape of a line has bounded these numbers.
-fn byte(n: u64) -> u8 {
-    (n % 256) as u8
-}
-
-fn half(n: u64) -> u32 {
-    (n % 4294967296) as u32
-}
-
-// The numbers of a step's line.
-fn numbers_of(numbers: &[u64; 17]) -> Call {
-    Call {
-        kind: byte(numbers[0]),
-        clock: numbers[1],
-        gate: byte(numbers[2]),
-        height: half(numbers[3]),
-        peer: numbers[7],
-        typeid: byte(numbers[8]),
-        fork: half(numbers[9]),
-        parsed: byte(numbers[10]),
-        hastip: byte(numbers[11]),
-        tip: half(numbers[12]),
-    }
-}
 
 fn step(
     state: &mut [u8],
     commands: &mut [u8],
-    call: Call,
+    numbers: &[u64; 17],
     peers: &[u8],
     stored: &[u8],
     view: &[u8],
     ids: &[u8],
     continuation: &[u8],
 ) -> [u64; 9] {
+    let call = numbers::of_step(numbers);
     let answer = request_keeper::request_keeper_step(
         state,
         commands,
@@ -73,7 +44,7 @@ fn step(
 fn step_on(
     state: &mut [u8],
     commands: &mut [u8],
-    call: Call,
+    numbers: &[u64; 17],
     bytes: &[u8],
     words: Words,
 ) -> [u64; 9]
@@ -87,7 +58,7 @@ fn step_on(
     step(
         state,
         commands,
-        call,
+        numbers,
         &bytes[0..a],
         &bytes[a..b],
         &bytes[b..c],
@@ -112,20 +83,22 @@ fn nine(answer: Answer) -> [u64; 9] {
 
 // `open` answers its number.
 fn open(state: &mut [u8], numbers: &[u64; 17]) -> [u64; 9] {
+    let given = numbers::of_opening(numbers);
     let number = request_keeper::request_keeper_open(
         state,
-        half(numbers[2]),
-        half(numbers[3]),
-        half(numbers[4]),
-        half(numbers[5]),
-        numbers[0],
-        half(numbers[1]),
+        given.timeout,
+        given.checks,
+        given.interval,
+        given.stall,
+        given.clock,
+        given.height,
     );
     [number as u64, 0, 0, 0, 0, 0, 0, 0, 0]
 }
 
 // `ask` answers number and length.
-fn ask(state: &[u8], commands: &mut [u8], flag: u8) -> [u64; 9] {
+fn ask(state: &[u8], commands: &mut [u8], numbers: &[u64; 17]) -> [u64; 9] {
+    let flag = numbers::byte(numbers[0]);
     let asked = request_keeper::request_keeper_question(state, commands, flag);
     let number = asked.number as u64;
     let size = asked.length as u64;
@@ -146,25 +119,9 @@ fn run(
         return open(state, numbers);
     }
     if kind == ASKING {
-        return ask(state, commands, byte(numbers[0]));
+        return ask(state, commands, numbers);
     }
-    step_on(state, commands, numbers_of(numbers), bytes, words)
-}
-
-// The area that the next call is lent; the command area is to stay as it is.
-fn lend(memory: &mut [u8], state: &mut [u8], commands: &[u8])
-    requires { ⌜ (655360 ≤ length (now memory)) × ((131072 ≡ length (now state)) × (131072 ≡ length (now commands))) ⌝ }
-{
-    moving::overwrite(memory, 393216, commands);
-    scratch::copy(&memory[131072..262144], state);
-}
-
-// What the call left of both areas.
-fn keep(memory: &mut [u8], state: &[u8], commands: &[u8])
-    requires { ⌜ (655360 ≤ length (now memory)) × ((131072 ≡ length (now state)) × (131072 ≡ length (now commands))) ⌝ }
-{
-    moving::overwrite(memory, 262144, state);
-    moving::overwrite(memory, 524288, commands);
+    step_on(state, commands, numbers, bytes, words)
 }
 
 // On the first bytes of both areas.
@@ -204,9 +161,8 @@ pub fn make(
     requires { ⌜ (655360 ≤ length (now memory)) × ((long ≤ 131072) × (wide ≤ 131072)) ⌝ }
     requires { ⌜ (words .a ≤ words .b) × ((words .b ≤ words .c) × ((words .c ≤ words .d) × ((words .d ≤ words .e) × (words .e ≤ length (now bytes))))) ⌝ }
 {
-    let mut state = areas::blank();
+    let mut state = call_parts::lent::lend(memory);
     let mut commands = areas::blank();
-    lend(memory, &mut state, &commands);
     let answer = run_within(
         kind,
         &mut state,
@@ -217,6 +173,6 @@ pub fn make(
         bytes,
         words,
     );
-    keep(memory, &state, &commands);
+    call_parts::lent::keep(memory, &state, &commands);
     answer
 }

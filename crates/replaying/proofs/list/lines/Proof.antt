@@ -3,8 +3,8 @@ use borrow.Author.Needs.{needs}
 use Prim.Native.Nat.{_-_}
 use mathlib.Core.Path.{_≡_}
 use lib.ListN.{length}
-use Rattle.replaying.proofs.listing.lines.Statement.{statement}
-use Rattle.replaying.proofs.listing.lines.Tie as tie
+use Rattle.replaying.proofs.list.lines.Statement.{statement}
+use Rattle.replaying.proofs.list.lines.Tie as tie
 
 abbrev Inv-loop : tie.InvT-loop
 Inv-loop memory₀ text listing₀ from₀ memory listing from = length memory ≡ length memory₀

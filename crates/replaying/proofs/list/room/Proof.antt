@@ -2,8 +2,8 @@
 use mathlib.Core.Path.{sym}
 use Prim.Native.Nat.{ℕ}
 use lib.ListN.{length-replicate}
-use Rattle.replaying.proofs.listing.room.Statement.{statement}
-use Rattle.replaying.proofs.listing.room.Tie as tie
+use Rattle.replaying.proofs.list.room.Statement.{statement}
+use Rattle.replaying.proofs.list.room.Tie as tie
 
 returns : tie.Need-returns
 returns c = sym (length-replicate {A = ℕ} 1048576 0)

@@ -1,8 +1,8 @@
 -- The index stays within the nine numbers.
 use borrow.Author.Needs.{needs}
 use Prim.Native.Nat.{_-_, _≤_}
-use Rattle.replaying.proofs.stream.first_number.Statement.{statement}
-use Rattle.replaying.proofs.stream.first_number.Tie as tie
+use Rattle.expecting.proofs.answer.first_number.Statement.{statement}
+use Rattle.expecting.proofs.answer.first_number.Tie as tie
 
 abbrev Inv-loop : tie.InvT-loop
 Inv-loop numbers answer i₀ i = i ≤ 9
