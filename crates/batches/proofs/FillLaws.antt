@@ -17,10 +17,6 @@ use Rattle.batches.specs.declared.Batch.{Batch}
 use Rattle.batches.proofs.ItemLaws.{span-le}
 
 module _ (t places : List ℕ) (f : ℕ) where
-  pub batch-first : batchAt t places f .first ≡ f
-  unfolding batchAt
-  batch-first = refl
-
   pub batch-counts : 0 < batchAt t places f .count
   unfolding batchAt
   batch-counts = omega arith

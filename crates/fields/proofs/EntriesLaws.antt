@@ -15,7 +15,7 @@ use Rattle.fields.specs.Entries.{entries, entry, joined, insertedAt, rep
 use Rattle.fields.proofs.ZeroLaws.{length-zeros, zeros-append, drop-zeros}
 use Rattle.fields.proofs.OverwriteLaws.{drop-take}
 use Rattle.fields.specs.Facts.{All, Bytes}
-use Rattle.fields.proofs.NumberLaws.{bytes-nil, bytes-append, bytes-take, bytes-drop}
+use Rattle.fields.proofs.NumberLaws.{bytes-take, bytes-drop}
 
 module _ (width : ℕ) where
   pub length-entries : (n : ℕ) (bytes : List ℕ) → length (entries width n bytes) ≡ n
@@ -84,10 +84,6 @@ entry-front width i size bytes h = take-take size width (drop (i * width) bytes)
 -- each entry is `width` bytes long
 abbrev pub Wide : ℕ → List (List ℕ) → Type 0
 Wide width = All (λ (e : List ℕ). length e ≡ width)
-
-pub joined-bytes : (es : List (List ℕ)) → All Bytes es → Bytes (joined es)
-joined-bytes [] f = bytes-nil
-joined-bytes (e ∷ es) f = bytes-append e (joined es) (f .0) (joined-bytes es (f .1))
 
 pub entries-bytes : (width n : ℕ) (bytes : List ℕ) → Bytes bytes → All Bytes (entries width n bytes)
 entries-bytes width zero bytes f = tt

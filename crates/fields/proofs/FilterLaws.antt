@@ -14,14 +14,6 @@ module _ {ℓ} {A : Type ℓ} where
   length-consIf true x xs = omega arith
   length-consIf false x xs = omega arith
 
-  consIf-append : (t : Bool) (x : A) (xs ys : List A) → consIf t x (xs ++ ys) ≡ consIf t x xs ++ ys
-  consIf-append true x xs ys = refl
-  consIf-append false x xs ys = refl
-
-  pub kept-append : (test : A → Bool) (xs ys : List A) → kept test (xs ++ ys) ≡ kept test xs ++ kept test ys
-  kept-append test [] ys = refl
-  kept-append test (x ∷ xs) ys = rw (kept-append test xs ys, consIf-append)
-
   pub length-kept : (test : A → Bool) (xs : List A) → length (kept test xs) ≤ length xs
   length-kept test [] = omega arith
   length-kept test (x ∷ xs) = omega (arith, length-kept test xs, length-consIf (test x) x (kept test xs))

@@ -2,7 +2,7 @@
 use Prim.Native.Nat.{ℕ, zero, suc, _+_, _-_, _*_, _/_, _%_, _^_, _≤_, _<_}
 use mathlib.Core.Path.{_≡_, refl, sym, ap, _∙_}
 use mathlib.Core.List.{List, [], _∷_, _++_, append-assoc, append-nil}
-use native.Mathlib.Nat.{add-zero, zero-add, add-mul, mul-assoc, pow-succ', pow-le-pow-right, mul-le-mul-right, mod-lt, div-div-eq-div-mul}
+use native.Mathlib.Nat.{add-zero, zero-add, add-mul, mul-assoc, pow-succ', pow-le-pow-right, mul-le-mul-right, mod-lt}
 use native.Mathlib.Numerals.{add-one}
 use native.Mathlib.Omega.{arith}
 use lib.ListN.{length, take, drop, getD, length-append, length-drop, drop-of-length-le}
@@ -115,15 +115,6 @@ pub fromBe-split : (m n at : ℕ) (s : List ℕ) → at + (m + n) ≤ length s
 fromBe-split m n at s h =
     let l : n ≤ length (drop (at + m) s) = rw (length-drop (at + m) s) (omega arith) in
     rw (take-add m n (drop at s), drop-drop m at s, fromBe-append (take m (drop at s)) (take n (drop (at + m) s)), length-take-le n (drop (at + m) s) l)
-
-pub toBe-split : (m n v : ℕ) → toBe (m + n) v ≡ toBe m (v / 256 ^ n) ++ toBe n v
-toBe-split m zero v =
-    let e : v / 256 ^ 0 ≡ v = omega arith in
-    rw (add-zero, e, append-nil)
-toBe-split m (suc n) v =
-    let s : m + suc n ≡ suc (m + n) = omega arith in
-    let d : v / 256 ^ suc n ≡ v / 256 / 256 ^ n = rw (pow-succ' 256 n) (sym (div-div-eq-div-mul v 256 (256 ^ n))) in
-    rw (s, toBe-split m n (v / 256), d, append-assoc)
 
 -- ---- the low byte first
 

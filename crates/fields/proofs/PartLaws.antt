@@ -96,10 +96,6 @@ module _ (width : ℕ) where
   numbers-wide [] = tt
   numbers-wide (n ∷ ns) = (length-toBe width n, numbers-wide ns)
 
-  pub numbers-bytes : (ns : List ℕ) → All Bytes (map (toBe width) ns)
-  numbers-bytes [] = tt
-  numbers-bytes (n ∷ ns) = (toBe-bytes width n, numbers-bytes ns)
-
   pub numbers-read : (ns : List ℕ) → All (λ (n : ℕ). n < 256 ^ width) ns → map fromBe (map (toBe width) ns) ≡ ns
   numbers-read [] f = refl
   numbers-read (n ∷ ns) f = rw (fromBe-toBe width n (f .0), numbers-read ns (f .1))

@@ -54,13 +54,6 @@ module _ (size : ℕ) where
   pub rising-at : (es : List (List ℕ)) → rising size es ≡ true → (i j : ℕ) → i < j → j < length es → KeyBefore size (getD es i []) (getD es j [])
   rising-at es h = ascending-at es (rising-ascending es h)
 
-  -- neighbours suffice
-  pub rising-by-index : (es : List (List ℕ)) → ((i : ℕ) → suc i < length es → KeyBefore size (getD es i []) (getD es (suc i) [])) → rising size es ≡ true
-  unfolding rising
-  rising-by-index [] f = refl
-  rising-by-index (e ∷ []) f = refl
-  rising-by-index (e ∷ (g ∷ es)) f = rw (f 0 (omega arith), rising-by-index (g ∷ es) (λ i h. f (suc i) (omega arith)))
-
   -- ---- one pair of neighbours at a time
   pub rising-next : (es : List (List ℕ)) (i : ℕ) → suc i < length es
       → rising size (drop i es) ≡ before (take size (getD es i [])) (take size (getD es (suc i) [])) && rising size (drop (suc i) es)

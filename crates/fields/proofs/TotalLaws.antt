@@ -1,10 +1,8 @@
 -- The total of a measure over a list.
-use Prim.Native.Nat.{ℕ, _+_, _*_, _≤_}
+use Prim.Native.Nat.{ℕ, _+_, _*_}
 use mathlib.Core.Path.{_≡_}
 use mathlib.Core.List.{List, [], _∷_, _++_, map}
 use native.Mathlib.Omega.{arith}
-use lib.ListN.{length}
-use Rattle.fields.specs.Facts.{All}
 
 abbrev pub total {ℓ} : {A : Type ℓ} → (A → ℕ) → List A → ℕ
 total measure [] = 0
@@ -14,11 +12,6 @@ module _ {ℓ} {A : Type ℓ} (measure : A → ℕ) where
   pub total-append : (xs ys : List A) → total measure (xs ++ ys) ≡ total measure xs + total measure ys
   total-append [] ys = omega arith
   total-append (x ∷ xs) ys = rw (total-append xs ys) (omega arith)
-
-  -- each element counts for one at least
-  pub total-length : (xs : List A) → All (λ (x : A). 1 ≤ measure x) xs → length xs ≤ total measure xs
-  total-length [] p = omega arith
-  total-length (x ∷ xs) p = let r = total-length xs (p .1) in let q = p .0 in omega arith
 
 -- f multiplies the measure by k
 pub total-map {ℓ κ} : {A : Type ℓ} {B : Type κ} (measure : A → ℕ) (other : B → ℕ) (f : A → B) (k : ℕ) → ((x : A) → other (f x) ≡ k * measure x)

@@ -1,16 +1,14 @@
 -- Zero bytes: runs of them, and the test for them.
 use Prim.Native.Nat.{ℕ, zero, suc, _+_, _-_, _≤_, _<_}
-use mathlib.Core.Path.{_≡_, refl, ap}
+use mathlib.Core.Path.{_≡_, refl}
 use mathlib.Core.Bool.{Bool, true, false, _&&_}
 use mathlib.Core.List.{List, [], _∷_, _++_}
-use native.Mathlib.Nat.{not-suc-le-zero, sub-zero, zero-sub, suc-sub-suc}
+use native.Mathlib.Nat.{sub-zero, zero-sub, suc-sub-suc}
 use native.Mathlib.Numerals.{add-one}
-use native.Mathlib.Omega.{arith}
 use lib.Dec.{eqb}
-use lib.ListN.{length, take, drop, getD, length-replicate, replicate-append-replicate, drop-of-length-le}
+use lib.ListN.{length, drop, getD, length-replicate, replicate-append-replicate, drop-of-length-le}
 use lib.Seq.{drop-cons}
 use borrow.Author.Tests.{eqb-true}
-use Rattle.fields.specs.Facts.{Bytes}
 use Rattle.fields.specs.Zero.{zeros, allZero}
 use Rattle.fields.proofs.OrderLaws.{and-left, and-right}
 
@@ -24,14 +22,6 @@ pub zeros-at : (n i : ℕ) → getD (zeros n) i 0 ≡ 0
 zeros-at zero i = refl
 zeros-at (suc n) zero = refl
 zeros-at (suc n) (suc i) = zeros-at n i
-
-pub zeros-bytes : (n : ℕ) → Bytes (zeros n)
-zeros-bytes n i = rw (zeros-at n i) (omega arith)
-
-pub take-zeros : (n i : ℕ) → i ≤ n → take i (zeros n) ≡ zeros i
-take-zeros n zero h = refl
-take-zeros zero (suc i) h = absurd (not-suc-le-zero h)
-take-zeros (suc n) (suc i) h = ap (λ (s : List ℕ). 0 ∷ s) (take-zeros n i (omega arith))
 
 pub drop-zeros : (n i : ℕ) → drop i (zeros n) ≡ zeros (n - i)
 drop-zeros n zero = rw sub-zero

@@ -53,15 +53,6 @@ module _ (p q : ℕ) (i j : Id) (n : same i j ≡ false) where
   mark-swap [] = refl
   mark-swap (r ∷ rs) = rw (mark-twice r, mark-swap rs)
 
-marks-swap : (x : Item) (items : List Item) (rs : List Request) → isAmong (x .id) (itemIds items) ≡ false
-    → markAllRetried items (markRetried (x .peer) (x .id) rs) ≡ markRetried (x .peer) (x .id) (markAllRetried items rs)
-unfolding isAmong
-marks-swap x [] rs m = refl
-marks-swap x (i ∷ items) rs m =
-    let p = neither (same (x .id) (i .id)) (isAmong (x .id) (itemIds items)) m in
-    let n : same (i .id) (x .id) ≡ false = same-sym (i .id) (x .id) ∙ p .0 in
-    ap (markAllRetried items) (mark-swap (i .peer) (x .peer) (i .id) (x .id) n rs) ∙ marks-swap x items (markRetried (i .peer) (i .id) rs) (p .1)
-
 marks-inserted : (below : Item → Item → Bool) (x : Item) (items : List Item) (rs : List Request) → isAmong (x .id) (itemIds items) ≡ false
     → markAllRetried (inserted below x items) rs ≡ markAllRetried (x ∷ items) rs
 unfolding isAmong

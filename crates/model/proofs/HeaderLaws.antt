@@ -7,8 +7,6 @@ use native.Mathlib.Nat.{lt-irrefl}
 use native.Mathlib.Omega.{arith}
 use lib.Dec.{eqb}
 use lib.ListN.{length, drop}
-use Rattle.fields.specs.Facts.{Bytes}
-use Rattle.fields.proofs.NumberLaws.{bytes-nil, bytes-cons}
 use Rattle.fields.proofs.PartLaws.{Cell, written, Fit, Holds}
 use Rattle.model.specs.State.{Mode, new, seeking, syncing, synced, ended, modeNumber, State}
 use Rattle.model.specs.Image.{modeOf, bit, field, headerBytes}
@@ -16,9 +14,6 @@ use Rattle.model.proofs.Well.{Well, WellSettings, WellSync}
 
 abbrev pub mark : List ℕ
 mark = 69 ∷ 68 ∷ 84 ∷ []
-
-pub mark-bytes : Bytes mark
-mark-bytes = bytes-cons 69 (68 ∷ 84 ∷ []) (omega arith) (bytes-cons 68 (84 ∷ []) (omega arith) (bytes-cons 84 [] (omega arith) bytes-nil))
 
 -- what follows the mark
 abbrev pub headerCells : State → List Cell

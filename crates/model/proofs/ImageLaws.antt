@@ -1,6 +1,6 @@
 -- The state area in its parts: what stands where, and the area from its parts.
 use Prim.Native.Nat.{ℕ, _+_, _-_, _*_, _≤_}
-use mathlib.Core.Path.{_≡_, refl, sym, ap, _∙_, subst}
+use mathlib.Core.Path.{_≡_, refl, sym, ap, _∙_}
 use mathlib.Core.List.{List, [], _∷_, _++_, map, append-assoc, append-nil}
 use native.Mathlib.Omega.{arith}
 use lib.ListN.{length, take, drop, length-append, length-drop, length-map}
@@ -9,17 +9,16 @@ use Rattle.fields.specs.Facts.{All, Bytes}
 use Rattle.fields.specs.Number.{toBe}
 use Rattle.fields.specs.Zero.{zeros}
 use Rattle.fields.specs.Entries.{entries, joined}
-use Rattle.fields.proofs.NumberLaws.{bytes-append}
 use Rattle.fields.proofs.AllLaws.{all-weaker}
-use Rattle.fields.proofs.ZeroLaws.{length-zeros, zeros-bytes}
-use Rattle.fields.proofs.EntriesLaws.{Wide, length-joined, joined-bytes, entries-joined, joined-entries}
-use Rattle.fields.proofs.PartLaws.{written, Fit, written-bytes, written-holds, holds-written, part-at, part-behind, part-joined, numbers-wide, numbers-bytes}
+use Rattle.fields.proofs.ZeroLaws.{length-zeros}
+use Rattle.fields.proofs.EntriesLaws.{Wide, length-joined, entries-joined, joined-entries}
+use Rattle.fields.proofs.PartLaws.{written, Fit, written-holds, holds-written, part-at, part-behind, part-joined, numbers-wide}
 use Rattle.model.specs.Protocol.{Id, stalledLimit, trackedLimit}
 use Rattle.model.specs.State.{State}
 use Rattle.model.specs.Image.{areaSize, idSize, peerSize, recordSize, stalledAt, regionAt, padded, headerBytes, requestBytes, encode}
 use Rattle.model.proofs.Well.{Well, WellId}
-use Rattle.model.proofs.RecordLaws.{Recorded, well-recorded, records-wide, records-bytes}
-use Rattle.model.proofs.HeaderLaws.{mark, mark-bytes, headerCells, Header, header-holds, holds-header, header-written, header-fit}
+use Rattle.model.proofs.RecordLaws.{Recorded, well-recorded, records-wide}
+use Rattle.model.proofs.HeaderLaws.{mark, headerCells, Header, header-holds, holds-header, header-written, header-fit}
 
 -- ---- how much room each part takes
 
@@ -264,15 +263,6 @@ module _ (a b c d e f g h : List ℕ) where
       → length (a ++ (b ++ (c ++ (d ++ (e ++ (f ++ (g ++ h))))))) ≡ total
   parts-length total t = simp length-append t
 
-  parts-bytes : Bytes a → Bytes b → Bytes c → Bytes d → Bytes e → Bytes f → Bytes g → Bytes h → Bytes (a ++ (b ++ (c ++ (d ++ (e ++ (f ++ (g ++ h)))))))
-  parts-bytes ha hb hc hd he hf hg hh =
-      let g′ : Bytes (g ++ h) = bytes-append g h hg hh in
-      let f′ : Bytes (f ++ (g ++ h)) = bytes-append f (g ++ h) hf g′ in
-      let e′ : Bytes (e ++ (f ++ (g ++ h))) = bytes-append e (f ++ (g ++ h)) he f′ in
-      let d′ : Bytes (d ++ (e ++ (f ++ (g ++ h)))) = bytes-append d (e ++ (f ++ (g ++ h))) hd e′ in
-      let c′ : Bytes (c ++ (d ++ (e ++ (f ++ (g ++ h))))) = bytes-append c (d ++ (e ++ (f ++ (g ++ h)))) hc d′ in
-      bytes-append a (b ++ (c ++ (d ++ (e ++ (f ++ (g ++ h)))))) ha (bytes-append b (c ++ (d ++ (e ++ (f ++ (g ++ h))))) hb c′)
-
 pub sized-length : (st : State) → Sized st → length (encode st) ≡ areaSize
 sized-length st z =
     let h : length (written (headerCells st)) ≡ 71 = refl in
@@ -288,12 +278,3 @@ sized-length st z =
 
 pub encode-length : (st : State) → Well st → length (encode st) ≡ areaSize
 encode-length st w = sized-length st (well-sized st w)
-
-pub encode-bytes : (st : State) → Well st → Bytes (encode st)
-encode-bytes st w =
-    subst Bytes (sym (encode-parts st (well-sized st w)))
-    (parts-bytes mark (written (headerCells st)) (zeros headerFree) (stalledBytes st) (zeros (stalledFree st)) (pendingBytes st) (zeros (regionFree st)) (evictedBytes st)
-    mark-bytes (written-bytes (headerCells st)) (zeros-bytes headerFree)
-    (joined-bytes (map (toBe peerSize) (st .sync .stalledPeers)) (numbers-bytes peerSize (st .sync .stalledPeers))) (zeros-bytes (stalledFree st))
-    (joined-bytes (map requestBytes (st .pending)) (records-bytes (st .pending) (well-requests st w))) (zeros-bytes (regionFree st))
-    (joined-bytes (st .sync .evicted) (ids-bytes (st .sync .evicted) (w .sync .evicted))))

@@ -5,7 +5,6 @@ pub mod HeaderLaws
 pub mod ImageLaws
 pub mod FormedLaws
 pub mod RoundLaws
-pub mod ChangeLaws
 pub mod Widths
 pub mod FinishedLaws
 pub mod ArgumentLaws

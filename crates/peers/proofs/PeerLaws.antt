@@ -1,11 +1,11 @@
 -- The peers that a call lists: the first, those behind it, the one at an index, and the searches for one.
-use Prim.Native.Nat.{ℕ, zero, suc, _+_, _*_, _/_, _≤_, _<_}
-use mathlib.Core.Path.{_≡_, refl, ap, _∙_}
+use Prim.Native.Nat.{ℕ, suc, _+_, _*_, _/_, _≤_, _<_}
+use mathlib.Core.Path.{_≡_, ap, _∙_}
 use mathlib.Core.Bool.{true, false}
 use mathlib.Core.List.{List, [], _∷_, map}
 use mathlib.Core.Option.{none, some}
 use native.Mathlib.Omega.{arith}
-use lib.ListN.{length, take, drop, getD, length-drop}
+use lib.ListN.{length, take, drop, length-drop}
 use lib.Seq.{drop-drop}
 use borrow.Author.Tests.{eq-eqb, ne-eqb}
 use Rattle.fields.specs.Number.{fromBe}
@@ -34,20 +34,6 @@ peers-next bytes i h =
 
 pub peers-end : (bytes : List ℕ) (i : ℕ) → length bytes / 8 ≤ i → peersIn (drop (i * 8) bytes) ≡ []
 peers-end bytes i h = peers-none (drop (i * 8) bytes) (rw length-drop (omega arith))
-
-pub drop-peers : (bytes : List ℕ) (i : ℕ) → i ≤ length bytes / 8 → drop i (peersIn bytes) ≡ peersIn (drop (i * 8) bytes)
-drop-peers bytes zero h = refl
-drop-peers bytes (suc i) h =
-    let e : 8 + i * 8 ≡ suc i * 8 = omega arith in
-    let l : i ≤ length (drop 8 bytes) / 8 = rw length-drop (omega arith) in
-    rw (peers-first bytes (omega arith), drop-peers (drop 8 bytes) i l, drop-drop (i * 8) 8 bytes, e)
-
-pub peers-at : (bytes : List ℕ) (i : ℕ) → i < length bytes / 8 → getD (peersIn bytes) i 0 ≡ fromBe (take 8 (drop (i * 8) bytes))
-peers-at bytes zero h = rw (peers-first bytes (omega arith))
-peers-at bytes (suc i) h =
-    let e : 8 + i * 8 ≡ suc i * 8 = omega arith in
-    let l : i < length (drop 8 bytes) / 8 = rw length-drop (omega arith) in
-    rw (peers-first bytes (omega arith), peers-at (drop 8 bytes) i l, drop-drop (i * 8) 8 bytes, e)
 
 -- ---- searches, peer by peer
 

@@ -12,10 +12,10 @@ use borrow.Author.Tests.{ltb-true, ltb-false, not-true, not-false}
 use lib.ListN.{length, take, drop, getD, drop-of-length-le}
 use lib.Seq.{drop-cons, take-length}
 use Rattle.fields.specs.Order.{before, same}
-use Rattle.fields.specs.Entries.{entries, entry, rising, insertedAt}
-use Rattle.fields.proofs.OrderLaws.{same-eq, same-refl, same-sym, before-irreflexive, before-transitive, before-not-same, before-or-same}
+use Rattle.fields.specs.Entries.{entries, rising}
+use Rattle.fields.proofs.OrderLaws.{same-eq, same-sym, before-transitive, before-not-same, before-or-same}
 use Rattle.fields.proofs.EntriesLaws.{entries-at, entry-front}
-use Rattle.fields.proofs.RisingLaws.{rising-at, rising-inserted, rising-pair}
+use Rattle.fields.proofs.RisingLaws.{rising-at, rising-pair}
 use Rattle.search.specs.Find.{found}
 use Rattle.search.specs.declared.find.Found.{Found}
 use Rattle.search.specs.declared.find.Found.the-variants.{At, Gap}
@@ -164,21 +164,6 @@ module _ (key : List ℕ) where
         go : (t : Bool) → ltb j i ≡ t → Here key es j false
         go true e = before-not-same (take (length key) (getD es j [])) key (gap-stop h .below j (ltb-true j i e))
         go false e = same-sym (take (length key) (getD es j [])) key ∙ before-not-same key (take (length key) (getD es j [])) (gap-above r h j (ltb-false j i e) l)
-
-    -- an entry with the key is put in at the gap
-    pub gap-inserted : rising (length key) es ≡ true → found key 0 es ≡ Gap i → (e : List ℕ) → take (length key) e ≡ key → rising (length key) (insertedAt i e es) ≡ true
-    gap-inserted r h e k =
-        rising-inserted (length key) i e es r
-        (λ j l m. rw k (gap-stop h .below j l))
-        (λ l. rw k (gap-above r h i (omega arith) l))
-
-  -- an entry that has the key is the one found
-  pub present-found : (es : List (List ℕ)) (i : ℕ) → rising (length key) es ≡ true → i < length es → take (length key) (getD es i []) ≡ key → found key 0 es ≡ At i
-  present-found es i r l k =
-      found-at key es i l
-      (λ j m. rw k at (rising-at (length key) es r j i m l))
-      (rw k (before-irreflexive key))
-      (rw k (same-refl key))
 
 -- ---- whether the keys rise, by neighbours
 

@@ -5,7 +5,7 @@ use mathlib.Core.Bool.{true}
 use mathlib.Core.List.{List, [], _++_, map, append-assoc, append-nil}
 use native.Mathlib.Omega.{arith}
 use lib.ListN.{length, drop, length-append, length-map, length-drop, drop-of-length-le}
-use lib.Seq.{take-at, drop-at}
+use lib.Seq.{take-at}
 use Rattle.fields.specs.Facts.{All, Bytes}
 use Rattle.fields.specs.Zero.{zeros}
 use Rattle.fields.specs.Overwrite.{overwritten}
@@ -64,13 +64,6 @@ module _ (p : List Request) (e : List Id) (wp : Wide recordSize (map requestByte
   front-region : length (joined (map requestBytes p) ++ zeros (regionSize - length p * recordSize - length e * idSize)) ≡ regionSize - length e * idSize
   front-region =
       rw (length-append (joined (map requestBytes p)), length-zeros, length-records) (omega arith)
-
-  pub evicted-region : evictedIn (length e) (regionOf p e) ≡ e
-  evicted-region =
-      let d : drop (regionSize - length e * idSize) (regionOf p e) ≡ joined e =
-      ap (drop (regionSize - length e * idSize)) (cut-region p e)
-      ∙ drop-at (joined (map requestBytes p) ++ zeros (regionSize - length p * recordSize - length e * idSize)) (joined e) (regionSize - length e * idSize) front-region in
-      rw (length-region, d) (rw (append-nil (joined e)) at (entries-joined idSize e [] we))
 
   pub holding-region : (q : List Request) → Wide recordSize (map requestBytes q) → length q + length e ≤ trackedLimit → holding (length p) q (regionOf p e) ≡ regionOf q e
   unfolding holding regionOf
@@ -158,9 +151,6 @@ module _ (p : List Request) (e : List Id) (region : List ℕ) (s : Stands p e re
 
   pub stands-requests : requestsIn (length p) region ≡ p
   stands-requests = ap (map requestOf) stands-entries ∙ requests-of-records p (s .recorded)
-
-  pub stands-evicted : evictedIn (length e) region ≡ e
-  stands-evicted = ap (evictedIn (length e)) (s .held) ∙ evicted-region p e records-are-wide ids-are-wide (s .few)
 
   pub stands-rising : rising idSize (entries recordSize (length p) region) ≡ true
   stands-rising = rw stands-entries (ascending-rising idSize (map requestBytes p) (records-rise p (s .recorded) (s .rise)))
