@@ -26,7 +26,7 @@ unfolding moved
 moved-none from to s = overwritten-nil to s
 
 -- bytes read as a number and written again
-word-again : (from size word : ℕ) (s : List ℕ) → Bytes s → from + size ≤ length s → word ≡ fromBe (take size (drop from s)) → toBe size word ≡ take size (drop from s)
+pub word-again : (from size word : ℕ) (s : List ℕ) → Bytes s → from + size ≤ length s → word ≡ fromBe (take size (drop from s)) → toBe size word ≡ take size (drop from s)
 word-again from size word s b h e =
     let l : length (take size (drop from s)) ≡ size = length-part from size s h in
     rw e (rw l at (toBe-fromBe (take size (drop from s)) (bytes-take size (drop from s) (bytes-drop from s b))))

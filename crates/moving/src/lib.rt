@@ -63,11 +63,31 @@ pub fn move_down(s: &mut [u8], from: usize, to: usize, size: usize)
     move_word(s, from + done, to + done, size - done);
 }
 
+// The same by words, for few bytes. The last word is written over the end of the one before it.
+fn overwrite_words(s: &mut [u8], at: usize, new: &[u8])
+    requires { ⌜ (8 ≤ length (now new)) × (at + length (now new) ≤ length (now s)) ⌝ }
+    ensures { λ _. ⌜ now (s .exit) ≡ overwritten at (now (new .entry)) (now (s .entry)) ⌝ }
+{
+    let last = new.len() - 8;
+    let mut done = 0;
+    while done < last {
+        let word = fields::read_u64(new, done);
+        fields::write_u64(s, at + done, word);
+        done += 8;
+    }
+    let word = fields::read_u64(new, last);
+    fields::write_u64(s, at + last, word);
+}
+
 // `new` written from `at` on.
 pub fn overwrite(s: &mut [u8], at: usize, new: &[u8])
     requires { ⌜ at + length (now new) ≤ length (now s) ⌝ }
     ensures { λ _. ⌜ now (s .exit) ≡ overwritten at (now (new .entry)) (now (s .entry)) ⌝ }
 {
+    if (8 <= new.len()) & (new.len() <= 64) {
+        overwrite_words(s, at, new);
+        return;
+    }
     let end = at + new.len();
     scratch::copy(new, &mut s[at..end]);
 }
