@@ -25,8 +25,11 @@ same-length : tie.Need-same-length
 same-length c = search needs
 
 returns : tie.Need-returns
-returns c = let s = c .before .before .before .before .before .before .args in
-    part-back (s .at) (length (s .new .now)) (s .new .now) (c .before .before .copy .last .1 .0) (s .s .now) refl (c .before .before .copy .ensures)
+returns c =
+    let s : tie.Start = search in
+    let copied : tie.After-copy = search in
+    let a = s .args in
+    part-back (a .at) (length (a .new .now)) (a .new .now) (copied .copy .last .1 .0) (a .s .now) refl (copied .copy .ensures)
 
 pub overwrite-spec : {M : Type 1} → statement M
 overwrite-spec =

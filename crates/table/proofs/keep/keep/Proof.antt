@@ -1,9 +1,11 @@
--- The loop: kept entries in front, and those from i on as they were (`Keeping`). A turn is `turn`.
-use Prim.Native.Nat.{_+_, _-_}
+-- The loop: the pass stands at i (`Keeping`). A turn is what `keep_eight` ensures.
+use Prim.Native.Nat.{_+_, _-_, _*_, _≤_}
+use native.Mathlib.Nat.{mul-le-mul-right}
 use native.Mathlib.Omega.{arith}
 use borrow.Author.Needs.{needs}
+use Rattle.table.specs.Keep.{Keeping}
 use Rattle.table.proofs.EditLaws.{bytes-from}
-use Rattle.table.proofs.KeepLaws.{Keeping, starts, run-inside, run-fits, turn, finished}
+use Rattle.table.proofs.KeepLaws.{starts, finished}
 use Rattle.table.proofs.keep.keep.Statement.{statement}
 use Rattle.table.proofs.keep.keep.Tie as tie
 
@@ -13,89 +15,72 @@ Inv-loop table₀ width count marks i₀ kept₀ table i kept = Keeping width co
 abbrev μ-loop : tie.MeasureT-loop
 μ-loop table₀ width count marks i₀ kept₀ table i kept = count - i
 
-run-end-requires : tie.Need-run-end-requires Inv-loop μ-loop
-run-end-requires c κs = search needs
+-- ---- the places
+
+abbrev Start : Type 0
+Start = tie.Start Inv-loop μ-loop
+
+abbrev Head : Type 0
+Head = tie.At-loop Inv-loop μ-loop
+
+abbrev Ended : Type 0
+Ended = tie.After-eight-on Inv-loop μ-loop
+
+-- ---- the needs
 
 loop-holds : tie.Need-loop-holds Inv-loop μ-loop
-loop-holds c = let a = c .before .before .before .args in starts (a .width) (a .count) (a .marks .now) (a .table .now) (c .run-end .result) (c .run-end .ensures)
+loop-holds c = let s : Start = search in let a = s .args in starts (a .width) (a .count) (a .marks .now) (a .table .now) (s .pre .1)
 
-add-from : tie.Need-add-from Inv-loop μ-loop
-add-from c = search needs
+eight-on-requires : tie.Need-eight-on-requires Inv-loop μ-loop
+eight-on-requires c κs = search needs
 
-run-end-requires-2 : tie.Need-run-end-requires-2 Inv-loop μ-loop
-run-end-requires-2 c κs = search needs
-
-sub-more : tie.Need-sub-more Inv-loop μ-loop
-sub-more c = let a = c .before .before .before .before .before .before .args in
-    let l = c .before .before .loop in
-    omega (arith, run-inside (a .width) (a .count) (a .marks .now) (a .table .now) (l .i + 1) (c .run-end2 .result) (omega arith) (c .run-end2 .ensures))
-
-mul-move-down : tie.Need-mul-move-down Inv-loop μ-loop
-mul-move-down c = let s = c .before .before .before .before .before .before .before in
-    let a = s .args in
-    let l = c .before .before .before .loop in
-    omega (arith, run-fits (a .width) (a .count) (a .marks .now) (a .table .now) (l .table) (l .kept) (l .i) (l .inv) (omega arith) (s .pre .1) (c .before .run-end2 .result) (c .before .run-end2 .ensures))
-
-mul-move-down-2 : tie.Need-mul-move-down-2 Inv-loop μ-loop
-mul-move-down-2 c = let s = c .before .before .before .before .before .before .before in
-    let a = s .args in
-    let l = c .before .before .before .loop in
-    omega (arith, run-fits (a .width) (a .count) (a .marks .now) (a .table .now) (l .table) (l .kept) (l .i) (l .inv) (omega arith) (s .pre .1) (c .before .run-end2 .result) (c .before .run-end2 .ensures))
-
-mul-move-down-3 : tie.Need-mul-move-down-3 Inv-loop μ-loop
-mul-move-down-3 c = let s = c .before .before .before .before .before .before .before in
-    let a = s .args in
-    let l = c .before .before .before .loop in
-    omega (arith, run-fits (a .width) (a .count) (a .marks .now) (a .table .now) (l .table) (l .kept) (l .i) (l .inv) (omega arith) (s .pre .1) (c .before .run-end2 .result) (c .before .run-end2 .ensures))
-
-move-down-requires : tie.Need-move-down-requires Inv-loop μ-loop
-move-down-requires c κs = let s = c .before .before .before .before .before .before .before in
-    let a = s .args in
-    let l = c .before .before .before .loop in
-    omega (arith, run-fits (a .width) (a .count) (a .marks .now) (a .table .now) (l .table) (l .kept) (l .i) (l .inv) (omega arith) (s .pre .1) (c .before .run-end2 .result) (c .before .run-end2 .ensures))
-
-add-kept : tie.Need-add-kept Inv-loop μ-loop
-add-kept c = let a = c .before .before .before .before .before .before .before .before .before .before .args in
-    let l = c .before .before .before .before .before .before .loop in
-    omega (arith, run-inside (a .width) (a .count) (a .marks .now) (a .table .now) (l .i + 1) (c .before .before .before .before .run-end2 .result) (omega arith) (c .before .before .before .before .run-end2 .ensures))
+keep-eight-requires : tie.Need-keep-eight-requires Inv-loop μ-loop
+keep-eight-requires c κs =
+    let s : Start = search in
+    let end : Ended = search in
+    let h : end .eight-on .result ≤ s .args .count = omega (arith, end .eight-on .ensures) in
+    omega (arith, end .eight-on .ensures, mul-le-mul-right (s .args .width) h)
 
 loop-less : tie.Need-loop-less Inv-loop μ-loop
-loop-less c = let a = c .before .before .before .before .before .before .before .before .before .before .args in
-    let l = c .before .before .before .before .before .before .loop in
-    omega (arith, run-inside (a .width) (a .count) (a .marks .now) (a .table .now) (l .i + 1) (c .before .before .before .before .run-end2 .result) (omega arith) (c .before .before .before .before .run-end2 .ensures))
+loop-less c = let end : Ended = search in omega (arith, end .eight-on .ensures)
 
 loop-again : tie.Need-loop-again Inv-loop μ-loop
-loop-again c = let s = c .before .before .before .before .before .before .before .before .before .before in
-    let a = s .args in
-    let l = c .before .before .before .before .before .before .loop in
-    turn (a .width) (a .count) (a .marks .now) (a .table .now) (l .table) (l .kept) (l .i) (l .inv) (omega arith) (s .pre .1) (c .before .before .before .before .run-end2 .result) (c .before .before .before .before .run-end2 .ensures) (c .before .before .move-down .last .0) (c .before .before .move-down .ensures)
+loop-again c =
+    let s : Start = search in
+    let l : Head = search in
+    let end : Ended = search in
+    let k : tie.After-keep-eight Inv-loop μ-loop = search in
+    k .keep-eight .ensures (s .args .count) (s .args .table .now) (omega (arith, end .eight-on .ensures)) (l .loop .inv)
 
 mul-clear : tie.Need-mul-clear Inv-loop μ-loop
-mul-clear c = let a = c .before .before .before .before .before .before .args in
-    let l = c .before .before .loop in
-    omega (arith, bytes-from (a .width) (a .count) (l .kept) (omega arith))
+mul-clear c =
+    let s : Start = search in
+    let l : Head = search in
+    omega (arith, bytes-from (s .args .width) (s .args .count) (l .loop .kept) (omega arith))
 
 sub-clear : tie.Need-sub-clear Inv-loop μ-loop
 sub-clear c = search needs
 
 mul-clear-2 : tie.Need-mul-clear-2 Inv-loop μ-loop
-mul-clear-2 c = let a = c .before .before .before .before .before .before .args in
-    let l = c .before .before .loop in
-    omega (arith, bytes-from (a .width) (a .count) (l .kept) (omega arith))
+mul-clear-2 c =
+    let s : Start = search in
+    let l : Head = search in
+    omega (arith, bytes-from (s .args .width) (s .args .count) (l .loop .kept) (omega arith))
 
 clear-requires : tie.Need-clear-requires Inv-loop μ-loop
-clear-requires c κs = let a = c .before .before .before .before .before .before .args in
-    let l = c .before .before .loop in
-    omega (arith, bytes-from (a .width) (a .count) (l .kept) (omega arith))
+clear-requires c κs =
+    let s : Start = search in
+    let l : Head = search in
+    omega (arith, bytes-from (s .args .width) (s .args .count) (l .loop .kept) (omega arith))
 
 same-length : tie.Need-same-length Inv-loop μ-loop
 same-length c = search needs
 
 returns : tie.Need-returns Inv-loop μ-loop
-returns c = let s = c .before .before .before .before .before .before .before .before .before in
-    let a = s .args in
-    let l = c .before .before .before .before .before .loop in
-    finished (a .width) (a .count) (a .marks .now) (a .table .now) (l .table) (c .before .before .clear .last .0) (l .kept) (l .i) (l .inv) (omega arith) (s .pre .1) (c .before .before .clear .ensures)
+returns c =
+    let l : Head = search in
+    let z : tie.After-clear Inv-loop μ-loop = search in
+    finished (z .clear .last .0) (l .loop .inv) (omega arith) (z .clear .ensures)
 
 pub keep-spec : {M : Type 1} → statement M
 keep-spec =
@@ -103,16 +88,9 @@ keep-spec =
     (tie.spec
     Inv-loop
     μ-loop
-    run-end-requires
     loop-holds
-    add-from
-    run-end-requires-2
-    sub-more
-    mul-move-down
-    mul-move-down-2
-    mul-move-down-3
-    move-down-requires
-    add-kept
+    eight-on-requires
+    keep-eight-requires
     loop-less
     loop-again
     mul-clear

@@ -1,33 +1,22 @@
--- One entry moved, or none where it stands there: `moved-entry`, `entry-stays`.
+-- One entry moved is one written: `moved-entry`.
 use mathlib.Core.Path.{_∙_}
-use native.Mathlib.Nat.{mul-le-mul-right}
-use native.Mathlib.Omega.{arith}
 use borrow.Author.Needs.{needs}
-use Rattle.table.proofs.KeepLaws.{moved-entry, entry-stays}
+use Rattle.table.proofs.KeepLaws.{moved-entry}
 use Rattle.table.proofs.keep.move_entry.Statement.{statement}
 use Rattle.table.proofs.keep.move_entry.Tie as tie
 
-mul-move-down : tie.Need-mul-move-down
-mul-move-down c = search needs
-
-mul-move-down-2 : tie.Need-mul-move-down-2
-mul-move-down-2 c = let s = c .before .before .before in omega (arith, mul-le-mul-right (s .args .width) (s .pre .0))
-
-move-down-requires : tie.Need-move-down-requires
-move-down-requires c κs = let s = c .before .before .before in omega (arith, mul-le-mul-right (s .args .width) (s .pre .0))
+move-entries-requires : tie.Need-move-entries-requires
+move-entries-requires c κs = search needs
 
 same-length : tie.Need-same-length
 same-length c = search needs
 
 returns : tie.Need-returns
-returns c = let s = c .before .before .before .before .before .before .args in
-    c .before .before .move-down .ensures ∙ moved-entry (s .width) (s .from) (s .to) (s .table .now)
-
-returns-2 : tie.Need-returns-2
-returns-2 c = let s = c .before .before .args in
-    entry-stays (s .width) (s .from) (s .to) (s .table .now) (omega arith) (omega arith)
+returns c =
+    let s : tie.Start = search in
+    let m : tie.After-move-entries = search in
+    let a = s .args in
+    m .move-entries .ensures ∙ moved-entry (a .width) (a .from) (a .to) (a .table .now)
 
 pub move-entry-spec : {M : Type 1} → statement M
-move-entry-spec =
-    tie.close
-    (tie.spec mul-move-down mul-move-down-2 move-down-requires same-length returns returns-2)
+move-entry-spec = tie.close (tie.spec move-entries-requires same-length returns)
