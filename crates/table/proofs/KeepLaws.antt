@@ -23,14 +23,21 @@ use Rattle.table.proofs.EditLaws.{bytes-from, cut-down}
 use Rattle.table.proofs.MarkLaws.{marked-ones, one-mark, not-marked}
 
 module _ (width from to : ℕ) (s : List ℕ) where
-  pub moved-entry : moved (from * width) (to * width) (1 * width) s ≡ overwritten (to * width) (entry width from s) s
+  pub moved-entry : moved (from * width) (to * width) width s ≡ overwritten (to * width) (entry width from s) s
   unfolding moved entry
-  moved-entry = let e : 1 * width ≡ width = omega arith in rw e
+  moved-entry = refl
 
-  -- entries that stand where they are to go
-  pub entries-stay : (more : ℕ) → from ≡ to → from * width + more * width ≤ length s → s ≡ moved (from * width) (to * width) (more * width) s
-  unfolding moved
-  entries-stay more e h = rw (← e) (sym (overwritten-same (from * width) (more * width) s h))
+  -- an entry that stands where it is to go
+  pub entry-stays : from ≡ to → from * width + width ≤ length s → s ≡ overwritten (to * width) (entry width from s) s
+  unfolding entry
+  entry-stays e h = rw (← e) (sym (overwritten-same (from * width) width s h))
+
+-- a block of k entries: where it stands and where it goes
+pub block-fits : (width to from k end : ℕ) (s : List ℕ) → to ≤ from → end ≡ from + k → end * width ≤ length s
+    → (to * width ≤ from * width) × (from * width + k * width ≤ length s)
+block-fits width to from k end s h e l =
+    let b : (from + k) * width ≤ length s = rw (← e) l in
+    (mul-le-mul-right width h, omega arith)
 
 pub starts : (width count : ℕ) (marks d : List ℕ) → count * width ≤ length d → Keeping width count marks d d 0 0
 starts width count marks d h = record { left-le = omega arith; i-le = omega arith; fits = h; long = refl; kept = refl; rest = refl }
@@ -38,22 +45,17 @@ starts width count marks d h = record { left-le = omega arith; i-le = omega arit
 -- k entries from i on, moved down behind those kept: t′ is the table then
 module _ {width count : ℕ} {marks d t : List ℕ} {left i : ℕ} (s : Keeping width count marks d t left i) (k : ℕ) (h : i + k ≤ count)
     (t′ : List ℕ) (q : t′ ≡ moved (i * width) (left * width) (k * width) t) where
-  inside : i * width + k * width ≤ length t
-  inside =
-      let e : (i + k) * width ≡ i * width + k * width = omega arith in
-      omega (arith, s .long, s .fits, mul-le-mul-right width h)
-
-  below : left * width ≤ i * width
-  below = mul-le-mul-right width (s .left-le)
+  fits : (left * width ≤ i * width) × (i * width + k * width ≤ length t)
+  fits = block-fits width left i k (i + k) t (s .left-le) refl (omega (arith, s .long, s .fits, mul-le-mul-right width h))
 
   abbrev block : List ℕ
   block = take (k * width) (drop (i * width) t)
 
   block-long : length block ≡ k * width
-  block-long = length-part (i * width) (k * width) t inside
+  block-long = length-part (i * width) (k * width) t (fits .1)
 
   room : left * width + length block ≤ length t
-  room = omega (arith, block-long, inside, below)
+  room = omega (arith, block-long, fits)
 
   still-long : length t′ ≡ length d
   unfolding moved
@@ -65,7 +67,7 @@ module _ {width count : ℕ} {marks d t : List ℕ} {left i : ℕ} (s : Keeping 
       let e : i * width + k * width ≡ (i + k) * width = omega arith in
       let r : drop ((i + k) * width) t ≡ drop ((i + k) * width) d =
       rw (← e, ← drop-drop (k * width) (i * width) t, ← drop-drop (k * width) (i * width) d, s .rest) in
-      rw q (drop-after (left * width) block t room ((i + k) * width) (omega (arith, block-long, below)) ∙ r)
+      rw q (drop-after (left * width) block t room ((i + k) * width) (omega (arith, block-long, fits)) ∙ r)
 
   -- the entries kept before, and those with the ones that moved
   kept-before : entries width left t′ ≡ entries width left t
@@ -86,7 +88,7 @@ module _ {width count : ℕ} {marks d t : List ℕ} {left i : ℕ} (s : Keeping 
   kept-then : entries width (left + k) t′ ≡ entries width left t ++ take k (drop i (entries width count d))
   unfolding moved
   kept-then =
-      let l : k * width ≤ length (drop (i * width) t) = rw length-drop (omega (arith, inside)) in
+      let l : k * width ≤ length (drop (i * width) t) = rw length-drop (omega (arith, fits)) in
       let es : entries width k block ≡ take k (drop i (entries width count d)) =
       entries-take width k (k * width) (drop (i * width) t) (omega arith) l ∙ rw (s .rest) next-entries in
       rw q (entries-behind width left k block t block-long (omega (arith, room, block-long)) ∙ rw es)
@@ -107,8 +109,19 @@ module _ {width count : ℕ} {marks d t : List ℕ} {left i : ℕ} (s : Keeping 
         rest = still-rest;
       }
 
+-- entries that are kept while none was dropped stay
+pub keeps-still : {width count : ℕ} {marks d : List ℕ} {i : ℕ} → Keeping width count marks d d i i → (k : ℕ) → i + k ≤ count
+    → drop i marks ≡ replicate k 1 ++ drop (i + k) marks → Keeping width count marks d d (i + k) (i + k)
+unfolding moved
+keeps-still {width = width} {d = d} {i = i} s k h o =
+    keeps-all s k h d (sym (overwritten-same (i * width) (k * width) d (block-fits width i i k (i + k) d (omega arith) refl (omega (arith, s .fits, mul-le-mul-right width h)) .1))) o
+
+-- one entry, moved down behind those kept
 module _ {width count : ℕ} {marks d t : List ℕ} {left i : ℕ} (s : Keeping width count marks d t left i) (h : i + 1 ≤ count) (l : i < length marks)
-    (t′ : List ℕ) (q : t′ ≡ moved (i * width) (left * width) (1 * width) t) where
+    (t′ : List ℕ) (q : t′ ≡ overwritten (left * width) (entry width i t) t) where
+  one-moved : t′ ≡ moved (i * width) (left * width) (1 * width) t
+  one-moved = let e : 1 * width ≡ width = omega arith in q ∙ rw e (sym (moved-entry width i left t))
+
   -- it is not kept: the next one goes over it
   drops-one : (getD marks i 0 ≡ 1 → ⊥) → Keeping width count marks d t′ left (i + 1)
   drops-one o =
@@ -118,9 +131,9 @@ module _ {width count : ℕ} {marks d t : List ℕ} {left i : ℕ} (s : Keeping 
         left-le = omega (arith, s .left-le);
         i-le = h;
         fits = s .fits;
-        long = still-long s 1 h t′ q;
-        kept = rw (kept-before s 1 h t′ q, ← m) (s .kept);
-        rest = still-rest s 1 h t′ q;
+        long = still-long s 1 h t′ one-moved;
+        kept = rw (kept-before s 1 h t′ one-moved, ← m) (s .kept);
+        rest = still-rest s 1 h t′ one-moved;
       }
 
   -- whatever its mark is
@@ -128,7 +141,7 @@ module _ {width count : ℕ} {marks d t : List ℕ} {left i : ℕ} (s : Keeping 
   keeps-one n e = rw e (go (eqb (getD marks i 0) 1) refl)
     where
       go : (test : Bool) → eqb (getD marks i 0) 1 ≡ test → Keeping width count marks d t′ (left + cond test 1 0) (i + 1)
-      go true r = keeps-all s 1 h t′ q (one-mark marks i l (eqb-true (getD marks i 0) 1 r))
+      go true r = keeps-all s 1 h t′ one-moved (one-mark marks i l (eqb-true (getD marks i 0) 1 r))
       go false r = rw add-zero (drops-one (eqb-false (getD marks i 0) 1 r))
 
 pub finished : {width count : ℕ} {marks d t : List ℕ} {left i : ℕ} (y : List ℕ) → Keeping width count marks d t left i → count ≤ i

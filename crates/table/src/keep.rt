@@ -9,25 +9,16 @@ ghost use Rattle.fields.specs.Number.{fromBe};
 ghost use Rattle.fields.specs.Overwrite.{overwritten};
 ghost use Rattle.fields.specs.Entries.{entries, entry, replaced};
 ghost use Rattle.fields.specs.Filter.{marked};
-ghost use Rattle.moving.specs.Move.{moved};
 ghost use Rattle.table.specs.Keep.{Keeping};
 
-// `more` entries from `from` on moved down to `to`. Nothing moves while nothing was dropped.
-fn move_entries(table: &mut [u8], width: usize, from: usize, to: usize, more: usize)
-    requires { ⌜ (to ≤ from) × (from * width + more * width ≤ length (now table)) ⌝ }
-    ensures { λ _. ⌜ now (table .exit) ≡ moved (from * width) (to * width) (more * width) (now (table .entry)) ⌝ }
-{
-    if to < from {
-        moving::move_down(table, from * width, to * width, more * width);
-    }
-}
-
-// Entry `from` written over entry `to`.
+// Entry `from` written over entry `to`. Nothing moves while nothing was dropped.
 pub fn move_entry(table: &mut [u8], width: usize, from: usize, to: usize)
     requires { ⌜ (to ≤ from) × (from * width + width ≤ length (now table)) ⌝ }
     ensures { λ _. ⌜ now (table .exit) ≡ overwritten (to * width) (entry width from (now (table .entry))) (now (table .entry)) ⌝ }
 {
-    move_entries(table, width, from, to, 1);
+    if to < from {
+        moving::move_down(table, from * width, to * width, width);
+    }
 }
 
 // Whether eight entries from `at` on are all kept: their marks in one load.
@@ -67,7 +58,7 @@ fn keep_each(
     let mut i = from;
     let mut left = kept;
     while i < end {
-        move_entries(table, width, i, left, 1);
+        move_entry(table, width, i, left);
         left += one_if(marks[i] == 1);
         i += 1;
     }
@@ -88,7 +79,7 @@ fn keep_eight(
     ensures { λ r. ⌜ ((count : ℕ) (d : List ℕ) → end ≤ count → Keeping width count (now (marks .entry)) d (now (table .entry)) kept from → Keeping width count (now (marks .entry)) d (now (table .exit)) r end) ⌝ }
 {
     if eight_kept(marks, from, end) {
-        move_entries(table, width, from, kept, 8);
+        moving::move_down(table, from * width, kept * width, 8 * width);
         return kept + 8;
     }
     keep_each(table, width, from, end, kept, marks)
@@ -111,8 +102,12 @@ pub fn keep(table: &mut [u8], width: usize, count: usize, marks: &[u8]) -> usize
     ensures { λ r. ⌜ r ≡ length (marked (now (marks .entry)) (entries width count (now (table .entry)))) ⌝ }
     ensures { λ _. ⌜ now (table .exit) ≡ replaced width count (marked (now (marks .entry)) (entries width count (now (table .entry)))) (now (table .entry)) ⌝ }
 {
+    // Eights that are kept stay where they are, up to the first that is not.
     let mut i = 0;
-    let mut kept = 0;
+    while eight_kept(marks, i, count) {
+        i += 8;
+    }
+    let mut kept = i;
     while i < count {
         let end = eight_on(i, count);
         kept = keep_eight(table, width, i, end, kept, marks);

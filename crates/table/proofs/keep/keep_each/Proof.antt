@@ -37,12 +37,12 @@ InTurn = tie.In-loop Inv-loop μ-loop
 loop-holds : tie.Need-loop-holds Inv-loop μ-loop
 loop-holds c = let s : Start = search in (s .pre .0, (s .pre .1 .0, (refl, (λ count d h k. k))))
 
-move-entries-requires : tie.Need-move-entries-requires Inv-loop μ-loop
-move-entries-requires c κs =
+move-entry-requires : tie.Need-move-entry-requires Inv-loop μ-loop
+move-entry-requires c κs =
     let s : Start = search in
     let l : Head = search in
     let t : InTurn = search in
-    let e : (l .loop .i + 1) * s .args .width ≡ l .loop .i * s .args .width + 1 * s .args .width = omega arith in
+    let e : (l .loop .i + 1) * s .args .width ≡ l .loop .i * s .args .width + s .args .width = omega arith in
     let h : l .loop .i + 1 ≤ s .args .end = omega (arith, t .loop-test .taken) in
     omega (arith, mul-le-mul-right (s .args .width) h)
 
@@ -66,15 +66,15 @@ loop-again c =
     let s : Start = search in
     let l : Head = search in
     let t : InTurn = search in
-    let m : tie.After-move-entries Inv-loop μ-loop = search in
+    let m : tie.After-move-entry Inv-loop μ-loop = search in
     let o : tie.After-one-if Inv-loop μ-loop = search in
     let a = s .args in
     let i : ℕ = l .loop .i in
     let marked : i < length (a .marks .now) = omega (arith, t .loop-test .taken, s .pre) in
     let turned : (count : ℕ) (d : List ℕ) → a .end ≤ count → Keeping (a .width) count (a .marks .now) d (a .table .now) (a .kept) (a .from)
-    → Keeping (a .width) count (a .marks .now) d (m .move-entries .last .0) (l .loop .left + o .one-if .result) (i + 1) =
+    → Keeping (a .width) count (a .marks .now) d (m .move-entry .last .0) (l .loop .left + o .one-if .result) (i + 1) =
     λ count d h k.
-    keeps-one (l .loop .inv .1 .1 .1 count d h k) (omega (arith, t .loop-test .taken)) marked (m .move-entries .last .0) (m .move-entries .ensures) (o .one-if .result) (o .one-if .ensures .0) in
+    keeps-one (l .loop .inv .1 .1 .1 count d h k) (omega (arith, t .loop-test .taken)) marked (m .move-entry .last .0) (m .move-entry .ensures) (o .one-if .result) (o .one-if .ensures .0) in
     (omega arith, (omega arith, (omega arith, turned)))
 
 same-length : tie.Need-same-length Inv-loop μ-loop
@@ -94,7 +94,7 @@ keep-each-spec =
     Inv-loop
     μ-loop
     loop-holds
-    move-entries-requires
+    move-entry-requires
     shared-slice-read-one-if
     one-if-requires
     add-left

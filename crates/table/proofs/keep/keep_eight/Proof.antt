@@ -6,7 +6,7 @@ use native.Mathlib.Omega.{arith}
 use lib.ListN.{length, drop, replicate}
 use borrow.Author.Needs.{needs}
 use Rattle.table.proofs.MarkLaws.{eight-marks}
-use Rattle.table.proofs.KeepLaws.{keeps-all}
+use Rattle.table.proofs.KeepLaws.{block-fits, keeps-all}
 use Rattle.table.proofs.keep.keep_eight.Statement.{statement}
 use Rattle.table.proofs.keep.keep_eight.Tie as tie
 
@@ -25,16 +25,24 @@ module _ (c : tie.Then1) where
   ends : start .args .end ≡ start .args .from + 8
   ends = omega (arith, ones .0)
 
+  fits : (start .args .kept * start .args .width ≤ start .args .from * start .args .width)
+      × (start .args .from * start .args .width + 8 * start .args .width ≤ length (start .args .table .now))
+  fits = let a = start .args in block-fits (a .width) (a .kept) (a .from) 8 (a .end) (a .table .now) (start .pre .0 .0) ends (start .pre .0 .1 .1 .1)
+
 eight-kept-requires : tie.Need-eight-kept-requires
 eight-kept-requires c κs = search needs
 
-move-entries-requires : tie.Need-move-entries-requires
-move-entries-requires c κs =
-    let t : tie.Then1 = search in
-    let a = start t .args in
-    let e : (a .from + 8) * a .width ≡ a .from * a .width + 8 * a .width = omega arith in
-    let fits : (a .from + 8) * a .width ≤ length (a .table .now) = rw (← ends t) (start t .pre .0 .1 .1 .1) in
-    omega arith
+mul-move-down : tie.Need-mul-move-down
+mul-move-down c = let t : tie.Then1 = search in omega (arith, fits t)
+
+mul-move-down-2 : tie.Need-mul-move-down-2
+mul-move-down-2 c = let t : tie.Then1 = search in omega (arith, fits t)
+
+mul-move-down-3 : tie.Need-mul-move-down-3
+mul-move-down-3 c = let t : tie.Then1 = search in omega (arith, fits t)
+
+move-down-requires : tie.Need-move-down-requires
+move-down-requires c κs = let t : tie.Then1 = search in fits t
 
 add-result : tie.Need-add-result
 add-result c = search needs
@@ -45,8 +53,8 @@ same-length c = search needs
 returns : tie.Need-returns
 returns c =
     let t : tie.Then1 = search in
-    let m : tie.After-move-entries = search in
-    λ count d h k. rw (ends t) (keeps-all k 8 (omega (arith, ends t)) (m .move-entries .last .0) (m .move-entries .ensures) (ones t .1))
+    let m : tie.After-move-down = search in
+    λ count d h k. rw (ends t) (keeps-all k 8 (omega (arith, ends t)) (m .move-down .last .0) (m .move-down .ensures) (ones t .1))
 
 keep-each-requires : tie.Need-keep-each-requires
 keep-each-requires c κs = search needs
@@ -62,7 +70,10 @@ keep-eight-spec =
     tie.close
     (tie.spec
     eight-kept-requires
-    move-entries-requires
+    mul-move-down
+    mul-move-down-2
+    mul-move-down-3
+    move-down-requires
     add-result
     same-length
     returns
