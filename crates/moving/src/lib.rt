@@ -1,12 +1,12 @@
 // Bytes moved within a slice, 32 at a time, and written into it.
 ghost use mathlib.Core.Path.{_≡_};
-ghost use Prim.Native.Nat.{_+_, _≤_};
+ghost use Prim.Native.Nat.{_+_, _-_, _≤_};
 ghost use lib.ListN.{length};
 ghost use Rattle.fields.specs.Zero.{zeros};
 ghost use Rattle.fields.specs.Overwrite.{overwritten};
 ghost use Rattle.moving.specs.Move.{moved};
 
-// Both of these read all bytes before they write one, so the two places may overlap either way.
+// These three read all bytes before they write one, so the two places may overlap either way.
 fn move_block(s: &mut [u8], from: usize, to: usize)
     requires { ⌜ (from + 32 ≤ length (now s)) × (to + 32 ≤ length (now s)) ⌝ }
     ensures { λ _. ⌜ now (s .exit) ≡ moved from to 32 (now (s .entry)) ⌝ }
@@ -21,6 +21,14 @@ fn move_block(s: &mut [u8], from: usize, to: usize)
     fields::write_u64(s, to + 24, d);
 }
 
+fn move_eight(s: &mut [u8], from: usize, to: usize)
+    requires { ⌜ (from + 8 ≤ length (now s)) × (to + 8 ≤ length (now s)) ⌝ }
+    ensures { λ _. ⌜ now (s .exit) ≡ moved from to 8 (now (s .entry)) ⌝ }
+{
+    let word = fields::read_u64(s, from);
+    fields::write_u64(s, to, word);
+}
+
 fn move_word(s: &mut [u8], from: usize, to: usize, size: usize)
     requires { ⌜ (size ≤ 8) × ((from + size ≤ length (now s)) × (to + size ≤ length (now s))) ⌝ }
     ensures { λ _. ⌜ now (s .exit) ≡ moved from to size (now (s .entry)) ⌝ }
@@ -29,38 +37,70 @@ fn move_word(s: &mut [u8], from: usize, to: usize, size: usize)
     fields::write(s, to, size, word);
 }
 
-// The `size` bytes from `from` on moved up to `to`, from the last on.
-pub fn move_up(s: &mut [u8], from: usize, to: usize, size: usize)
+// Words moved up, from the last on, while there are more bytes than one word. Answers how many are left.
+fn move_words_up(s: &mut [u8], from: usize, to: usize, size: usize) -> usize
     requires { ⌜ (from ≤ to) × (to + size ≤ length (now s)) ⌝ }
-    ensures { λ _. ⌜ now (s .exit) ≡ moved from to size (now (s .entry)) ⌝ }
+    ensures { λ r. ⌜ (r ≤ size) × (r ≤ 8) ⌝ }
+    ensures { λ r. ⌜ now (s .exit) ≡ moved (from + r) (to + r) (size - r) (now (s .entry)) ⌝ }
 {
     let mut left = size;
     while 32 <= left {
         left -= 32;
         move_block(s, from + left, to + left);
     }
-    while 8 <= left {
+    while 8 < left {
         left -= 8;
-        move_word(s, from + left, to + left, 8);
+        move_eight(s, from + left, to + left);
     }
-    move_word(s, from, to, left);
+    left
 }
 
-// The `size` bytes from `from` on moved down to `to`, from the first on.
-pub fn move_down(s: &mut [u8], from: usize, to: usize, size: usize)
+// Words moved down, from the first on, while there are more bytes than one word. Answers how many are done.
+fn move_words_down(s: &mut [u8], from: usize, to: usize, size: usize) -> usize
     requires { ⌜ (to ≤ from) × (from + size ≤ length (now s)) ⌝ }
-    ensures { λ _. ⌜ now (s .exit) ≡ moved from to size (now (s .entry)) ⌝ }
+    ensures { λ r. ⌜ (r ≤ size) × (size ≤ r + 8) ⌝ }
+    ensures { λ r. ⌜ now (s .exit) ≡ moved from to r (now (s .entry)) ⌝ }
 {
     let mut done = 0;
     while 32 <= size - done {
         move_block(s, from + done, to + done);
         done += 32;
     }
-    while 8 <= size - done {
-        move_word(s, from + done, to + done, 8);
+    while 8 < size - done {
+        move_eight(s, from + done, to + done);
         done += 8;
     }
-    move_word(s, from + done, to + done, size - done);
+    done
+}
+
+// The `size` bytes from `from` on moved up to `to`. The first word is read before the others are written, and written
+// over what they left: so no size ends in a loop over bytes.
+pub fn move_up(s: &mut [u8], from: usize, to: usize, size: usize)
+    requires { ⌜ (from ≤ to) × (to + size ≤ length (now s)) ⌝ }
+    ensures { λ _. ⌜ now (s .exit) ≡ moved from to size (now (s .entry)) ⌝ }
+{
+    if size < 8 {
+        move_word(s, from, to, size);
+    } else {
+        let first = fields::read_u64(s, from);
+        move_words_up(s, from, to, size);
+        fields::write_u64(s, to, first);
+    }
+}
+
+// The `size` bytes from `from` on moved down to `to`, with the last word as `move_up` has the first.
+pub fn move_down(s: &mut [u8], from: usize, to: usize, size: usize)
+    requires { ⌜ (to ≤ from) × (from + size ≤ length (now s)) ⌝ }
+    ensures { λ _. ⌜ now (s .exit) ≡ moved from to size (now (s .entry)) ⌝ }
+{
+    if size < 8 {
+        move_word(s, from, to, size);
+    } else {
+        let before = size - 8;
+        let last = fields::read_u64(s, from + before);
+        move_words_down(s, from, to, size);
+        fields::write_u64(s, to + before, last);
+    }
 }
 
 // The same by words, for few bytes. The last word is written over the end of the one before it.

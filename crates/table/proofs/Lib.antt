@@ -1,3 +1,3 @@
 pub mod EditLaws
-pub mod RunLaws
 pub mod KeepLaws
+pub mod MarkLaws

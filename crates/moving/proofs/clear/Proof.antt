@@ -24,8 +24,10 @@ same-length : tie.Need-same-length
 same-length c = search needs
 
 returns : tie.Need-returns
-returns c = let s = c .before .before .before .before .before .args in
-    part-cleared (s .at) (s .size) (c .before .before .fill-zero .last .0) (s .s .now) (omega arith) (c .before .before .fill-zero .ensures)
+returns c =
+    let s : tie.Start = search in
+    let zero : tie.After-fill-zero = search in
+    part-cleared (s .args .at) (s .args .size) (zero .fill-zero .last .0) (s .args .s .now) (omega arith) (zero .fill-zero .ensures)
 
 pub clear-spec : {M : Type 1} → statement M
 clear-spec =

@@ -16,9 +16,14 @@ same-length : tie.Need-same-length
 same-length c = search needs
 
 returns : tie.Need-returns
-returns c = let s = c .before .before .before .before .before .before .before .args in
-    c .before .before .write .ensures
-    ∙ moved-word (s .from) (s .to) (s .size) (c .before .before .before .before .read .result) (s .s .now) (λ i. omega (arith, c .before .before .before .before .before .before .slice-known .given i)) (omega arith) (c .before .before .before .before .read .ensures .0)
+returns c =
+    let s : tie.Start = search in
+    let bytes : tie.After-slice-known = search in
+    let r : tie.After-read = search in
+    let w : tie.After-write = search in
+    let a = s .args in
+    w .write .ensures
+    ∙ moved-word (a .from) (a .to) (a .size) (r .read .result) (a .s .now) (λ i. omega (arith, bytes .slice-known .given i)) (omega arith) (r .read .ensures .0)
 
 pub move-word-spec : {M : Type 1} → statement M
 move-word-spec = tie.close (tie.spec read-requires write-requires same-length returns)

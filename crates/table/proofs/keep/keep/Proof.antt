@@ -1,101 +1,134 @@
--- The loop: kept entries in front, and those from i on as they were (`Keeping`). A turn is `turn`.
-use Prim.Native.Nat.{_+_, _-_}
+-- Both loops: the pass stands at i (`Keeping`). A turn is `keeps-still`, then what `keep_eight` ensures.
+use Prim.Native.Nat.{_+_, _-_, _*_, _≤_}
+use mathlib.Core.Path.{_≡_, sym, _∙_}
+use mathlib.Core.List.{_++_}
+use native.Mathlib.Nat.{mul-le-mul-right}
 use native.Mathlib.Omega.{arith}
+use lib.ListN.{drop, replicate}
 use borrow.Author.Needs.{needs}
+use Rattle.table.specs.Keep.{Keeping}
 use Rattle.table.proofs.EditLaws.{bytes-from}
-use Rattle.table.proofs.KeepLaws.{Keeping, starts, run-inside, run-fits, turn, finished}
+use Rattle.table.proofs.MarkLaws.{eight-marks}
+use Rattle.table.proofs.KeepLaws.{starts, keeps-still, finished}
 use Rattle.table.proofs.keep.keep.Statement.{statement}
 use Rattle.table.proofs.keep.keep.Tie as tie
 
 abbrev Inv-loop : tie.InvT-loop
-Inv-loop table₀ width count marks i₀ kept₀ table i kept = Keeping width count marks table₀ table kept i
+Inv-loop table width count marks i₀ i = Keeping width count marks table table i i
 
 abbrev μ-loop : tie.MeasureT-loop
-μ-loop table₀ width count marks i₀ kept₀ table i kept = count - i
+μ-loop table width count marks i₀ i = count - i
 
-run-end-requires : tie.Need-run-end-requires Inv-loop μ-loop
-run-end-requires c κs = search needs
+abbrev Inv-loop2 : tie.InvT-loop2
+Inv-loop2 table₀ width count marks i₀ kept₀ table i kept = Keeping width count marks table₀ table kept i
 
-loop-holds : tie.Need-loop-holds Inv-loop μ-loop
-loop-holds c = let a = c .before .before .before .args in starts (a .width) (a .count) (a .marks .now) (a .table .now) (c .run-end .result) (c .run-end .ensures)
+abbrev μ-loop2 : tie.MeasureT-loop2
+μ-loop2 table₀ width count marks i₀ kept₀ table i kept = count - i
 
-add-from : tie.Need-add-from Inv-loop μ-loop
-add-from c = search needs
+-- ---- the places
 
-run-end-requires-2 : tie.Need-run-end-requires-2 Inv-loop μ-loop
-run-end-requires-2 c κs = search needs
+abbrev Start : Type 0
+Start = tie.Start Inv-loop μ-loop Inv-loop2 μ-loop2
 
-sub-more : tie.Need-sub-more Inv-loop μ-loop
-sub-more c = let a = c .before .before .before .before .before .before .args in
-    let l = c .before .before .loop in
-    omega (arith, run-inside (a .width) (a .count) (a .marks .now) (a .table .now) (l .i + 1) (c .run-end2 .result) (omega arith) (c .run-end2 .ensures))
+abbrev Still : Type 0
+Still = tie.At-loop Inv-loop μ-loop Inv-loop2 μ-loop2
 
-mul-move-down : tie.Need-mul-move-down Inv-loop μ-loop
-mul-move-down c = let s = c .before .before .before .before .before .before .before in
-    let a = s .args in
-    let l = c .before .before .before .loop in
-    omega (arith, run-fits (a .width) (a .count) (a .marks .now) (a .table .now) (l .table) (l .kept) (l .i) (l .inv) (omega arith) (s .pre .1) (c .before .run-end2 .result) (c .before .run-end2 .ensures))
+abbrev Kept : Type 0
+Kept = tie.Then1 Inv-loop μ-loop Inv-loop2 μ-loop2
 
-mul-move-down-2 : tie.Need-mul-move-down-2 Inv-loop μ-loop
-mul-move-down-2 c = let s = c .before .before .before .before .before .before .before in
-    let a = s .args in
-    let l = c .before .before .before .loop in
-    omega (arith, run-fits (a .width) (a .count) (a .marks .now) (a .table .now) (l .table) (l .kept) (l .i) (l .inv) (omega arith) (s .pre .1) (c .before .run-end2 .result) (c .before .run-end2 .ensures))
+abbrev Head : Type 0
+Head = tie.At-loop2 Inv-loop μ-loop Inv-loop2 μ-loop2
 
-mul-move-down-3 : tie.Need-mul-move-down-3 Inv-loop μ-loop
-mul-move-down-3 c = let s = c .before .before .before .before .before .before .before in
-    let a = s .args in
-    let l = c .before .before .before .loop in
-    omega (arith, run-fits (a .width) (a .count) (a .marks .now) (a .table .now) (l .table) (l .kept) (l .i) (l .inv) (omega arith) (s .pre .1) (c .before .run-end2 .result) (c .before .run-end2 .ensures))
+abbrev Ended : Type 0
+Ended = tie.After-eight-on Inv-loop μ-loop Inv-loop2 μ-loop2
 
-move-down-requires : tie.Need-move-down-requires Inv-loop μ-loop
-move-down-requires c κs = let s = c .before .before .before .before .before .before .before in
-    let a = s .args in
-    let l = c .before .before .before .loop in
-    omega (arith, run-fits (a .width) (a .count) (a .marks .now) (a .table .now) (l .table) (l .kept) (l .i) (l .inv) (omega arith) (s .pre .1) (c .before .run-end2 .result) (c .before .run-end2 .ensures))
+-- eight marks of 1 while nothing was dropped
+module _ (c : Kept) where
+  abbrev start : Start
+  start = search
 
-add-kept : tie.Need-add-kept Inv-loop μ-loop
-add-kept c = let a = c .before .before .before .before .before .before .before .before .before .before .args in
-    let l = c .before .before .before .before .before .before .loop in
-    omega (arith, run-inside (a .width) (a .count) (a .marks .now) (a .table .now) (l .i + 1) (c .before .before .before .before .run-end2 .result) (omega arith) (c .before .before .before .before .run-end2 .ensures))
+  abbrev still : Still
+  still = search
 
-loop-less : tie.Need-loop-less Inv-loop μ-loop
-loop-less c = let a = c .before .before .before .before .before .before .before .before .before .before .args in
-    let l = c .before .before .before .before .before .before .loop in
-    omega (arith, run-inside (a .width) (a .count) (a .marks .now) (a .table .now) (l .i + 1) (c .before .before .before .before .run-end2 .result) (omega arith) (c .before .before .before .before .run-end2 .ensures))
+  ones : (still .loop .i + 8 ≤ start .args .count)
+      × (drop (still .loop .i) (start .args .marks .now) ≡ replicate 8 1 ++ drop (still .loop .i + 8) (start .args .marks .now))
+  ones =
+      let known : tie.After-shared-slice-known Inv-loop μ-loop Inv-loop2 μ-loop2 = search in
+      let tested : tie.After-eight-kept Inv-loop μ-loop Inv-loop2 μ-loop2 = search in
+      let a = start .args in
+      eight-marks (a .marks .now) (still .loop .i) (a .count) (start .pre .0) (λ i. omega (arith, known .shared-slice-known .given i))
+      (sym (tested .eight-kept .ensures) ∙ c .if1 .taken)
 
-loop-again : tie.Need-loop-again Inv-loop μ-loop
-loop-again c = let s = c .before .before .before .before .before .before .before .before .before .before in
-    let a = s .args in
-    let l = c .before .before .before .before .before .before .loop in
-    turn (a .width) (a .count) (a .marks .now) (a .table .now) (l .table) (l .kept) (l .i) (l .inv) (omega arith) (s .pre .1) (c .before .before .before .before .run-end2 .result) (c .before .before .before .before .run-end2 .ensures) (c .before .before .move-down .last .0) (c .before .before .move-down .ensures)
+-- ---- the needs
 
-mul-clear : tie.Need-mul-clear Inv-loop μ-loop
-mul-clear c = let a = c .before .before .before .before .before .before .args in
-    let l = c .before .before .loop in
-    omega (arith, bytes-from (a .width) (a .count) (l .kept) (omega arith))
+loop-holds : tie.Need-loop-holds Inv-loop μ-loop Inv-loop2 μ-loop2
+loop-holds c = let s : Start = search in let a = s .args in starts (a .width) (a .count) (a .marks .now) (a .table .now) (s .pre .1)
 
-sub-clear : tie.Need-sub-clear Inv-loop μ-loop
+eight-kept-requires : tie.Need-eight-kept-requires Inv-loop μ-loop Inv-loop2 μ-loop2
+eight-kept-requires c κs = search needs
+
+add-i : tie.Need-add-i Inv-loop μ-loop Inv-loop2 μ-loop2
+add-i c = let k : Kept = search in omega (arith, ones k .0)
+
+loop-less : tie.Need-loop-less Inv-loop μ-loop Inv-loop2 μ-loop2
+loop-less c = let k : Kept = search in omega (arith, ones k .0)
+
+loop-again : tie.Need-loop-again Inv-loop μ-loop Inv-loop2 μ-loop2
+loop-again c = let k : Kept = search in keeps-still (still k .loop .inv) 8 (ones k .0) (ones k .1)
+
+loop2-holds : tie.Need-loop2-holds Inv-loop μ-loop Inv-loop2 μ-loop2
+loop2-holds c = let l : Still = search in l .loop .inv
+
+eight-on-requires : tie.Need-eight-on-requires Inv-loop μ-loop Inv-loop2 μ-loop2
+eight-on-requires c κs = search needs
+
+keep-eight-requires : tie.Need-keep-eight-requires Inv-loop μ-loop Inv-loop2 μ-loop2
+keep-eight-requires c κs =
+    let s : Start = search in
+    let end : Ended = search in
+    let h : end .eight-on .result ≤ s .args .count = omega (arith, end .eight-on .ensures) in
+    omega (arith, end .eight-on .ensures, mul-le-mul-right (s .args .width) h)
+
+loop2-less : tie.Need-loop2-less Inv-loop μ-loop Inv-loop2 μ-loop2
+loop2-less c = let end : Ended = search in omega (arith, end .eight-on .ensures)
+
+loop2-again : tie.Need-loop2-again Inv-loop μ-loop Inv-loop2 μ-loop2
+loop2-again c =
+    let s : Start = search in
+    let l : Head = search in
+    let end : Ended = search in
+    let k : tie.After-keep-eight Inv-loop μ-loop Inv-loop2 μ-loop2 = search in
+    k .keep-eight .ensures (s .args .count) (s .args .table .now) (omega (arith, end .eight-on .ensures)) (l .loop2 .inv)
+
+mul-clear : tie.Need-mul-clear Inv-loop μ-loop Inv-loop2 μ-loop2
+mul-clear c =
+    let s : Start = search in
+    let l : Head = search in
+    omega (arith, bytes-from (s .args .width) (s .args .count) (l .loop2 .kept) (omega arith))
+
+sub-clear : tie.Need-sub-clear Inv-loop μ-loop Inv-loop2 μ-loop2
 sub-clear c = search needs
 
-mul-clear-2 : tie.Need-mul-clear-2 Inv-loop μ-loop
-mul-clear-2 c = let a = c .before .before .before .before .before .before .args in
-    let l = c .before .before .loop in
-    omega (arith, bytes-from (a .width) (a .count) (l .kept) (omega arith))
+mul-clear-2 : tie.Need-mul-clear-2 Inv-loop μ-loop Inv-loop2 μ-loop2
+mul-clear-2 c =
+    let s : Start = search in
+    let l : Head = search in
+    omega (arith, bytes-from (s .args .width) (s .args .count) (l .loop2 .kept) (omega arith))
 
-clear-requires : tie.Need-clear-requires Inv-loop μ-loop
-clear-requires c κs = let a = c .before .before .before .before .before .before .args in
-    let l = c .before .before .loop in
-    omega (arith, bytes-from (a .width) (a .count) (l .kept) (omega arith))
+clear-requires : tie.Need-clear-requires Inv-loop μ-loop Inv-loop2 μ-loop2
+clear-requires c κs =
+    let s : Start = search in
+    let l : Head = search in
+    omega (arith, bytes-from (s .args .width) (s .args .count) (l .loop2 .kept) (omega arith))
 
-same-length : tie.Need-same-length Inv-loop μ-loop
+same-length : tie.Need-same-length Inv-loop μ-loop Inv-loop2 μ-loop2
 same-length c = search needs
 
-returns : tie.Need-returns Inv-loop μ-loop
-returns c = let s = c .before .before .before .before .before .before .before .before .before in
-    let a = s .args in
-    let l = c .before .before .before .before .before .loop in
-    finished (a .width) (a .count) (a .marks .now) (a .table .now) (l .table) (c .before .before .clear .last .0) (l .kept) (l .i) (l .inv) (omega arith) (s .pre .1) (c .before .before .clear .ensures)
+returns : tie.Need-returns Inv-loop μ-loop Inv-loop2 μ-loop2
+returns c =
+    let l : Head = search in
+    let z : tie.After-clear Inv-loop μ-loop Inv-loop2 μ-loop2 = search in
+    finished (z .clear .last .0) (l .loop2 .inv) (omega arith) (z .clear .ensures)
 
 pub keep-spec : {M : Type 1} → statement M
 keep-spec =
@@ -103,18 +136,18 @@ keep-spec =
     (tie.spec
     Inv-loop
     μ-loop
-    run-end-requires
+    Inv-loop2
+    μ-loop2
     loop-holds
-    add-from
-    run-end-requires-2
-    sub-more
-    mul-move-down
-    mul-move-down-2
-    mul-move-down-3
-    move-down-requires
-    add-kept
+    eight-kept-requires
+    add-i
     loop-less
     loop-again
+    loop2-holds
+    eight-on-requires
+    keep-eight-requires
+    loop2-less
+    loop2-again
     mul-clear
     sub-clear
     mul-clear-2
