@@ -1,104 +1,61 @@
 //! Times the core's calls against the original Rust and against memory, on the same data in the same run, and prints the
-//! tables of docs/SPEED.md.
+//! tables of docs/SPEED.md. Every timed call gets ids that no call before had.
 //!
-//! `keeper_speed` prints them; `keeper_speed --check` also exits with 1 where a case passes what it is held to by more
-//! than a margin in the best of five attempts; `keeper_speed --repeat CASE CALLS` runs the core's calls alone, for a
-//! profiler.
+//! `keeper_speed` prints them; `keeper_speed --check` also exits with 1 where a case passes something that it is held to
+//! by more than a margin in the best of five attempts; `keeper_speed --repeat CASE CALLS [IDS]` runs the core's calls
+//! alone, for a profiler, with ids of a kind that the table of hostile ids names.
 
 mod area;
 mod beside;
+mod bound;
 mod case;
 mod cases;
 mod data;
+mod growth;
+mod hostile;
+mod ids;
 mod measure;
+mod repeat;
 mod table;
 mod times;
 
 use case::{Areas, Case};
-use measure::{agree, measure, repeat, Measured};
+use ids::KINDS;
+use measure::best_attempt;
+use std::hint::black_box;
 use std::process::ExitCode;
 use table::Column;
 
-const ROUNDS: usize = 200;
-const ATTEMPTS: usize = 5;
-
-/// How far above what it is held to a ratio may come: what two runs on a machine under load differ by.
-const MARGIN: f64 = 1.10;
-
-fn passes(case: &Case, measured: &Measured) -> bool {
-    match (measured.ratio(case), case.held_to) {
-        (Some(ratio), Some(held_to)) => ratio > held_to * MARGIN,
-        _ => false,
-    }
-}
-
-fn measured(case: &Case, areas: &mut Areas) -> Measured {
-    agree(case, areas);
-    let mut measured = Measured::default();
-    for _ in 0..ATTEMPTS {
-        measure(case, areas, ROUNDS, &mut measured);
-        if !passes(case, &measured) {
-            break;
-        }
-    }
-    measured
-}
-
-/// Prints a table; answers the cases that pass what they are held to.
+/// Prints a table; answers what is over.
 fn shown(title: &str, columns: &[Column], cases: Vec<Case>, areas: &mut Areas) -> Vec<String> {
-    table::head(title, columns);
+    let titles: Vec<String> = columns.iter().map(|(title, _)| title.to_string()).collect();
+    table::head(title, &titles);
     let mut over = Vec::new();
     for case in cases {
-        let measured = measured(&case, areas);
+        let measured = best_attempt(&case, areas);
         table::row(columns, &case, &measured);
-        if passes(&case, &measured) {
-            over.push(case.what);
-        }
+        over.extend(measured.over(&case));
     }
     over
 }
 
-fn show_growth(areas: &mut Areas) {
-    println!("\n### Growth in n\n");
-    let titles = cases::SIZES.map(|n| format!(" {n} |")).concat();
-    println!("| n |{titles}");
-    println!("|---{}|", "|---".repeat(cases::SIZES.len()));
-    for (what, sizes) in cases::growth() {
-        let sizes: Vec<_> = sizes
-            .into_iter()
-            .map(|case| {
-                let measured = measured(&case, areas);
-                (case, measured)
-            })
-            .collect();
-        table::growth(what, &sizes);
-    }
-}
-
 fn show_all(areas: &mut Areas) -> Vec<String> {
     use table::{
-        CORE, HELD_TO, MEDIAN, MEMORY, PLAIN, READ, TO_HASHED, TO_LIMIT, TO_ORIGINAL, TO_PLAIN,
-        TO_READ, TO_TRACKER, TRACKER, WHAT,
+        BEST, CORE, HASHED, MEMORY, ORDERED, ORIGINAL, PLAIN, READ, TO_HASHED, TO_LIMIT,
+        TO_ORDERED, TO_ORIGINAL, TO_PLAIN, TO_READ, WHAT,
     };
-    let steps = [
-        WHAT,
-        CORE,
-        MEDIAN,
-        MEMORY,
-        TRACKER,
-        TO_LIMIT,
-        HELD_TO,
-        TO_TRACKER,
+    let idle = [WHAT, CORE, BEST, MEMORY, TO_LIMIT];
+    let refused = [&idle[..], &[READ, TO_READ, PLAIN, TO_PLAIN]].concat();
+    let rust = [
+        ORDERED,
+        TO_ORDERED,
+        HASHED,
         TO_HASHED,
+        ORIGINAL,
         TO_ORIGINAL,
     ];
-    let idle = [WHAT, CORE, MEDIAN, MEMORY, TO_LIMIT, HELD_TO];
-    let refused = [
-        WHAT, CORE, MEDIAN, MEMORY, TO_LIMIT, HELD_TO, READ, TO_READ, PLAIN, TO_PLAIN,
-    ];
-    let questions = [
-        WHAT, CORE, MEDIAN, MEMORY, TO_LIMIT, HELD_TO, PLAIN, TO_PLAIN,
-    ];
+    let steps = [&idle[..], &rust].concat();
+    let questions = [&idle[..], &[PLAIN, TO_PLAIN]].concat();
     let mut over = shown("### Idle steps", &idle, cases::idle(), areas);
     over.extend(shown(
         "### Refused calls",
@@ -119,21 +76,32 @@ fn show_all(areas: &mut Areas) -> Vec<String> {
         cases::questions(),
         areas,
     ));
-    show_growth(areas);
+    over.extend(growth::show(areas));
+    over.extend(hostile::show(areas));
     over
 }
 
+/// After this the allocator keeps what is freed, as in a process that has run for long: no side is charged for pages that
+/// the system hands out.
+fn keep_freed_memory() {
+    drop(black_box(vec![1_u8; 16 << 20]));
+}
+
 fn main() -> ExitCode {
+    keep_freed_memory();
     let words: Vec<String> = std::env::args().skip(1).collect();
+    let words: Vec<&str> = words.iter().map(String::as_str).collect();
     let mut areas = Areas::new();
-    if let [flag, what, calls] = &words[..] {
-        let calls = calls.parse().unwrap_or(0);
-        if flag == "--repeat" && calls > 0 {
-            for case in cases::all().iter().filter(|case| case.what == *what) {
-                repeat(case, &mut areas, calls);
-            }
-            return ExitCode::SUCCESS;
-        }
+    if let ["--repeat", name, calls, ids @ ..] = &words[..] {
+        let case = cases::all().into_iter().find(|case| case.name == *name);
+        let name = ids.first().unwrap_or(&"random");
+        let kind = KINDS.into_iter().find(|(_, of)| of == name);
+        let (Some(case), Some((kind, _)), Ok(calls)) = (case, kind, calls.parse()) else {
+            eprintln!("usage: keeper_speed --repeat CASE CALLS [IDS]");
+            return ExitCode::FAILURE;
+        };
+        repeat::repeat(&case, kind, &mut areas, calls);
+        return ExitCode::SUCCESS;
     }
     if !keeper_oracle::SOURCE_FOUND {
         println!("The original Rust was not found: its columns are empty.");
@@ -142,7 +110,7 @@ fn main() -> ExitCode {
     for what in &over {
         println!("\nOVER: {what}");
     }
-    if words.iter().any(|word| word == "--check") && !over.is_empty() {
+    if words.contains(&"--check") && !over.is_empty() {
         return ExitCode::FAILURE;
     }
     ExitCode::SUCCESS

@@ -24,6 +24,11 @@ impl Times {
     }
 }
 
+/// One side's median in times of the other's.
+pub fn against(times: &Times, other: &Times) -> Option<f64> {
+    Some(times.median()? / other.median()?)
+}
+
 /// The time of one piece of work; its result is dropped outside.
 pub fn time<R>(work: impl FnOnce() -> R) -> Duration {
     let start = Instant::now();

@@ -1,0 +1,148 @@
+//! Ids that were chosen to make a search or a sort slow, against random ones in the same rounds.
+
+use crate::beside::{time_plain, time_tracker};
+use crate::case::{Areas, Case};
+use crate::cases::{announced_400, question_for_a_check, received_400, window_new, window_pending};
+use crate::ids::KINDS;
+use crate::measure::{time_core, ATTEMPTS, MARGIN, ROUNDS};
+use crate::table;
+use crate::times::{against, Times};
+use keeper_oracle::Maps;
+
+/// How many times as long as with random ids a call may take, unless it is no slower than it was before.
+const TO_RANDOM: f64 = 2.0;
+
+struct Call {
+    case: Case,
+    /// The core that halved for each search and merged for each sort, in times of the Rust on the same ids: for each
+    /// kind the median of four runs.
+    before: [f64; KINDS.len()],
+}
+
+fn calls() -> Vec<Call> {
+    let call = |case, before| Call { case, before };
+    vec![
+        call(
+            received_400(),
+            [0.74, 0.67, 0.86, 0.73, 0.73, 0.73, 0.86, 0.73, 0.85],
+        ),
+        call(
+            announced_400(),
+            [0.90, 0.64, 1.02, 0.89, 0.89, 0.89, 1.04, 0.89, 1.05],
+        ),
+        call(
+            window_new(),
+            [1.25, 1.13, 1.35, 1.25, 1.25, 1.24, 1.38, 1.52, 1.37],
+        ),
+        call(
+            window_pending(),
+            [1.57, 1.49, 1.75, 1.56, 1.55, 1.54, 1.76, 1.57, 1.73],
+        ),
+        call(
+            question_for_a_check(),
+            [1.71, 5.75, 1.84, 1.70, 1.69, 1.67, 2.18, 2.13, 2.20],
+        ),
+    ]
+}
+
+/// Times with ids of one kind.
+#[derive(Default)]
+struct Side {
+    core: Times,
+    /// The same work in Rust on the same ids: the tracker over `BTreeMap`, sorted pairs.
+    rust: Times,
+}
+
+/// What one kind of ids comes to.
+struct Cell {
+    core: Option<f64>,
+    to_random: Option<f64>,
+    to_before: Option<f64>,
+}
+
+impl Cell {
+    /// The share that the better of both ratios has of what it is held to.
+    fn share(&self) -> f64 {
+        let to_random = self.to_random.map(|ratio| ratio / TO_RANDOM);
+        let shares = [to_random, self.to_before].into_iter().flatten();
+        shares.fold(f64::INFINITY, f64::min)
+    }
+
+    fn ratios(&self) -> [String; 2] {
+        [self.to_random, self.to_before].map(table::ratio)
+    }
+
+    fn show(&self) -> String {
+        let [to_random, to_before] = self.ratios();
+        let core = table::nanoseconds(self.core);
+        format!("{core} ({to_random}; {to_before})")
+    }
+}
+
+/// A call with ids of each kind, all in turn.
+fn attempt(call: &Call, areas: &mut Areas, number: u64) -> Vec<Cell> {
+    let case = &call.case;
+    let mut sides: Vec<Side> = KINDS.iter().map(|_| Side::default()).collect();
+    for round in 0..ROUNDS {
+        for ((kind, _), side) in KINDS.iter().zip(&mut sides) {
+            let prepared = case.prepare(*kind, number * ROUNDS + round);
+            time_core(case, &prepared, areas, &mut side.core);
+            let tracker = time_tracker(case, &prepared, Maps::Ordered).map(|(took, _)| took);
+            if let Some(took) = tracker.or_else(|| time_plain(case, &prepared)) {
+                side.rust.add(took, 1);
+            }
+        }
+    }
+    let random = &sides[0].core;
+    let cell = |(side, before): (&Side, f64)| Cell {
+        core: side.core.median(),
+        to_random: against(&side.core, random),
+        to_before: against(&side.core, &side.rust).map(|now| now / before),
+    };
+    sides.iter().zip(call.before).map(cell).collect()
+}
+
+fn worst(cells: &[Cell]) -> f64 {
+    cells.iter().map(Cell::share).fold(0.0, f64::max)
+}
+
+/// The first attempt in which no kind is over, or else the one that comes nearest.
+fn best_attempt(call: &Call, areas: &mut Areas) -> Vec<Cell> {
+    let mut best = attempt(call, areas, 0);
+    for number in 1..ATTEMPTS {
+        if worst(&best) <= MARGIN {
+            break;
+        }
+        let cells = attempt(call, areas, number);
+        if worst(&cells) < worst(&best) {
+            best = cells;
+        }
+    }
+    best
+}
+
+/// Prints the table; answers what is over.
+pub fn show(areas: &mut Areas) -> Vec<String> {
+    let calls = calls();
+    let columns: Vec<Vec<Cell>> = calls.iter().map(|call| best_attempt(call, areas)).collect();
+    let names = calls.iter().map(|call| call.case.name.to_string());
+    let titles: Vec<String> = std::iter::once(String::new()).chain(names).collect();
+    table::head("### Hostile ids", &titles);
+    let mut over = Vec::new();
+    for (index, (_, kind)) in KINDS.iter().enumerate() {
+        let mut cells = vec![kind.to_string()];
+        for (call, column) in calls.iter().zip(&columns) {
+            let cell = &column[index];
+            cells.push(cell.show());
+            if cell.share() > MARGIN {
+                let name = call.case.name;
+                let [to_random, to_before] = cell.ratios();
+                over.push(format!(
+                    "{name}, {kind}: {to_random} of random ids, held to {TO_RANDOM:.2}, and {to_before} of before"
+                ));
+            }
+        }
+        table::line(&cells);
+    }
+    over
+}
