@@ -15,7 +15,7 @@ const TO_RANDOM: f64 = 2.0;
 struct Call {
     case: Case,
     /// The core that halved for each search and merged for each sort, in times of the Rust on the same ids: for each
-    /// kind the median of four runs.
+    /// kind the median of three runs.
     before: [f64; KINDS.len()],
 }
 
@@ -24,23 +24,23 @@ fn calls() -> Vec<Call> {
     vec![
         call(
             received_400(),
-            [0.74, 0.67, 0.86, 0.73, 0.73, 0.73, 0.86, 0.73, 0.85],
+            [0.72, 0.67, 0.86, 0.71, 0.71, 0.71, 0.87, 0.71, 0.85],
         ),
         call(
             announced_400(),
-            [0.90, 0.64, 1.02, 0.89, 0.89, 0.89, 1.04, 0.89, 1.05],
+            [0.87, 0.63, 1.00, 0.87, 0.87, 0.86, 1.02, 0.87, 1.03],
         ),
         call(
             window_new(),
-            [1.25, 1.13, 1.35, 1.25, 1.25, 1.24, 1.38, 1.52, 1.37],
+            [1.21, 1.10, 1.32, 1.21, 1.21, 1.20, 1.34, 1.47, 1.33],
         ),
         call(
             window_pending(),
-            [1.57, 1.49, 1.75, 1.56, 1.55, 1.54, 1.76, 1.57, 1.73],
+            [1.48, 1.43, 1.70, 1.47, 1.46, 1.45, 1.71, 1.48, 1.66],
         ),
         call(
             question_for_a_check(),
-            [1.71, 5.75, 1.84, 1.70, 1.69, 1.67, 2.18, 2.13, 2.20],
+            [1.69, 5.58, 1.82, 1.68, 1.67, 1.65, 2.18, 2.09, 2.18],
         ),
     ]
 }
