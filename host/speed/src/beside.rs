@@ -13,6 +13,8 @@ use std::hash::{Hash, Hasher};
 use std::hint::black_box;
 use std::time::Duration;
 
+/// One copy of the code, so that where the compiler puts it is the same for all.
+#[inline(never)]
 fn read_all(bytes: &[u8]) -> u64 {
     bytes.chunks_exact(8).fold(0, |all, word| {
         all | u64::from_le_bytes(word.try_into().expect("eight bytes"))

@@ -62,7 +62,7 @@ impl Prepared {
 pub type Recipe = Box<dyn Fn(&mut Ids) -> Prepared>;
 
 pub struct Case {
-    pub name: &'static str,
+    pub name: String,
     pub entry: Entry,
     pub memory: Memory,
     pub beside: Beside,
@@ -76,9 +76,9 @@ pub struct Case {
 
 impl Case {
     /// A step that leaves the tracker alone.
-    pub fn idle(name: &'static str, recipe: impl Fn(&mut Ids) -> Prepared + 'static) -> Self {
+    pub fn idle(name: &str, recipe: impl Fn(&mut Ids) -> Prepared + 'static) -> Self {
         Self {
-            name,
+            name: name.to_string(),
             entry: Entry::Step,
             memory: Memory::ReadAndCopied,
             beside: Beside::Nothing,
@@ -91,7 +91,7 @@ impl Case {
 
     /// One that the original's tracker has an operation for.
     pub fn tracked(
-        name: &'static str,
+        name: &str,
         bounds: &'static [Bound],
         recipe: impl Fn(&mut Ids) -> Prepared + 'static,
     ) -> Self {
@@ -103,7 +103,7 @@ impl Case {
     }
 
     pub fn refused(
-        name: &'static str,
+        name: &str,
         number: u32,
         recipe: impl Fn(&mut Ids) -> Prepared + 'static,
     ) -> Self {
@@ -114,11 +114,7 @@ impl Case {
         }
     }
 
-    pub fn question(
-        name: &'static str,
-        flag: u8,
-        state: impl Fn(&mut Ids) -> State + 'static,
-    ) -> Self {
+    pub fn question(name: &str, flag: u8, state: impl Fn(&mut Ids) -> State + 'static) -> Self {
         Self {
             entry: Entry::Question(flag),
             memory: Memory::Read,
@@ -127,9 +123,9 @@ impl Case {
         }
     }
 
-    /// The data of a round, with ids that no other round has.
+    /// The data of a round, with ids that no other round and no other case has.
     pub fn prepare(&self, kind: Kind, round: u64) -> Prepared {
-        (self.recipe)(&mut Ids::new(kind, round))
+        (self.recipe)(&mut Ids::new(kind, &self.name, round))
     }
 
     /// Calls the core and answers the number.

@@ -54,7 +54,8 @@ impl Step {
         let recipe = self.recipe;
         let held = (self.ids)(n) >= HELD_FROM;
         let bounds = if held { self.bounds } else { &[] };
-        Case::tracked(self.name, bounds, move |ids| recipe(ids, n))
+        let name = format!("{}, n = {n}", self.name);
+        Case::tracked(&name, bounds, move |ids| recipe(ids, n))
     }
 }
 
@@ -72,8 +73,7 @@ pub fn show(areas: &mut Areas) -> Vec<String> {
             let case = step.at(n);
             let measured = best_attempt(&case, areas);
             cells.push(table::core_to_original(&measured));
-            let at_n = |line: String| format!("n = {n}: {line}");
-            over.extend(measured.over(&case).into_iter().map(at_n));
+            over.extend(measured.over(&case));
         }
         table::line(&cells);
     }

@@ -3,7 +3,7 @@
 use crate::beside::{time_plain, time_tracker};
 use crate::case::{Areas, Case};
 use crate::cases::{announced_400, question_for_a_check, received_400, window_new, window_pending};
-use crate::ids::KINDS;
+use crate::ids::kinds;
 use crate::measure::{time_core, ATTEMPTS, MARGIN, ROUNDS};
 use crate::table;
 use crate::times::{against, Times};
@@ -14,9 +14,9 @@ const TO_RANDOM: f64 = 2.0;
 
 struct Call {
     case: Case,
-    /// The core that halved for each search and merged for each sort, in times of the Rust on the same ids: for each
-    /// kind the median of three runs.
-    before: [f64; KINDS.len()],
+    /// For each kind the time of the core that halved at every search and merged at every sort, in times of the Rust on
+    /// the same ids: the median of three runs.
+    before: [f64; 9],
 }
 
 fn calls() -> Vec<Call> {
@@ -82,9 +82,10 @@ impl Cell {
 /// A call with ids of each kind, all in turn.
 fn attempt(call: &Call, areas: &mut Areas, number: u64) -> Vec<Cell> {
     let case = &call.case;
-    let mut sides: Vec<Side> = KINDS.iter().map(|_| Side::default()).collect();
+    let kinds = kinds();
+    let mut sides: Vec<Side> = kinds.iter().map(|_| Side::default()).collect();
     for round in 0..ROUNDS {
-        for ((kind, _), side) in KINDS.iter().zip(&mut sides) {
+        for ((kind, _), side) in kinds.iter().zip(&mut sides) {
             let prepared = case.prepare(*kind, number * ROUNDS + round);
             time_core(case, &prepared, areas, &mut side.core);
             let tracker = time_tracker(case, &prepared, Maps::Ordered).map(|(took, _)| took);
@@ -125,17 +126,17 @@ fn best_attempt(call: &Call, areas: &mut Areas) -> Vec<Cell> {
 pub fn show(areas: &mut Areas) -> Vec<String> {
     let calls = calls();
     let columns: Vec<Vec<Cell>> = calls.iter().map(|call| best_attempt(call, areas)).collect();
-    let names = calls.iter().map(|call| call.case.name.to_string());
+    let names = calls.iter().map(|call| call.case.name.clone());
     let titles: Vec<String> = std::iter::once(String::new()).chain(names).collect();
     table::head("### Hostile ids", &titles);
     let mut over = Vec::new();
-    for (index, (_, kind)) in KINDS.iter().enumerate() {
+    for (index, (_, kind)) in kinds().iter().enumerate() {
         let mut cells = vec![kind.to_string()];
         for (call, column) in calls.iter().zip(&columns) {
             let cell = &column[index];
             cells.push(cell.show());
             if cell.share() > MARGIN {
-                let name = call.case.name;
+                let name = &call.case.name;
                 let [to_random, to_before] = cell.ratios();
                 over.push(format!(
                     "{name}, {kind}: {to_random} of random ids, held to {TO_RANDOM:.2}, and {to_before} of before"

@@ -20,7 +20,6 @@ mod table;
 mod times;
 
 use case::{Areas, Case};
-use ids::KINDS;
 use measure::best_attempt;
 use std::hint::black_box;
 use std::process::ExitCode;
@@ -46,36 +45,21 @@ fn show_all(areas: &mut Areas) -> Vec<String> {
     };
     let idle = [WHAT, CORE, BEST, MEMORY, TO_LIMIT];
     let refused = [&idle[..], &[READ, TO_READ, PLAIN, TO_PLAIN]].concat();
-    let rust = [
-        ORDERED,
-        TO_ORDERED,
-        HASHED,
-        TO_HASHED,
-        ORIGINAL,
-        TO_ORIGINAL,
-    ];
-    let steps = [&idle[..], &rust].concat();
+    let tracker = [ORDERED, TO_ORDERED, HASHED, TO_HASHED];
+    let original = [ORIGINAL, TO_ORIGINAL];
+    let steps = [&idle[..], &tracker, &original].concat();
     let questions = [&idle[..], &[PLAIN, TO_PLAIN]].concat();
-    let mut over = shown("### Idle steps", &idle, cases::idle(), areas);
-    over.extend(shown(
-        "### Refused calls",
-        &refused,
-        cases::refused(),
-        areas,
-    ));
-    over.extend(shown(
-        "### The tracker's operations",
-        &steps,
-        cases::tracker(),
-        areas,
-    ));
-    over.extend(shown("### Other steps", &steps, cases::others(), areas));
-    over.extend(shown(
-        "### Questions",
-        &questions,
-        cases::questions(),
-        areas,
-    ));
+    let tables = [
+        ("### Idle steps", &idle[..], cases::idle()),
+        ("### Refused calls", &refused, cases::refused()),
+        ("### The tracker's operations", &steps, cases::tracker()),
+        ("### Other steps", &steps, cases::others()),
+        ("### Questions", &questions, cases::questions()),
+    ];
+    let mut over = Vec::new();
+    for (title, columns, cases) in tables {
+        over.extend(shown(title, columns, cases, areas));
+    }
     over.extend(growth::show(areas));
     over.extend(hostile::show(areas));
     over
@@ -92,15 +76,12 @@ fn main() -> ExitCode {
     let words: Vec<String> = std::env::args().skip(1).collect();
     let words: Vec<&str> = words.iter().map(String::as_str).collect();
     let mut areas = Areas::new();
-    if let ["--repeat", name, calls, ids @ ..] = &words[..] {
-        let case = cases::all().into_iter().find(|case| case.name == *name);
-        let name = ids.first().unwrap_or(&"random");
-        let kind = KINDS.into_iter().find(|(_, of)| of == name);
-        let (Some(case), Some((kind, _)), Ok(calls)) = (case, kind, calls.parse()) else {
+    if let ["--repeat", case, calls, ids @ ..] = &words[..] {
+        let ids = ids.first().unwrap_or(&"random");
+        if !repeat::repeat(case, ids, calls.parse().unwrap_or(0), &mut areas) {
             eprintln!("usage: keeper_speed --repeat CASE CALLS [IDS]");
             return ExitCode::FAILURE;
-        };
-        repeat::repeat(&case, kind, &mut areas, calls);
+        }
         return ExitCode::SUCCESS;
     }
     if !keeper_oracle::SOURCE_FOUND {

@@ -3,7 +3,7 @@
 use crate::beside::{time_memory, time_plain, time_read, time_tracker};
 use crate::bound::{Against, Bound};
 use crate::case::{Areas, Beside, Case, Entry, Memory, Prepared};
-use crate::ids::Kind;
+use crate::ids::RANDOM;
 use crate::times::{time, Times};
 use keeper_oracle::{Maps, Oracle};
 use std::hint::black_box;
@@ -70,7 +70,7 @@ impl Measured {
     pub fn over(&self, case: &Case) -> Vec<String> {
         let words = |bound: &Bound| {
             let ratio = self.ratio(case, bound.against)?;
-            let (name, against, at_most) = (case.name, bound.against.name(), bound.at_most);
+            let (name, against, at_most) = (&case.name, bound.against.name(), bound.at_most);
             (ratio > at_most * MARGIN)
                 .then(|| format!("{name}: {ratio:.2} of {against}, held to {at_most:.2}"))
         };
@@ -131,7 +131,7 @@ pub fn best_attempt(case: &Case, areas: &mut Areas) -> Measured {
     for attempt in 0..ATTEMPTS {
         let mut measured = Measured::default();
         for number in 0..ROUNDS {
-            let prepared = case.prepare(Kind::Random, attempt * ROUNDS + number);
+            let prepared = case.prepare(RANDOM, attempt * ROUNDS + number);
             round(case, &prepared, areas, &mut measured);
         }
         if attempt == 0 || measured.worst(case) < best.worst(case) {

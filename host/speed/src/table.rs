@@ -38,7 +38,7 @@ fn held(case: &Case, measured: &Measured, against: Against) -> String {
 /// A column: its title, and what it shows of a case.
 pub type Column = (&'static str, fn(&Case, &Measured) -> String);
 
-pub const WHAT: Column = ("", |case, _| case.name.to_string());
+pub const WHAT: Column = ("", |case, _| case.name.clone());
 pub const CORE: Column = ("core, ns", |_, m| nanoseconds(m.core.median()));
 pub const BEST: Column = ("best", |_, m| nanoseconds(m.core.best()));
 pub const MEMORY: Column = ("memory, ns", |_, m| nanoseconds(m.memory.median()));
