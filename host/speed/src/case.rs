@@ -124,7 +124,7 @@ impl Case {
     }
 
     /// The data of a round, with ids that no other round and no other case has.
-    pub fn prepare(&self, kind: Kind, round: u64) -> Prepared {
+    pub fn prepare(&self, kind: Kind, round: usize) -> Prepared {
         (self.recipe)(&mut Ids::new(kind, &self.name, round))
     }
 

@@ -5,7 +5,7 @@ use crate::case::{Areas, Case, Prepared};
 use crate::cases::{among, beside};
 use crate::data::{call, pending, CLOCK, LONG_AGO};
 use crate::ids::Ids;
-use crate::measure::best_attempt;
+use crate::measure::{measure, over};
 use crate::table;
 use keeper_values::numbers::kinds;
 
@@ -66,16 +66,15 @@ pub fn show(areas: &mut Areas) -> Vec<String> {
         "### Growth in n",
         &[&[String::from("n")], &titles[..]].concat(),
     );
-    let mut over = Vec::new();
-    for step in STEPS {
+    let cases: Vec<Case> = STEPS
+        .iter()
+        .flat_map(|step| SIZES.map(|n| step.at(n)))
+        .collect();
+    let measured = measure(&cases, areas);
+    for (step, row) in STEPS.iter().zip(measured.chunks(SIZES.len())) {
         let mut cells = vec![step.name.to_string()];
-        for n in SIZES {
-            let case = step.at(n);
-            let measured = best_attempt(&case, areas);
-            cells.push(table::core_to_original(&measured));
-            over.extend(measured.over(&case));
-        }
+        cells.extend(row.iter().map(table::core_to_original));
         table::line(&cells);
     }
-    over
+    over(&cases, &measured)
 }

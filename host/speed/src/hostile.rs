@@ -4,9 +4,9 @@ use crate::beside::{time_plain, time_tracker};
 use crate::case::{Areas, Case};
 use crate::cases::{announced_400, question_for_a_check, received_400, window_new, window_pending};
 use crate::ids::kinds;
-use crate::measure::{time_core, ATTEMPTS, MARGIN, ROUNDS};
+use crate::measure::{time_core, MARGIN};
 use crate::table;
-use crate::times::{against, Times};
+use crate::times::{against, Times, ATTEMPTS, ROUNDS};
 use keeper_oracle::Maps;
 
 /// How many times as long as with random ids a call may take, unless it is no slower than it was before.
@@ -32,7 +32,7 @@ fn calls() -> Vec<Call> {
         ),
         call(
             window_new(),
-            [1.21, 1.10, 1.32, 1.21, 1.21, 1.20, 1.34, 1.47, 1.33],
+            [1.21, 1.10, 1.32, 1.21, 1.21, 1.20, 1.34, 1.22, 1.33],
         ),
         call(
             window_pending(),
@@ -79,14 +79,13 @@ impl Cell {
     }
 }
 
-/// A call with ids of each kind, all in turn.
-fn attempt(call: &Call, areas: &mut Areas, number: u64) -> Vec<Cell> {
-    let case = &call.case;
-    let kinds = kinds();
-    let mut sides: Vec<Side> = kinds.iter().map(|_| Side::default()).collect();
+/// One attempt: a call with ids of each kind, all in turn.
+fn attempt(case: &Case, areas: &mut Areas, number: usize, sides: &mut [Side]) {
     for round in 0..ROUNDS {
-        for ((kind, _), side) in kinds.iter().zip(&mut sides) {
-            let prepared = case.prepare(*kind, number * ROUNDS + round);
+        for (index, ((kind, _), side)) in kinds().iter().zip(&mut *sides).enumerate() {
+            // Numbers that neither another kind has nor the table in which the case stands.
+            let first = (index + 1) * ATTEMPTS * ROUNDS;
+            let prepared = case.prepare(*kind, first + number * ROUNDS + round);
             time_core(case, &prepared, areas, &mut side.core);
             let tracker = time_tracker(case, &prepared, Maps::Ordered).map(|(took, _)| took);
             if let Some(took) = tracker.or_else(|| time_plain(case, &prepared)) {
@@ -94,38 +93,32 @@ fn attempt(call: &Call, areas: &mut Areas, number: u64) -> Vec<Cell> {
             }
         }
     }
-    let random = &sides[0].core;
-    let cell = |(side, before): (&Side, f64)| Cell {
-        core: side.core.median(),
-        to_random: against(&side.core, random),
-        to_before: against(&side.core, &side.rust).map(|now| now / before),
-    };
-    sides.iter().zip(call.before).map(cell).collect()
 }
 
-fn worst(cells: &[Cell]) -> f64 {
-    cells.iter().map(Cell::share).fold(0.0, f64::max)
-}
-
-/// The first attempt in which no kind is over, or else the one that comes nearest.
-fn best_attempt(call: &Call, areas: &mut Areas) -> Vec<Cell> {
-    let mut best = attempt(call, areas, 0);
-    for number in 1..ATTEMPTS {
-        if worst(&best) <= MARGIN {
-            break;
-        }
-        let cells = attempt(call, areas, number);
-        if worst(&cells) < worst(&best) {
-            best = cells;
+/// For each call its cells, one for each kind.
+fn measure(calls: &[Call], areas: &mut Areas) -> Vec<Vec<Cell>> {
+    let none = || kinds().iter().map(|_| Side::default()).collect();
+    let mut all: Vec<Vec<Side>> = calls.iter().map(|_| none()).collect();
+    for number in 0..ATTEMPTS {
+        for (call, sides) in calls.iter().zip(&mut all) {
+            attempt(&call.case, areas, number, sides);
         }
     }
-    best
+    let cells = |(call, sides): (&Call, &Vec<Side>)| {
+        let cell = |(side, before): (&Side, f64)| Cell {
+            core: side.core.median(),
+            to_random: against(&side.core, &sides[0].core),
+            to_before: against(&side.core, &side.rust).map(|now| now / before),
+        };
+        sides.iter().zip(call.before).map(cell).collect()
+    };
+    calls.iter().zip(&all).map(cells).collect()
 }
 
 /// Prints the table; answers what is over.
 pub fn show(areas: &mut Areas) -> Vec<String> {
     let calls = calls();
-    let columns: Vec<Vec<Cell>> = calls.iter().map(|call| best_attempt(call, areas)).collect();
+    let columns = measure(&calls, areas);
     let names = calls.iter().map(|call| call.case.name.clone());
     let titles: Vec<String> = std::iter::once(String::new()).chain(names).collect();
     table::head("### Hostile ids", &titles);

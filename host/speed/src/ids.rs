@@ -29,9 +29,9 @@ pub struct Ids {
 
 impl Ids {
     /// Each name and number has a stream of its own.
-    pub fn new(kind: Kind, name: &str, number: u64) -> Self {
+    pub fn new(kind: Kind, name: &str, number: usize) -> Self {
         let mixed = |seed: u64, byte| (seed ^ u64::from(byte)).wrapping_mul(0x0000_0100_0000_01b3);
-        let rng = Rng::new(name.bytes().fold(!number, mixed));
+        let rng = Rng::new(name.bytes().fold(!(number as u64), mixed));
         Self { kind, rng }
     }
 

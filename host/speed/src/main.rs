@@ -2,7 +2,7 @@
 //! tables of docs/SPEED.md. Every timed call gets ids that no call before had.
 //!
 //! `keeper_speed` prints them; `keeper_speed --check` also exits with 1 where a case passes something that it is held to
-//! by more than a margin in the best of five attempts; `keeper_speed --repeat CASE CALLS [IDS]` runs the core's calls
+//! by more than a margin, both sides in the best of five attempts; `keeper_speed --repeat CASE CALLS [IDS]` runs the core's calls
 //! alone, for a profiler, with ids of a kind that the table of hostile ids names.
 
 mod area;
@@ -20,7 +20,7 @@ mod table;
 mod times;
 
 use case::{Areas, Case};
-use measure::best_attempt;
+use measure::{measure, over};
 use std::hint::black_box;
 use std::process::ExitCode;
 use table::Column;
@@ -29,13 +29,11 @@ use table::Column;
 fn shown(title: &str, columns: &[Column], cases: Vec<Case>, areas: &mut Areas) -> Vec<String> {
     let titles: Vec<String> = columns.iter().map(|(title, _)| title.to_string()).collect();
     table::head(title, &titles);
-    let mut over = Vec::new();
-    for case in cases {
-        let measured = best_attempt(&case, areas);
-        table::row(columns, &case, &measured);
-        over.extend(measured.over(&case));
+    let measured = measure(&cases, areas);
+    for (case, measured) in cases.iter().zip(&measured) {
+        table::row(columns, case, measured);
     }
-    over
+    over(&cases, &measured)
 }
 
 fn show_all(areas: &mut Areas) -> Vec<String> {

@@ -4,14 +4,9 @@ use crate::beside::{time_memory, time_plain, time_read, time_tracker};
 use crate::bound::{Against, Bound};
 use crate::case::{Areas, Beside, Case, Entry, Memory, Prepared};
 use crate::ids::RANDOM;
-use crate::times::{time, Times};
+use crate::times::{time, Times, ATTEMPTS, ROUNDS};
 use keeper_oracle::{Maps, Oracle};
 use std::hint::black_box;
-
-pub const ROUNDS: u64 = 200;
-
-/// How often a case that is over what it is held to is measured.
-pub const ATTEMPTS: u64 = 5;
 
 /// How far above what it is held to a ratio may come: what two runs on a machine under load differ by.
 pub const MARGIN: f64 = 1.10;
@@ -57,17 +52,8 @@ impl Measured {
         Some(self.core.median()? / self.other(case, against)?)
     }
 
-    /// The greatest share that a ratio has of what the case is held to.
-    fn worst(&self, case: &Case) -> f64 {
-        let share = |bound: &Bound| {
-            let ratio = self.ratio(case, bound.against)?;
-            Some(ratio / bound.at_most)
-        };
-        case.bounds.iter().filter_map(share).fold(0.0, f64::max)
-    }
-
     /// What the case is held to and passes by more than the margin, in words.
-    pub fn over(&self, case: &Case) -> Vec<String> {
+    fn over(&self, case: &Case) -> Vec<String> {
         let words = |bound: &Bound| {
             let ratio = self.ratio(case, bound.against)?;
             let (name, against, at_most) = (&case.name, bound.against.name(), bound.at_most);
@@ -125,21 +111,23 @@ fn round(case: &Case, prepared: &Prepared, areas: &mut Areas, measured: &mut Mea
     }
 }
 
-/// The first attempt that meets all that the case is held to, or else the one that comes nearest.
-pub fn best_attempt(case: &Case, areas: &mut Areas) -> Measured {
-    let mut best = Measured::default();
+/// Every case in each attempt, so that what disturbs the machine for a while does not meet all attempts of one case.
+pub fn measure(cases: &[Case], areas: &mut Areas) -> Vec<Measured> {
+    let mut all: Vec<Measured> = cases.iter().map(|_| Measured::default()).collect();
     for attempt in 0..ATTEMPTS {
-        let mut measured = Measured::default();
-        for number in 0..ROUNDS {
-            let prepared = case.prepare(RANDOM, attempt * ROUNDS + number);
-            round(case, &prepared, areas, &mut measured);
-        }
-        if attempt == 0 || measured.worst(case) < best.worst(case) {
-            best = measured;
-        }
-        if best.worst(case) <= MARGIN {
-            break;
+        for (case, measured) in cases.iter().zip(&mut all) {
+            for number in 0..ROUNDS {
+                let prepared = case.prepare(RANDOM, attempt * ROUNDS + number);
+                round(case, &prepared, areas, measured);
+            }
         }
     }
-    best
+    all
+}
+
+/// What is over in these cases.
+pub fn over(cases: &[Case], measured: &[Measured]) -> Vec<String> {
+    let both = cases.iter().zip(measured);
+    both.flat_map(|(case, measured)| measured.over(case))
+        .collect()
 }

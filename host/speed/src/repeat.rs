@@ -6,7 +6,7 @@ use crate::ids::kinds;
 use std::hint::black_box;
 
 /// More than a processor learns by heart.
-const INPUTS: u64 = 64;
+const INPUTS: usize = 64;
 
 /// So many calls of the case of this name with ids of the kind of that name. Answers whether both are there.
 pub fn repeat(name: &str, ids: &str, calls: usize, areas: &mut Areas) -> bool {
