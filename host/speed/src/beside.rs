@@ -1,16 +1,20 @@
 //! The same work in Rust: memory, the original's tracker, sorted pairs, the reference's test of an image.
 
-use crate::case::{Areas, Beside, Case, Entry, Memory};
+use crate::case::{Areas, Beside, Case, Entry, Memory, Prepared};
 use crate::data::SETTINGS;
 use crate::times::time;
 use keeper_oracle::{set_clock, tracker, Maps, Tracker};
 use keeper_reference::image;
 use keeper_values::numbers::{kinds, types};
-use keeper_values::{Id, Row};
+use keeper_values::{Call, Id, Row, State};
+use std::collections::hash_map::DefaultHasher;
 use std::collections::BTreeMap;
+use std::hash::{Hash, Hasher};
 use std::hint::black_box;
 use std::time::Duration;
 
+/// One copy of the code, so that where the compiler puts it is the same for all.
+#[inline(never)]
 fn read_all(bytes: &[u8]) -> u64 {
     bytes.chunks_exact(8).fold(0, |all, word| {
         all | u64::from_le_bytes(word.try_into().expect("eight bytes"))
@@ -18,14 +22,14 @@ fn read_all(bytes: &[u8]) -> u64 {
 }
 
 /// One read of the state area.
-pub fn time_read(case: &Case, areas: &mut Areas) -> Duration {
-    case.restore(areas);
+pub fn time_read(prepared: &Prepared, areas: &mut Areas) -> Duration {
+    prepared.restore(areas);
     time(|| read_all(black_box(areas.state.bytes())))
 }
 
 /// The memory part of the limit, on the areas of the core's own calls.
-pub fn time_memory(case: &Case, areas: &mut Areas) -> Duration {
-    case.restore(areas);
+pub fn time_memory(case: &Case, prepared: &Prepared, areas: &mut Areas) -> Duration {
+    prepared.restore(areas);
     let Areas { state, scratch, .. } = areas;
     time(|| {
         if case.memory != Memory::None {
@@ -38,36 +42,38 @@ pub fn time_memory(case: &Case, areas: &mut Areas) -> Duration {
     })
 }
 
-/// The tracker after the requests of the case's state, made in an order that is not the ids'.
-pub fn filled(case: &Case, maps: Maps) -> Option<Box<dyn Tracker>> {
+/// The tracker after the requests of a state, made in an order that is not the ids'.
+fn filled(state: &State, maps: Maps) -> Option<Box<dyn Tracker>> {
     let mut tracker = tracker(maps, SETTINGS.timeout, SETTINGS.max_checks)?;
-    let mut requests: Vec<_> = case.state.pending.iter().collect();
-    requests.sort_by_key(|(id, _)| &id[16..]);
+    let mut requests: Vec<_> = state.pending.iter().collect();
+    requests.sort_by_cached_key(|(id, _)| {
+        let mut hasher = DefaultHasher::new();
+        id.hash(&mut hasher);
+        hasher.finish()
+    });
     for (id, request) in requests {
         set_clock(request.stamp);
         tracker.mark_requested(&[*id], request.peer, request.type_id);
     }
-    set_clock(case.call.clock);
     Some(tracker)
 }
 
 /// The lists that rule 3 gets in this step.
-pub fn listed(case: &Case) -> BTreeMap<u8, Vec<Id>> {
+fn listed(call: &Call) -> BTreeMap<u8, Vec<Id>> {
     let mut lists: BTreeMap<u8, Vec<Id>> = BTreeMap::new();
-    for row in &case.call.view.rows {
+    for row in &call.view.rows {
         let Row::Present(places) = row else { continue };
         for place in places {
             lists.entry(place.type_id).or_default().push(place.id);
         }
     }
-    if case.call.kind == kinds::ANNOUNCED {
-        lists.insert(case.call.type_id, case.call.ids.clone());
+    if call.kind == kinds::ANNOUNCED {
+        lists.insert(call.type_id, call.ids.clone());
     }
     lists
 }
 
-pub fn track(case: &Case, tracker: &mut dyn Tracker, lists: &BTreeMap<u8, Vec<Id>>) {
-    let call = &case.call;
+fn track(call: &Call, tracker: &mut dyn Tracker, lists: &BTreeMap<u8, Vec<Id>>) {
     match call.kind {
         kinds::RECEIVED => tracker.mark_received(&call.ids),
         kinds::EVICTED => tracker.schedule_rerequest(&call.ids),
@@ -83,18 +89,22 @@ pub fn track(case: &Case, tracker: &mut dyn Tracker, lists: &BTreeMap<u8, Vec<Id
     }
 }
 
-/// The tracker's operation on the case's data, where it has one and the original was found.
-pub fn time_tracker(case: &Case, maps: Maps, lists: &BTreeMap<u8, Vec<Id>>) -> Option<Duration> {
+/// The tracker's operation on the round's data, where it has one and the original was found; and how many it leaves
+/// pending.
+pub fn time_tracker(case: &Case, prepared: &Prepared, maps: Maps) -> Option<(Duration, usize)> {
     if case.beside != Beside::Tracker {
         return None;
     }
-    let mut tracker = filled(case, maps)?;
-    Some(time(|| track(case, tracker.as_mut(), lists)))
+    let mut tracker = filled(&prepared.state, maps)?;
+    let call = prepared.call.clone();
+    let lists = listed(&call);
+    set_clock(call.clock);
+    let took = time(|| track(&call, tracker.as_mut(), &lists));
+    Some((took, tracker.pending_count()))
 }
 
 /// The pairs that a question asks for, as plain Rust would find them.
-fn pairs(case: &Case, flag: u8) -> Vec<(u8, Id)> {
-    let state = &case.state;
+fn pairs(state: &State, flag: u8) -> Vec<(u8, Id)> {
     let mut pairs: Vec<(u8, Id)> = if flag == 0 {
         let header = |id: &Id| (types::HEADER, *id);
         state.evicted.iter().map(header).collect()
@@ -110,11 +120,14 @@ fn pairs(case: &Case, flag: u8) -> Vec<(u8, Id)> {
 }
 
 /// Plain Rust on the same data, where the case has such.
-pub fn time_plain(case: &Case) -> Option<Duration> {
+pub fn time_plain(case: &Case, prepared: &Prepared) -> Option<Duration> {
     match (case.beside, case.entry) {
-        (Beside::Pairs, Entry::Question(flag)) => Some(time(|| pairs(case, flag))),
+        (Beside::Pairs, Entry::Question(flag)) => {
+            let state = prepared.state.clone();
+            Some(time(|| pairs(&state, flag)))
+        }
         (Beside::ImageTest, _) => Some(time(|| {
-            let area = black_box(case.image.bytes());
+            let area = black_box(prepared.image.bytes());
             image::counts_fit(area)
                 & image::mark_fits(area)
                 & image::clocks_fit(area)

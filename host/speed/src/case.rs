@@ -1,9 +1,10 @@
-//! One line of a table: a call of the core, and what it is held against.
+//! One line of a table: how its call is made anew for each round, what is timed beside it, and what it is held to.
 
 use crate::area::Area;
+use crate::bound::{Bound, QUIET};
+use crate::ids::{Ids, Kind};
 use keeper_core::Core;
 use keeper_reference::image;
-use keeper_values::numbers::kinds;
 use keeper_values::{Arguments, Call, Keeper, State, STATE_BYTES};
 use std::hint::black_box;
 
@@ -35,83 +36,106 @@ pub enum Beside {
     ImageTest,
 }
 
-pub struct Case {
-    pub what: String,
-    pub entry: Entry,
-    pub memory: Memory,
-    pub beside: Beside,
+/// The data of one round, for all sides.
+pub struct Prepared {
     pub state: State,
     pub call: Call,
     pub image: Box<Area>,
-    /// Of the state area that is handed in.
-    pub length: usize,
     pub arguments: Arguments,
-    /// The number of the answer.
-    pub number: u32,
-    /// The ratio to the limit that `--check` holds the case to.
-    pub held_to: Option<f64>,
 }
 
-/// What a step may take, in times of its limit.
-pub const WANTED: f64 = 1.5;
-
-impl Case {
-    pub fn step(what: &str, state: State, call: Call) -> Self {
-        let beside = match call.kind {
-            kinds::ANNOUNCED
-            | kinds::RECEIVED
-            | kinds::EVICTED
-            | kinds::CHECK
-            | kinds::SECTION_TICK => Beside::Tracker,
-            _ => Beside::Nothing,
-        };
+impl Prepared {
+    pub fn new(state: State, call: Call) -> Self {
         Self {
-            what: what.to_string(),
-            entry: Entry::Step,
-            memory: Memory::ReadAndCopied,
-            beside,
             image: Area::of(&image::write(&state)),
-            length: STATE_BYTES,
             arguments: call.to_arguments(),
-            number: 0,
-            held_to: Some(WANTED),
             state,
             call,
         }
     }
 
-    pub fn refused(what: &str, number: u32, state: State, call: Call) -> Self {
+    pub fn restore(&self, areas: &mut Areas) {
+        areas.state.bytes_mut().copy_from_slice(self.image.bytes());
+    }
+}
+
+pub type Recipe = Box<dyn Fn(&mut Ids) -> Prepared>;
+
+pub struct Case {
+    pub name: String,
+    pub entry: Entry,
+    pub memory: Memory,
+    pub beside: Beside,
+    /// Of the state area that is handed in.
+    pub length: usize,
+    /// The number of the answer.
+    pub number: u32,
+    pub bounds: &'static [Bound],
+    pub recipe: Recipe,
+}
+
+impl Case {
+    /// A step that leaves the tracker alone.
+    pub fn idle(name: &str, recipe: impl Fn(&mut Ids) -> Prepared + 'static) -> Self {
         Self {
-            number,
-            beside: Beside::ImageTest,
-            ..Self::step(what, state, call)
+            name: name.to_string(),
+            entry: Entry::Step,
+            memory: Memory::ReadAndCopied,
+            beside: Beside::Nothing,
+            length: STATE_BYTES,
+            number: 0,
+            bounds: QUIET,
+            recipe: Box::new(recipe),
         }
     }
 
-    pub fn question(what: &str, flag: u8, state: State) -> Self {
+    /// One that the original's tracker has an operation for.
+    pub fn tracked(
+        name: &str,
+        bounds: &'static [Bound],
+        recipe: impl Fn(&mut Ids) -> Prepared + 'static,
+    ) -> Self {
+        Self {
+            beside: Beside::Tracker,
+            bounds,
+            ..Self::idle(name, recipe)
+        }
+    }
+
+    pub fn refused(
+        name: &str,
+        number: u32,
+        recipe: impl Fn(&mut Ids) -> Prepared + 'static,
+    ) -> Self {
+        Self {
+            number,
+            beside: Beside::ImageTest,
+            ..Self::idle(name, recipe)
+        }
+    }
+
+    pub fn question(name: &str, flag: u8, state: impl Fn(&mut Ids) -> State + 'static) -> Self {
         Self {
             entry: Entry::Question(flag),
             memory: Memory::Read,
             beside: Beside::Pairs,
-            ..Self::step(what, state, Call::default())
+            ..Self::idle(name, move |ids| Prepared::new(state(ids), Call::default()))
         }
+    }
+
+    /// The data of a round, with ids that no other round and no other case has.
+    pub fn prepare(&self, kind: Kind, round: usize) -> Prepared {
+        (self.recipe)(&mut Ids::new(kind, &self.name, round))
     }
 
     /// Calls the core and answers the number.
-    pub fn run(&self, areas: &mut Areas) -> u32 {
+    pub fn run(&self, areas: &mut Areas, arguments: &Arguments) -> u32 {
         let state = &mut areas.state.bytes_mut()[..self.length];
         let commands = areas.commands.bytes_mut();
         match self.entry {
-            Entry::Step => {
-                Core.step(state, commands, black_box(&self.arguments))
-                    .number
-            }
+            Entry::Step => Core.step(state, commands, black_box(arguments)).number,
             Entry::Question(flag) => Core.question(state, commands, flag).0,
         }
-    }
-
-    pub fn restore(&self, areas: &mut Areas) {
-        areas.state.bytes_mut().copy_from_slice(self.image.bytes());
     }
 }
 
@@ -129,5 +153,11 @@ impl Areas {
             commands: Area::zero(),
             scratch: Area::zero(),
         }
+    }
+
+    /// How many are pending in the state area.
+    pub fn pending(&self) -> usize {
+        let bytes = self.state.bytes();
+        usize::from(u16::from_be_bytes([bytes[70], bytes[71]]))
     }
 }

@@ -1,193 +1,232 @@
 //! The calls that are timed.
 
-use crate::case::{Beside, Case, Memory};
+use crate::bound::{ANNOUNCED, FEW, REMOVED, SCANNED, WINDOW};
+use crate::case::{Beside, Case, Memory, Prepared};
 use crate::data::{
-    call, from_distinct_peers, pending, quiet, window, with_ids, Numbers, CLOCK, HEIGHT, SETTINGS,
+    call, from_distinct_peers, pending, quiet, synced, window, with_ids, CLOCK, HEIGHT, LONG_AGO,
 };
+use crate::ids::Ids;
 use keeper_values::numbers::kinds;
-use keeper_values::{Call, Id, Mode, State};
-
-/// Long enough ago to be expired.
-const LONG_AGO: u64 = CLOCK - SETTINGS.timeout as u64;
-
-fn synced(state: State) -> State {
-    State {
-        mode: Mode::Synced,
-        ..state
-    }
-}
+use keeper_values::{Call, State, STATE_BYTES};
 
 /// Steps that leave the tracker alone: a message of no concern.
 pub fn idle() -> Vec<Case> {
-    let mut numbers = Numbers::new();
-    let ids = numbers.ids(1_024);
-    let message = || call(kinds::OTHER_MESSAGE);
-    let evicted = State {
-        evicted: ids[600..].to_vec(),
-        ..pending(&ids[..600], CLOCK)
-    };
-    let stalled = State {
-        stalled: (1..=256).collect(),
-        ..pending(&ids, CLOCK)
-    };
+    fn message(state: State) -> Prepared {
+        Prepared::new(state, call(kinds::OTHER_MESSAGE))
+    }
     vec![
-        Case::step("nothing pending", quiet(), message()),
-        Case::step("1,024 pending", pending(&ids, CLOCK), message()),
-        Case::step("600 pending, 424 evicted", evicted, message()),
-        Case::step("1,024 pending, 256 stalled", stalled, message()),
+        Case::idle("nothing pending", |_| message(quiet())),
+        Case::idle("1,024 pending", |ids| {
+            message(pending(&ids.draw(1_024), CLOCK))
+        }),
+        Case::idle("600 pending, 424 evicted", |ids| {
+            let ids = ids.draw(1_024);
+            message(State {
+                evicted: ids[600..].to_vec(),
+                ..pending(&ids[..600], CLOCK)
+            })
+        }),
+        Case::idle("1,024 pending, 256 stalled", |ids| {
+            message(State {
+                stalled: (1..=256).collect(),
+                ..pending(&ids.draw(1_024), CLOCK)
+            })
+        }),
     ]
 }
 
 /// One of each class that is known before the step is worked out, and one that is known after.
 pub fn refused() -> Vec<Case> {
-    let mut numbers = Numbers::new();
-    let ids = numbers.ids(1_024);
-    let full = || pending(&ids, CLOCK);
-    let message = || call(kinds::OTHER_MESSAGE);
-    let short = Case {
-        length: keeper_values::STATE_BYTES - 1,
-        memory: Memory::None,
-        ..Case::refused("1, area too short", 1, full(), message())
-    };
-    let mut marked = Case::refused("2, wrong mark", 2, full(), message());
-    marked.image.bytes_mut()[0] = 0;
-    let mut unordered = Case::refused("2, last id out of order", 2, full(), message());
-    unordered.image.bytes_mut()[2_560 + 54 * 1_023] = 0;
-    let back = Call {
-        clock: CLOCK - 1,
-        ..message()
-    };
-    let sections = window(&numbers.ids(576));
-    let mut view = Case::refused("8, last of 192 rows", 8, synced(full()), sections);
-    if let Some(last) = view.arguments.view.last_mut() {
-        *last = 2;
+    fn full(ids: &mut Ids, call: Call) -> Prepared {
+        Prepared::new(pending(&ids.draw(1_024), CLOCK), call)
     }
-    let new = numbers.ids(400);
-    let too_many = with_ids(kinds::ANNOUNCED, &new);
-    let before = pending(&ids[..700], CLOCK);
+    fn message(ids: &mut Ids) -> Prepared {
+        full(ids, call(kinds::OTHER_MESSAGE))
+    }
     vec![
-        short,
-        marked,
-        unordered,
-        Case::refused("4, clock runs back", 4, full(), back),
-        Case::refused(
-            "5, kind of another mode",
-            5,
-            full(),
-            call(kinds::SECTION_TICK),
-        ),
-        view,
+        Case {
+            length: STATE_BYTES - 1,
+            memory: Memory::None,
+            ..Case::refused("1, area too short", 1, message)
+        },
+        Case::refused("2, wrong mark", 2, |ids| {
+            let mut prepared = message(ids);
+            prepared.image.bytes_mut()[0] = 0;
+            prepared
+        }),
+        Case::refused("2, last id out of order", 2, |ids| {
+            let mut prepared = message(ids);
+            prepared.image.bytes_mut()[2_560 + 54 * 1_023] = 0;
+            prepared
+        }),
+        Case::refused("4, clock runs back", 4, |ids| {
+            let back = Call {
+                clock: CLOCK - 1,
+                ..call(kinds::OTHER_MESSAGE)
+            };
+            full(ids, back)
+        }),
+        Case::refused("5, kind of another mode", 5, |ids| {
+            full(ids, call(kinds::SECTION_TICK))
+        }),
+        Case::refused("8, last of 192 rows", 8, |ids| {
+            let ids = ids.draw(1_600);
+            let (sections, old) = ids.split_at(576);
+            let mut prepared = Prepared::new(synced(pending(old, CLOCK)), window(sections));
+            if let Some(last) = prepared.arguments.view.last_mut() {
+                *last = 2;
+            }
+            prepared
+        }),
         Case {
             beside: Beside::Tracker,
-            ..Case::refused("10, 400 ids into 700", 10, before, too_many)
+            ..Case::refused("10, 400 ids into 700", 10, |ids| {
+                beside(ids, kinds::ANNOUNCED, 400, 700)
+            })
         },
     ]
 }
 
+/// A call with so many ids, and as many others pending.
+pub fn beside(ids: &mut Ids, kind: u8, count: usize, others: usize) -> Prepared {
+    let drawn = ids.draw(count + others);
+    let (some, others) = drawn.split_at(count);
+    let call = with_ids(kind, ids.listed(some));
+    Prepared::new(pending(others, CLOCK), call)
+}
+
+/// A call with so many of the ids that are pending.
+pub fn among(ids: &mut Ids, kind: u8, count: usize, all: usize) -> Prepared {
+    let drawn = ids.draw(all);
+    let call = with_ids(kind, ids.listed(&drawn[..count]));
+    Prepared::new(pending(&drawn, CLOCK), call)
+}
+
 /// The tracker's operations on full tables.
 pub fn tracker() -> Vec<Case> {
-    let mut numbers = Numbers::new();
-    let ids = numbers.ids(1_024);
-    let new = numbers.ids(400);
-    let full = || pending(&ids, LONG_AGO);
-    let distinct = || from_distinct_peers(&ids, LONG_AGO);
-    let check = || call(kinds::CHECK);
-    let shut = Call {
-        gate: false,
-        ..check()
-    };
-    let nobody = Call {
-        peers: Vec::new(),
-        ..check()
-    };
+    fn distinct(ids: &mut Ids, check: Call) -> Prepared {
+        Prepared::new(from_distinct_peers(&ids.draw(1_024), LONG_AGO), check)
+    }
     vec![
-        Case::step("check of 1,024, all retried, one target", full(), check()),
-        Case::step("the same, 1,024 targets", distinct(), nobody),
-        Case::step("the same, gate shut", distinct(), shut),
-        Case::step(
-            "check of 1,024, nothing expired",
-            pending(&ids, CLOCK),
-            check(),
+        Case::tracked(
+            "check of 1,024, all retried, one target",
+            ANNOUNCED,
+            |ids| Prepared::new(pending(&ids.draw(1_024), LONG_AGO), call(kinds::CHECK)),
         ),
-        Case::step(
-            "received 400 of 1,024",
-            full(),
-            with_ids(kinds::RECEIVED, &ids[..400]),
-        ),
-        Case::step(
-            "evicted 400 of 1,024",
-            full(),
-            with_ids(kinds::EVICTED, &ids[..400]),
-        ),
-        Case::step(
-            "announced 400 into 600",
-            pending(&ids[..600], CLOCK),
-            with_ids(kinds::ANNOUNCED, &new),
-        ),
+        Case::tracked("the same, 1,024 targets", ANNOUNCED, |ids| {
+            let nobody = Call {
+                peers: Vec::new(),
+                ..call(kinds::CHECK)
+            };
+            distinct(ids, nobody)
+        }),
+        Case::tracked("the same, gate shut", SCANNED, |ids| {
+            let shut = Call {
+                gate: false,
+                ..call(kinds::CHECK)
+            };
+            distinct(ids, shut)
+        }),
+        Case::tracked("check of 1,024, nothing expired", SCANNED, |ids| {
+            Prepared::new(pending(&ids.draw(1_024), CLOCK), call(kinds::CHECK))
+        }),
+        received_400(),
+        Case::tracked("evicted 400 of 1,024", REMOVED, |ids| {
+            among(ids, kinds::EVICTED, 400, 1_024)
+        }),
+        announced_400(),
     ]
+}
+
+pub fn received_400() -> Case {
+    Case::tracked("received 400 of 1,024", REMOVED, |ids| {
+        among(ids, kinds::RECEIVED, 400, 1_024)
+    })
+}
+
+pub fn announced_400() -> Case {
+    Case::tracked("announced 400 into 600", ANNOUNCED, |ids| {
+        beside(ids, kinds::ANNOUNCED, 400, 600)
+    })
+}
+
+pub fn window_new() -> Case {
+    Case::tracked("window of 192, 576 new", WINDOW, |ids| {
+        let sections = ids.draw(576);
+        Prepared::new(synced(quiet()), window(&ids.listed(&sections)))
+    })
+}
+
+pub fn window_pending() -> Case {
+    Case::tracked("window of 192, all pending", WINDOW, |ids| {
+        let sections = ids.draw(576);
+        let state = synced(pending(&sections, CLOCK));
+        Prepared::new(state, window(&ids.listed(&sections)))
+    })
 }
 
 /// Other steps.
 pub fn others() -> Vec<Case> {
-    let mut numbers = Numbers::new();
-    let ids = numbers.ids(1_024);
-    let new = numbers.ids(400);
-    let sections = numbers.ids(576);
-    let full = || pending(&ids, LONG_AGO);
-    let thousand = || pending(&ids[..1_000], CLOCK);
-    let announced = |ids| with_ids(kinds::ANNOUNCED, ids);
-    let behind = Call {
-        parsed: true,
-        has_tip: true,
-        tip: HEIGHT - 1_000,
-        peer: 99,
-        continuation: new.clone(),
-        clock: CLOCK + 1_000,
-        ..call(kinds::SYNC_INFO)
-    };
     vec![
-        Case::step("announced 1 into 1,000", thousand(), announced(&new[..1])),
-        Case::step("announced 2 into 1,000", thousand(), announced(&new[..2])),
-        Case::step(
-            "announced 400, all pending in 1,000",
-            thousand(),
-            announced(&ids[..400]),
-        ),
-        Case::step(
-            "received 1 of 1,024",
-            full(),
-            with_ids(kinds::RECEIVED, &ids[..1]),
-        ),
-        Case::step(
-            "evicted 400, none of 600",
-            pending(&ids[..600], CLOCK),
-            with_ids(kinds::EVICTED, &new),
-        ),
-        Case::step("window of 192, 576 new", synced(quiet()), window(&sections)),
-        Case::step(
-            "window of 192, 576 new into 448",
-            synced(pending(&ids[..448], CLOCK)),
-            window(&sections),
-        ),
-        Case::step(
-            "window of 192, all pending",
-            synced(pending(&sections, CLOCK)),
-            window(&sections),
-        ),
-        Case::step("sync info, 400 continuation ids", full(), behind),
+        Case::tracked("announced 1 into 1,000", FEW, |ids| {
+            beside(ids, kinds::ANNOUNCED, 1, 1_000)
+        }),
+        Case::tracked("announced 2 into 1,000", FEW, |ids| {
+            beside(ids, kinds::ANNOUNCED, 2, 1_000)
+        }),
+        Case::tracked("announced 400, all pending in 1,000", ANNOUNCED, |ids| {
+            among(ids, kinds::ANNOUNCED, 400, 1_000)
+        }),
+        Case::tracked("received 1 of 1,024", FEW, |ids| {
+            among(ids, kinds::RECEIVED, 1, 1_024)
+        }),
+        Case::tracked("evicted 400, none of 600", REMOVED, |ids| {
+            beside(ids, kinds::EVICTED, 400, 600)
+        }),
+        window_new(),
+        Case::tracked("window of 192, 576 new into 448", WINDOW, |ids| {
+            let drawn = ids.draw(1_024);
+            let (sections, old) = drawn.split_at(576);
+            let state = synced(pending(old, CLOCK));
+            Prepared::new(state, window(&ids.listed(sections)))
+        }),
+        window_pending(),
+        Case {
+            bounds: FEW,
+            ..Case::idle("sync info, 400 continuation ids", |ids| {
+                let drawn = ids.draw(1_424);
+                let (continuation, old) = drawn.split_at(400);
+                let behind = Call {
+                    parsed: true,
+                    has_tip: true,
+                    tip: HEIGHT - 1_000,
+                    peer: 99,
+                    continuation: ids.listed(continuation),
+                    clock: CLOCK + 1_000,
+                    ..call(kinds::SYNC_INFO)
+                };
+                Prepared::new(pending(old, LONG_AGO), behind)
+            })
+        },
     ]
 }
 
+pub fn question_for_a_check() -> Case {
+    Case::question("for a check, 1,024 evicted", 0, |ids| {
+        let evicted = ids.draw(1_024);
+        State {
+            evicted: ids.listed(&evicted),
+            ..quiet()
+        }
+    })
+}
+
 pub fn questions() -> Vec<Case> {
-    let ids = Numbers::new().ids(1_024);
-    let evicted = State {
-        evicted: ids.clone(),
-        ..quiet()
-    };
-    let asked = pending(&ids, LONG_AGO);
     vec![
-        Case::question("for a check, 1,024 evicted", 0, evicted),
-        Case::question("for a lost peer, 1,024 pending", 1, asked),
+        question_for_a_check(),
+        Case::question("for a lost peer, 1,024 pending", 1, |ids| {
+            pending(&ids.draw(1_024), LONG_AGO)
+        }),
     ]
 }
 
@@ -196,34 +235,4 @@ pub fn all() -> Vec<Case> {
         .into_iter()
         .flatten()
         .collect()
-}
-
-pub const SIZES: [usize; 5] = [64, 128, 256, 512, 1_024];
-
-/// The same steps at growing sizes: half of n ids announced to or received from a table, and n checked.
-pub fn growth() -> Vec<(&'static str, Vec<Case>)> {
-    let ids = Numbers::new().ids(1_024);
-    let at_each = |what, case: &dyn Fn(&[Id]) -> Case| {
-        let cases = SIZES.iter().map(|n| Case {
-            held_to: None,
-            ..case(&ids[..*n])
-        });
-        (what, cases.collect())
-    };
-    vec![
-        at_each("n / 2 announced into n / 2", &|ids| {
-            let (new, old) = ids.split_at(ids.len() / 2);
-            Case::step("", pending(old, CLOCK), with_ids(kinds::ANNOUNCED, new))
-        }),
-        at_each("n / 2 received of n", &|ids| {
-            let arrived = &ids[..ids.len() / 2];
-            Case::step("", pending(ids, CLOCK), with_ids(kinds::RECEIVED, arrived))
-        }),
-        at_each("check of n, all retried", &|ids| {
-            Case::step("", pending(ids, LONG_AGO), call(kinds::CHECK))
-        }),
-        at_each("check of n, nothing expired", &|ids| {
-            Case::step("", pending(ids, CLOCK), call(kinds::CHECK))
-        }),
-    ]
 }

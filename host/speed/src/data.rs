@@ -1,4 +1,4 @@
-//! States and calls of a given size. The same in every run.
+//! States and calls with given ids.
 
 use keeper_values::numbers::{kinds, types};
 use keeper_values::{Call, Id, Mode, Place, Request, Row, Settings, State, View};
@@ -9,37 +9,15 @@ pub const SYNC_PEER: u64 = 7;
 pub const OTHER_PEER: u64 = 8;
 pub const HEIGHT: u32 = 500_000;
 
+/// Long enough ago to be expired.
+pub const LONG_AGO: u64 = CLOCK - SETTINGS.timeout as u64;
+
 pub const SETTINGS: Settings = Settings {
     timeout: 10_000,
     max_checks: 100,
     min_sync_send_interval: 200,
     stall_timeout: 60_000,
 };
-
-/// A stream of numbers (xorshift).
-pub struct Numbers(u64);
-
-impl Numbers {
-    pub fn new() -> Self {
-        Self(88_172_645_463_325_252)
-    }
-
-    fn next(&mut self) -> u64 {
-        self.0 ^= self.0 << 13;
-        self.0 ^= self.0 >> 7;
-        self.0 ^= self.0 << 17;
-        self.0
-    }
-
-    pub fn ids(&mut self, count: usize) -> Vec<Id> {
-        let mut id = || {
-            let mut id = [0; 32];
-            id.fill_with(|| self.next() as u8);
-            id
-        };
-        (0..count).map(|_| id()).collect()
-    }
-}
 
 /// In syncing, nothing pending, no send due.
 pub fn quiet() -> State {
@@ -58,6 +36,13 @@ pub fn quiet() -> State {
         stalled: Vec::new(),
         pending: BTreeMap::new(),
         evicted: Vec::new(),
+    }
+}
+
+pub fn synced(state: State) -> State {
+    State {
+        mode: Mode::Synced,
+        ..state
     }
 }
 
@@ -101,11 +86,8 @@ pub fn call(kind: u8) -> Call {
     }
 }
 
-pub fn with_ids(kind: u8, ids: &[Id]) -> Call {
-    Call {
-        ids: ids.to_vec(),
-        ..call(kind)
-    }
+pub fn with_ids(kind: u8, ids: Vec<Id>) -> Call {
+    Call { ids, ..call(kind) }
 }
 
 /// A section tick whose window lists these ids, three to a height, none stored.

@@ -1,11 +1,15 @@
-//! All sides of a case, timed in turn.
+//! All sides of a case, timed in turn, each round with data of its own.
 
-use crate::beside::{filled, listed, time_memory, time_plain, time_read, time_tracker, track};
-use crate::case::{Areas, Beside, Case, Entry, Memory};
-use crate::times::{time, Times};
+use crate::beside::{time_memory, time_plain, time_read, time_tracker};
+use crate::bound::{Against, Bound};
+use crate::case::{Areas, Beside, Case, Entry, Memory, Prepared};
+use crate::ids::RANDOM;
+use crate::times::{time, Times, ATTEMPTS, ROUNDS};
 use keeper_oracle::{Maps, Oracle};
 use std::hint::black_box;
-use std::time::Duration;
+
+/// How far above what it is held to a ratio may come: what two runs on a machine under load differ by.
+pub const MARGIN: f64 = 1.10;
 
 #[derive(Default)]
 pub struct Measured {
@@ -25,92 +29,105 @@ pub struct Measured {
 }
 
 impl Measured {
+    fn other(&self, case: &Case, against: Against) -> Option<f64> {
+        match against {
+            Against::Limit => self.limit(case),
+            Against::Hashed => self.hashed.median(),
+            Against::Original => self.original.median(),
+        }
+    }
+
     /// The memory part, and the Rust's work on the same data. `None` where there is nothing to hold a case against.
-    pub fn limit(&self, case: &Case) -> Option<f64> {
-        let memory = self.memory.best()?;
+    fn limit(&self, case: &Case) -> Option<f64> {
+        let memory = self.memory.median()?;
         match (case.memory, case.beside) {
             (Memory::None, _) => None,
-            (_, Beside::Tracker) => Some(memory + self.ordered.best()?),
-            (_, Beside::Pairs) => Some(memory + self.plain.best()?),
+            (_, Beside::Tracker) => Some(memory + self.ordered.median()?),
+            (_, Beside::Pairs) => Some(memory + self.plain.median()?),
             (_, Beside::Nothing | Beside::ImageTest) => Some(memory),
         }
     }
 
-    pub fn ratio(&self, case: &Case) -> Option<f64> {
-        Some(self.core.best()? / self.limit(case)?)
+    pub fn ratio(&self, case: &Case, against: Against) -> Option<f64> {
+        Some(self.core.median()? / self.other(case, against)?)
+    }
+
+    /// What the case is held to and passes by more than the margin, in words.
+    fn over(&self, case: &Case) -> Vec<String> {
+        let words = |bound: &Bound| {
+            let ratio = self.ratio(case, bound.against)?;
+            let (name, against, at_most) = (&case.name, bound.against.name(), bound.at_most);
+            (ratio > at_most * MARGIN)
+                .then(|| format!("{name}: {ratio:.2} of {against}, held to {at_most:.2}"))
+        };
+        case.bounds.iter().filter_map(words).collect()
     }
 }
 
-/// A call that is refused at once takes too little for one reading of the clock: many are timed together.
-fn time_core(case: &Case, areas: &mut Areas) -> (Duration, u32) {
+/// The core's call. One that is refused at once takes too little for one reading of the clock: many are timed together.
+pub fn time_core(case: &Case, prepared: &Prepared, areas: &mut Areas, times: &mut Times) {
     let calls = if case.memory == Memory::None {
         1_000
     } else {
         1
     };
-    case.restore(areas);
+    let arguments = prepared.arguments.clone();
+    prepared.restore(areas);
+    let mut number = 0;
     let took = time(|| {
         for _ in 0..calls {
-            black_box(case.run(areas));
+            number = black_box(case.run(areas, &arguments));
         }
     });
-    (took, calls)
+    assert_eq!(number, case.number, "{}", case.name);
+    times.add(took, calls);
 }
 
-/// The core's answer is the expected one, and it leaves as many pending as the original's tracker: what is timed is what
-/// is meant.
-pub fn agree(case: &Case, areas: &mut Areas) {
-    case.restore(areas);
-    assert_eq!(case.run(areas), case.number, "{}", case.what);
-    if case.beside != Beside::Tracker || case.number != 0 {
-        return;
+/// Each side once.
+fn round(case: &Case, prepared: &Prepared, areas: &mut Areas, measured: &mut Measured) {
+    time_core(case, prepared, areas, &mut measured.core);
+    let pending = areas.pending();
+    measured.memory.add(time_memory(case, prepared, areas), 1);
+    if case.number != 0 {
+        measured.read.add(time_read(prepared, areas), 1);
     }
-    if let Some(mut tracker) = filled(case, Maps::Ordered) {
-        track(case, tracker.as_mut(), &listed(case));
-        let bytes = areas.state.bytes();
-        let pending = u16::from_be_bytes([bytes[70], bytes[71]]);
-        assert_eq!(
-            tracker.pending_count(),
-            usize::from(pending),
-            "{}",
-            case.what
-        );
+    for (maps, times) in [
+        (Maps::Ordered, &mut measured.ordered),
+        (Maps::Hashed, &mut measured.hashed),
+    ] {
+        if let Some((took, left)) = time_tracker(case, prepared, maps) {
+            times.add(took, 1);
+            // What is timed is the same work.
+            assert!(case.number != 0 || left == pending, "{}", case.name);
+        }
+    }
+    if let Some(took) = time_plain(case, prepared) {
+        measured.plain.add(took, 1);
+    }
+    if case.number == 0 && case.entry == Entry::Step {
+        if let Some(original) = Oracle::put(&prepared.state) {
+            measured.original.add(original.time(&prepared.call), 1);
+        }
     }
 }
 
-/// Each side once a round.
-pub fn measure(case: &Case, areas: &mut Areas, rounds: usize, measured: &mut Measured) {
-    let lists = listed(case);
-    for _ in 0..rounds {
-        let (took, calls) = time_core(case, areas);
-        measured.core.add(took, calls);
-        measured.memory.add(time_memory(case, areas), 1);
-        if case.number != 0 {
-            measured.read.add(time_read(case, areas), 1);
-        }
-        for (maps, times) in [
-            (Maps::Ordered, &mut measured.ordered),
-            (Maps::Hashed, &mut measured.hashed),
-        ] {
-            if let Some(took) = time_tracker(case, maps, &lists) {
-                times.add(took, 1);
-            }
-        }
-        if let Some(took) = time_plain(case) {
-            measured.plain.add(took, 1);
-        }
-        if case.number == 0 && case.entry == Entry::Step {
-            if let Some(original) = Oracle::put(&case.state) {
-                measured.original.add(original.time(&case.call), 1);
+/// Every case in each attempt, so that what disturbs the machine for a while does not meet all attempts of one case.
+pub fn measure(cases: &[Case], areas: &mut Areas) -> Vec<Measured> {
+    let mut all: Vec<Measured> = cases.iter().map(|_| Measured::default()).collect();
+    for attempt in 0..ATTEMPTS {
+        for (case, measured) in cases.iter().zip(&mut all) {
+            for number in 0..ROUNDS {
+                let prepared = case.prepare(RANDOM, attempt * ROUNDS + number);
+                round(case, &prepared, areas, measured);
             }
         }
     }
+    all
 }
 
-/// The core's calls alone, for a profiler.
-pub fn repeat(case: &Case, areas: &mut Areas, calls: usize) {
-    for _ in 0..calls {
-        case.restore(areas);
-        black_box(case.run(areas));
-    }
+/// What is over in these cases.
+pub fn over(cases: &[Case], measured: &[Measured]) -> Vec<String> {
+    let both = cases.iter().zip(measured);
+    both.flat_map(|(case, measured)| measured.over(case))
+        .collect()
 }

@@ -1,7 +1,9 @@
 //! Tables in markdown.
 
+use crate::bound::Against;
 use crate::case::Case;
 use crate::measure::Measured;
+use crate::times::against;
 
 /// Nanoseconds with three digits or more.
 pub fn nanoseconds(time: Option<f64>) -> String {
@@ -19,64 +21,62 @@ fn grouped(number: u64) -> String {
     format!("{},{:03}", grouped(number / 1_000), number % 1_000)
 }
 
-pub fn times(ratio: Option<f64>) -> String {
+pub fn ratio(ratio: Option<f64>) -> String {
     ratio.map_or(String::from("–"), |ratio| format!("{ratio:.2}"))
 }
 
-fn against(time: Option<f64>, other: Option<f64>) -> Option<f64> {
-    Some(time? / other?)
+/// The ratio, and in brackets what the case is held to.
+fn held(case: &Case, measured: &Measured, against: Against) -> String {
+    let found = measured.ratio(case, against);
+    let bound = case.bounds.iter().find(|bound| bound.against == against);
+    match bound.filter(|_| found.is_some()) {
+        Some(bound) => format!("{} ({:.1})", ratio(found), bound.at_most),
+        None => ratio(found),
+    }
 }
 
 /// A column: its title, and what it shows of a case.
 pub type Column = (&'static str, fn(&Case, &Measured) -> String);
 
-pub const WHAT: Column = ("", |case, _| case.what.clone());
-pub const CORE: Column = ("core, ns", |_, m| nanoseconds(m.core.best()));
-pub const MEDIAN: Column = ("median", |_, m| nanoseconds(m.core.median()));
-pub const MEMORY: Column = ("memory, ns", |_, m| nanoseconds(m.memory.best()));
-pub const READ: Column = ("one read, ns", |_, m| nanoseconds(m.read.best()));
-pub const TO_READ: Column = ("to one read", |_, m| {
-    times(against(m.core.best(), m.read.best()))
+pub const WHAT: Column = ("", |case, _| case.name.clone());
+pub const CORE: Column = ("core, ns", |_, m| nanoseconds(m.core.median()));
+pub const BEST: Column = ("best", |_, m| nanoseconds(m.core.best()));
+pub const MEMORY: Column = ("memory, ns", |_, m| nanoseconds(m.memory.median()));
+pub const TO_LIMIT: Column = ("to the limit", |case, m| held(case, m, Against::Limit));
+pub const READ: Column = ("one read, ns", |_, m| nanoseconds(m.read.median()));
+pub const TO_READ: Column = ("ratio", |_, m| ratio(against(&m.core, &m.read)));
+pub const ORDERED: Column = ("`BTreeMap`, ns", |_, m| nanoseconds(m.ordered.median()));
+pub const TO_ORDERED: Column = ("ratio", |_, m| ratio(against(&m.core, &m.ordered)));
+pub const HASHED: Column = ("`HashMap`, ns", |_, m| nanoseconds(m.hashed.median()));
+pub const TO_HASHED: Column = ("ratio", |case, m| held(case, m, Against::Hashed));
+pub const ORIGINAL: Column = ("the Rust's step, ns", |_, m| {
+    nanoseconds(m.original.median())
 });
-pub const TRACKER: Column = ("tracker, ns", |_, m| nanoseconds(m.ordered.best()));
-pub const PLAIN: Column = ("plain Rust, ns", |_, m| nanoseconds(m.plain.best()));
-pub const TO_LIMIT: Column = ("to the limit", |case, m| times(m.ratio(case)));
-pub const TO_TRACKER: Column = ("to the tracker", |_, m| {
-    times(against(m.core.best(), m.ordered.best()))
-});
-pub const TO_HASHED: Column = ("to `HashMap`", |_, m| {
-    times(against(m.core.best(), m.hashed.best()))
-});
-pub const TO_ORIGINAL: Column = ("to the Rust's step", |_, m| {
-    times(against(m.core.best(), m.original.best()))
-});
-pub const TO_PLAIN: Column = ("to plain Rust", |_, m| {
-    times(against(m.core.best(), m.plain.best()))
-});
-pub const HELD_TO: Column = ("held to", |case, m| {
-    times(case.held_to.filter(|_| m.limit(case).is_some()))
-});
+pub const TO_ORIGINAL: Column = ("ratio", |case, m| held(case, m, Against::Original));
+pub const PLAIN: Column = ("plain Rust, ns", |_, m| nanoseconds(m.plain.median()));
+pub const TO_PLAIN: Column = ("ratio", |_, m| ratio(against(&m.core, &m.plain)));
 
-fn line(cells: impl Iterator<Item = String>) {
-    let cells: Vec<String> = cells.collect();
+/// The core's time, and in brackets the ratio to the Rust's step.
+pub fn core_to_original(measured: &Measured) -> String {
+    let core = nanoseconds(measured.core.median());
+    let ratio = ratio(against(&measured.core, &measured.original));
+    format!("{core} ({ratio})")
+}
+
+pub fn line(cells: &[String]) {
     println!("| {} |", cells.join(" | "));
 }
 
-pub fn head(title: &str, columns: &[Column]) {
+pub fn head(title: &str, columns: &[String]) {
     println!("\n{title}\n");
-    line(columns.iter().map(|(name, _)| name.to_string()));
+    line(columns);
     println!("{}|", "|---".repeat(columns.len()));
 }
 
 pub fn row(columns: &[Column], case: &Case, measured: &Measured) {
-    line(columns.iter().map(|(_, show)| show(case, measured)));
-}
-
-/// One step at growing sizes: times, and in brackets the ratios to the Rust's step.
-pub fn growth(what: &str, sizes: &[(Case, Measured)]) {
-    let shown = |(_, m): &(Case, Measured)| {
-        let ratio = against(m.core.best(), m.original.best());
-        format!("{} ({})", nanoseconds(m.core.best()), times(ratio))
-    };
-    line(std::iter::once(what.to_string()).chain(sizes.iter().map(shown)));
+    let cells: Vec<String> = columns
+        .iter()
+        .map(|(_, show)| show(case, measured))
+        .collect();
+    line(&cells);
 }

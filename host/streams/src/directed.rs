@@ -8,6 +8,7 @@ mod heights;
 mod limits;
 mod messages;
 mod peers;
+mod shapes;
 
 pub use peers::d1;
 
@@ -18,5 +19,6 @@ pub fn scripts() -> Vec<Script> {
     scripts.extend(peers::scripts());
     scripts.extend(heights::scripts());
     scripts.extend(limits::scripts());
+    scripts.extend(shapes::scripts());
     scripts
 }

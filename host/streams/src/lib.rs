@@ -9,6 +9,7 @@ pub mod hostile;
 pub mod noise;
 pub mod random;
 pub mod rng;
+pub mod shapes;
 pub mod text;
 mod world;
 

@@ -1,6 +1,7 @@
 //! The surroundings of one random stream: pools of ids, peers and types, the chain, and what is stored.
 
 use crate::rng::Rng;
+use crate::shapes::Shape;
 use keeper_values::numbers::types;
 use keeper_values::{Id, Place, Row, Settings, View};
 use std::collections::BTreeSet;
@@ -31,9 +32,20 @@ pub struct World {
     pub listed: Vec<u64>,
 }
 
+/// The shape of a pool of random ids: every other one stays random. It is read off the pool's first id, so that what is
+/// drawn for the rest of a stream does not depend on it.
+fn shape(first: &Id) -> Shape {
+    let [.., one, other] = *first;
+    if one % 2 == 0 {
+        return Shape::Random;
+    }
+    Shape::HOSTILE[usize::from(other) % Shape::HOSTILE.len()].0
+}
+
 fn pool(rng: &mut Rng, size: usize) -> Vec<Id> {
     let base: Id = std::array::from_fn(|_| rng.draw() as u8);
     let style = rng.below(4);
+    let shape = shape(&base);
     let mut ids: Vec<Id> = (0..size)
         .map(|index| {
             let mut id = base;
@@ -41,7 +53,7 @@ fn pool(rng: &mut Rng, size: usize) -> Vec<Id> {
             match style {
                 0 => id[0] = bytes[1],
                 1 => id[31] = bytes[1],
-                2 => id = std::array::from_fn(|_| rng.draw() as u8),
+                2 => id = shape.id(&base, index, std::array::from_fn(|_| rng.draw() as u8)),
                 _ => id[15..17].copy_from_slice(&bytes),
             }
             if style < 2 {
