@@ -3,7 +3,7 @@
 use super::canvas::{Anchor, Canvas, Font, AMBER, FAINT, LINE, TEXT};
 use super::marks::{drawn, Drawn};
 use super::{Drawing, LEFT};
-use crate::fate_words::words;
+use crate::fate_words::{words, Told};
 use crate::fates::Became;
 use crate::play::Moment;
 use crate::scenario::show_type;
@@ -99,7 +99,7 @@ impl Drawing<'_> {
         let told: Vec<String> = fates
             .iter()
             .map(|became| {
-                let (label, why) = words(became, &self.played.settings, names);
+                let (label, why) = words(became, Told::One, &self.played.settings, names);
                 format!("{} {label}: {why}", grouped(moment.clock))
             })
             .collect();
