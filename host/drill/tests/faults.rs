@@ -217,7 +217,8 @@ fn no_text_panics() {
             if let Ok(scenario) = read(&cut) {
                 let played = drill::play::play(&scenario).expect("opened");
                 let _ = drill::timeline::timeline(&played);
-                let _ = drill::drawing::svg(&played);
+                let drawing = drill::drawing::Drawing::of(&played).expect("not too long");
+                let _ = drawing.svg(0);
             }
         }
     }
