@@ -7,9 +7,9 @@ use crate::play::Moment;
 use crate::text::grouped;
 
 /// Nearer than this two steps can't be read.
-pub const CLOSEST: f64 = 116.0;
+pub const CLOSEST: f64 = 124.0;
 /// Wider than this a span says no more.
-pub const WIDEST: f64 = 348.0;
+pub const WIDEST: f64 = 372.0;
 /// Text centred on a step is no wider, whatever room there is.
 const MOST_ROOM: f64 = 150.0;
 
@@ -171,15 +171,17 @@ impl Sheet<'_> {
     pub(super) fn axis(&self, canvas: &mut Canvas) {
         let y = self.rows.axis;
         canvas.open("axis", "clock");
+        let font = Font::new(11.0, FAINT, Anchor::Middle);
         if let (Some(first), Some(last)) = (self.columns.first(), self.columns.last()) {
-            if self.steps.start > 0 {
+            if let Some(span) = self.span_before {
                 piece(canvas, Scale::Stretched, (LEFT, first.x), y);
+                let words = font.fitted(&span.words(), first.x - LEFT);
+                canvas.text((LEFT + first.x) / 2.0, y + 16.0, font, &words);
             }
             if self.goes_on() {
                 piece(canvas, Scale::Stretched, (last.x, self.right), y);
             }
         }
-        let font = Font::new(11.0, FAINT, Anchor::Middle);
         for (span, pair) in self.spans.iter().zip(self.columns.windows(2)) {
             let [from, to] = pair else { continue };
             canvas.open(scale_word(span.scale), &span.time.to_string());

@@ -11,7 +11,8 @@ use request_keeper::Outcome;
 
 const ROW: f64 = 17.0;
 const PLAIN: Font = Font::new(12.0, TEXT, Anchor::Middle);
-const STEP: Font = Font::new(13.0, TEXT, Anchor::Middle).bold();
+const STEP: Font = PLAIN.bold();
+const CLOCK: Font = Font::new(13.0, TEXT, Anchor::Middle).bold();
 /// How far left of its step a band begins.
 const BEFORE: f64 = 44.0;
 pub const SHUT: &str = "#fbe3e3";
@@ -145,7 +146,7 @@ impl Sheet<'_> {
             canvas.text(x, y + ROW, font, &font.fitted(&words, room));
         }
         let clock = grouped(moment.clock);
-        canvas.text(x, self.rows.axis - 10.0, STEP, &STEP.fitted(&clock, room));
+        canvas.text(x, self.rows.axis - 10.0, CLOCK, &CLOCK.fitted(&clock, room));
         canvas.close();
     }
 

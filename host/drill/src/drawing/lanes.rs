@@ -13,7 +13,7 @@ use crate::text::grouped;
 use request_keeper::{Id, ModifierType, Peer};
 use std::collections::BTreeSet;
 
-pub const LANE: f64 = 56.0;
+pub const LANE: f64 = 62.0;
 /// Room between two marks of one step.
 const BESIDE: f64 = 20.0;
 /// The bar of the evicted list runs so far below that of the order: both can hold at once.
@@ -158,7 +158,7 @@ impl Sheet<'_> {
         let above = joined(marks.iter().map(|mark| mark.above.as_str()).collect());
         let below = joined(marks.iter().map(|mark| mark.below.as_str()).collect());
         canvas.text(x, y - 13.0, font, &above);
-        canvas.text(x, y + 25.0, font, &below);
+        canvas.text(x, y + 23.0, font, &below);
         canvas.close();
     }
 }

@@ -39,6 +39,8 @@ pub struct Sheet<'a> {
     pub steps: Range<usize>,
     pub lanes: &'a [Lane],
     pub spans: &'a [Span],
+    /// From the last step of the page before.
+    pub span_before: Option<Span>,
     pub columns: Vec<Column>,
     pub heads: Heads,
     notes: Vec<Note>,
@@ -57,6 +59,8 @@ impl<'a> Sheet<'a> {
         let moments = drawing.moments.get(steps.clone())?;
         let inner = steps.start..steps.end.saturating_sub(1).max(steps.start);
         let spans = drawing.spans.get(inner).unwrap_or_default();
+        let span_before = steps.start.checked_sub(1);
+        let span_before = span_before.and_then(|at| drawing.spans.get(at).copied());
         let columns = columns(spans);
         let end = columns.last().map_or(0.0, |last| last.x) + RIGHT;
         let ends_all = steps.end == drawing.moments.len();
@@ -99,6 +103,7 @@ impl<'a> Sheet<'a> {
             steps,
             lanes: &page.lanes,
             spans,
+            span_before,
             columns,
             heads,
             notes,

@@ -44,6 +44,23 @@ fn no_text_covers_another() {
     }
 }
 
+/// Even the longest word for a step stands whole above steps that are as close as can be.
+#[test]
+fn the_words_of_steps_are_not_cut() {
+    let text = "open 0 0\npeers 4\nat 0 start\nat 1000 pick\nat 1000 announced 4 header none\n\
+                at 1000 scheduled-tick\nat 1000 section-tick\nat 1000 end-of-stream\n";
+    let svg = Drawing::of(&played(text)).expect("not too long").svg(0);
+    for word in [
+        "announced",
+        "scheduled-tick",
+        "section-tick",
+        "end-of-stream",
+        "EndOfStream",
+    ] {
+        assert!(svg.contains(&format!(">{word}</text>")), "{word}");
+    }
+}
+
 #[test]
 fn bad_news_does_not_look_like_good_news() {
     let good = outcome_look(Outcome::Synced);
