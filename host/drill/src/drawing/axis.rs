@@ -152,7 +152,7 @@ fn tear(canvas: &mut Canvas, x: f64, (top, bottom): (f64, f64)) {
     let teeth = ((bottom - top) / TOOTH).ceil().max(1.0) as usize;
     let edge = |aside: f64| -> Vec<(f64, f64)> {
         let point = |tooth: usize| {
-            let side = if tooth % 2 == 0 { -2.5 } else { 2.5 };
+            let side = if tooth.is_multiple_of(2) { -2.5 } else { 2.5 };
             let y = (TOOTH * tooth as f64).min(bottom - top);
             (side + aside, y)
         };
