@@ -5,18 +5,60 @@ use crate::scenario::{show_type, Names};
 use crate::text::grouped;
 use request_keeper::{Peer, Settings};
 
+/// Whether a sentence is about one id or about several.
+#[derive(Debug, Clone, Copy, PartialEq, Eq)]
+pub enum Told {
+    One,
+    Several,
+}
+
+impl Told {
+    pub fn of(ids: usize) -> Self {
+        if ids == 1 {
+            Self::One
+        } else {
+            Self::Several
+        }
+    }
+
+    /// One of two forms of a word.
+    fn form(self, one: &'static str, several: &'static str) -> &'static str {
+        match self {
+            Self::One => one,
+            Self::Several => several,
+        }
+    }
+
+    fn them(self) -> &'static str {
+        self.form("it", "them")
+    }
+
+    fn they_were(self) -> &'static str {
+        self.form("it was", "they were")
+    }
+}
+
 /// The label of a fate and its sentence.
-pub fn words(became: &Became, settings: &Settings, names: &Names) -> (&'static str, String) {
+pub fn words(
+    became: &Became,
+    told: Told,
+    settings: &Settings,
+    names: &Names,
+) -> (&'static str, String) {
     let name = |peer: &Peer| names.show_peer(*peer);
     let timeout = grouped(settings.timeout);
     match became {
-        Became::Asked { of, why } => ("asked", asked(name(of), *why)),
-        Became::NotAsked(why) => ("not asked", not_asked(*why, names)),
+        Became::Asked { of, why } => ("asked", asked(name(of), *why, told)),
+        Became::NotAsked(why) => ("not asked", not_asked(*why, told, names)),
         Became::Waits { peer, age } => (
             "waits",
-            format!("{} ms old, below the timeout of {timeout}; on order from {}", grouped(*age), name(peer)),
+            format!(
+                "{} ms old, below the timeout of {timeout}; on order from {}",
+                grouped(*age),
+                name(peer)
+            ),
         ),
-        Became::Retried(retry) => ("retried", retried(retry, settings, names)),
+        Became::Retried(retry) => ("retried", retried(retry, told, settings, names)),
         Became::GivenUp { peer, age, checks } => (
             "given up",
             format!(
@@ -36,40 +78,62 @@ pub fn words(became: &Became, settings: &Settings, names: &Names) -> (&'static s
         ),
         Became::Delivered { peer, age } => (
             "delivered",
-            format!("it was on order from {}, age {}", name(peer), grouped(*age)),
+            format!(
+                "{} on order from {}, age {}",
+                told.they_were(),
+                name(peer),
+                grouped(*age)
+            ),
         ),
-        Became::NotOnOrder => ("received", "it was not on order".to_string()),
+        Became::NotOnOrder => ("received", format!("{} not on order", told.they_were())),
         Became::Evicted { from } => {
-            let was = from.map(|peer| format!("no longer on order from {}; ", names.show_peer(peer)));
+            let was =
+                from.map(|peer| format!("no longer on order from {}; ", names.show_peer(peer)));
             let was = was.unwrap_or_default();
-            ("evicted", format!("{was}the next check asks for it again"))
+            (
+                "evicted",
+                format!("{was}the next check asks for {} again", told.them()),
+            )
         }
         Became::Purged { peer } => (
             "purged",
             format!("on order from {}; a reorg ends every request", name(peer)),
         ),
-        Became::Orphaned { peer } => ("purged", format!("on order from {}, which is lost", name(peer))),
+        Became::Orphaned { peer } => (
+            "purged",
+            format!("on order from {}, which is lost", name(peer)),
+        ),
         Became::Left { peer } => (
             "stays",
-            format!("on order from {}, though it is lost: a check will find it expired", name(peer)),
+            format!(
+                "on order from {}, though that peer is lost: a check will find {} expired",
+                name(peer),
+                told.them()
+            ),
         ),
     }
 }
 
-fn asked(of: String, why: Asked) -> String {
+fn asked(of: String, why: Asked, told: Told) -> String {
+    let them = told.them();
     match why {
-        Asked::Announced => format!("of {of}, which announced it"),
-        Asked::Needed => format!("of {of}, the sync peer: the node needs it for a reorg"),
+        Asked::Announced => format!("of {of}, which announced {them}"),
+        Asked::Needed => format!("of {of}, the sync peer: the node needs {them} for a reorg"),
         Asked::Missing => format!("of {of}, the first listed peer: missing in the window"),
         Asked::Orphan => format!("of {of}, the first listed peer, in place of the lost one"),
-        Asked::Fresh => format!("of {of}, the first listed peer, as a header: it was evicted"),
+        Asked::Fresh => {
+            let headers = told.form("a header", "headers");
+            let were = told.they_were();
+            format!("of {of}, the first listed peer, as {headers}: {were} evicted")
+        }
     }
 }
 
-fn not_asked(why: NotAsked, names: &Names) -> String {
+fn not_asked(why: NotAsked, told: Told, names: &Names) -> String {
+    let unnoted = told.form("it is not noted for later", "they are not noted for later");
     match why {
-        NotAsked::GateShut => "the gate is shut; it is not noted for later".to_string(),
-        NotAsked::NoPeer => "no peer is listed; it is not noted for later".to_string(),
+        NotAsked::GateShut => format!("the gate is shut; {unnoted}"),
+        NotAsked::NoPeer => format!("no peer is listed; {unnoted}"),
         NotAsked::Pending(peer) => format!("on order already, from {}", names.show_peer(peer)),
         NotAsked::Stored => "stored already".to_string(),
         NotAsked::Type(modifier_type) => {
@@ -83,10 +147,14 @@ fn not_asked(why: NotAsked, names: &Names) -> String {
     }
 }
 
-fn retried(retry: &Retry, settings: &Settings, names: &Names) -> String {
+fn retried(retry: &Retry, told: Told, settings: &Settings, names: &Names) -> String {
     let (from, to) = (names.show_peer(retry.from), names.show_peer(retry.to));
     let why = if !retry.gate_open {
-        format!("the gate is shut: its clock starts anew, it stays with {from}, nothing is sent")
+        let stay = told.form(
+            "its clock starts anew, it stays",
+            "their clocks start anew, they stay",
+        );
+        format!("the gate is shut: {stay} with {from}, nothing is sent")
     } else if retry.to != retry.from {
         format!("now asked of {to}, the first listed peer other than {from}")
     } else if retry.other_listed {

@@ -2,7 +2,7 @@
 //! Nothing is worked out anew here; where facts alone can't tell, the words stay neutral.
 
 use crate::scenario::Wake;
-use crate::sending::{Sending, Sent};
+use crate::sending::{SendFate, Sending, Sent};
 use crate::standing::Standing;
 use crate::world::World;
 use request_keeper::{Answer, Id, Mode, ModifierType, Outcome, Peer, PendingRequest};
@@ -15,6 +15,8 @@ pub struct Facts<'a> {
     pub world: &'a World,
     pub before: &'a Standing,
     pub after: &'a Standing,
+    /// What became of the last sync info before the step; `None` if there was none since the opening.
+    pub sync_info: Option<SendFate>,
     pub answer: &'a Answer,
     pub sendings: &'a [Sending],
 }

@@ -9,6 +9,7 @@ mod fate_words;
 pub mod fates;
 pub mod play;
 mod reasons;
+mod refused;
 pub mod scenario;
 pub mod sending;
 pub mod shipped;

@@ -2,8 +2,9 @@
 
 use crate::fates::{fates, Facts, Fate};
 use crate::reasons::reasons;
+use crate::refused;
 use crate::scenario::{Expectation, Names, Scenario, Wake, What};
-use crate::sending::{sent, Sending};
+use crate::sending::{sent, SendFate, Sending, Sent};
 use crate::standing::Standing;
 use crate::verdict::{judge, Verdict};
 use crate::world::World;
@@ -38,6 +39,7 @@ pub struct Moment {
     /// The step in the scenario's words.
     pub text: String,
     pub gate_open: bool,
+    pub chain_height: u32,
     pub before: Rc<Standing>,
     pub after: Rc<Standing>,
     pub result: Result<Answer, Refusal>,
@@ -70,12 +72,31 @@ impl Played {
     }
 }
 
+/// What the steps so far have left.
+struct Past {
+    standing: Rc<Standing>,
+    /// What became of the last sync info; `None` if there was none since the opening.
+    sync_info: Option<SendFate>,
+}
+
+impl Past {
+    fn note(&mut self, moment: &Moment) {
+        self.standing = Rc::clone(&moment.after);
+        let mut sendings = moment.sendings.iter();
+        let last = sendings.rfind(|sending| sending.what == Sent::SyncInfo);
+        self.sync_info = last.map(|sending| sending.fate).or(self.sync_info);
+    }
+}
+
 /// Plays a scenario from its opening to its last line.
 pub fn play(scenario: &Scenario) -> Result<Played, Refusal> {
     let (clock, height) = scenario.open;
     let mut keeper = RequestKeeper::open(scenario.settings, clock, height)?;
     let mut world = World::opened(height);
-    let mut standing = Rc::new(Standing::of(&keeper));
+    let mut past = Past {
+        standing: Rc::new(Standing::of(&keeper)),
+        sync_info: None,
+    };
     let mut items = Vec::new();
     for line in &scenario.lines {
         match &line.what {
@@ -86,10 +107,10 @@ pub fn play(scenario: &Scenario) -> Result<Played, Refusal> {
             }
             What::At(clock, wake) => {
                 let names = &scenario.names;
-                let mut moment = step(&mut keeper, &world, (*clock, wake), &standing, names);
+                let mut moment = step(&mut keeper, &world, (*clock, wake), &past, names);
                 moment.line = line.number;
                 moment.text = after_clock(&line.text);
-                standing = Rc::clone(&moment.after);
+                past.note(&moment);
                 items.push(Item::Moment(Box::new(moment)));
             }
             What::Expect(expectation) => {
@@ -153,9 +174,10 @@ fn step(
     keeper: &mut RequestKeeper,
     world: &World,
     (clock, wake): (u64, &Wake),
-    before: &Rc<Standing>,
+    past: &Past,
     names: &Names,
 ) -> Moment {
+    let before = &past.standing;
     let (result, sendings, entry_failed) = match run(keeper, world, clock, wake) {
         Ok((answer, sendings, entry_failed)) => (Ok(answer), sendings, entry_failed),
         Err(refusal) => (Err(refusal), Vec::new(), false),
@@ -166,6 +188,7 @@ fn step(
         wake: wake.clone(),
         text: String::new(),
         gate_open: world.gate_open,
+        chain_height: world.chain_height,
         before: Rc::clone(before),
         after: Rc::clone(before),
         result,
@@ -176,19 +199,26 @@ fn step(
         verdicts: Vec::new(),
         refusal_expected: false,
     };
-    if let Ok(answer) = result {
-        moment.after = Rc::new(Standing::of(keeper));
-        let facts = Facts {
-            clock,
-            wake,
-            world,
-            before,
-            after: &moment.after,
-            answer: &answer,
-            sendings: &moment.sendings,
-        };
-        moment.fates = fates(&facts);
-        moment.reasons = reasons(&facts, keeper.settings(), names);
+    match result {
+        Ok(answer) => {
+            moment.after = Rc::new(Standing::of(keeper));
+            let facts = Facts {
+                clock,
+                wake,
+                world,
+                before,
+                after: &moment.after,
+                sync_info: past.sync_info,
+                answer: &answer,
+                sendings: &moment.sendings,
+            };
+            moment.fates = fates(&facts);
+            moment.reasons = reasons(&facts, keeper.settings(), names);
+        }
+        Err(refusal) => {
+            let why = refused::reason(refusal, (clock, wake), world, before);
+            moment.reasons.extend(why.map(|why| ("why", why)));
+        }
     }
     moment
 }

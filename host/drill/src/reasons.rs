@@ -3,7 +3,7 @@
 
 use crate::fates::Facts;
 use crate::scenario::{Info, Names, Wake};
-use crate::sending::{Sending, Sent};
+use crate::sending::{SendFate, Sending, Sent};
 use crate::text::{grouped, mode_word};
 use request_keeper::{Mode, Outcome, Peer, Settings};
 
@@ -155,8 +155,13 @@ impl Telling<'_> {
         let interval = self.settings.min_sync_send_interval;
         if since < u64::from(interval) {
             let (since, interval) = (grouped(since), grouped(interval));
+            let last = match self.facts.sync_info {
+                None => format!("none has gone out yet, and the opening was {since} ms ago"),
+                Some(SendFate::Sent) => format!("the last one went out {since} ms ago"),
+                Some(_) => format!("the last one failed {since} ms ago"),
+            };
             return Some(format!(
-                "no sync info: the last one went out {since} ms ago, below the interval of {interval}"
+                "no sync info: {last}, below the interval of {interval}"
             ));
         }
         Some(

@@ -1,11 +1,15 @@
 //! The scenarios that come with the player, by name.
 
 /// Name and text of each.
-pub const SCENARIOS: [(&str, &str); 7] = [
+pub const SCENARIOS: [(&str, &str); 8] = [
     ("a-day", include_str!("../scenarios/a-day.drill")),
     (
         "reorg-eviction-lost-peer",
         include_str!("../scenarios/reorg-eviction-lost-peer.drill"),
+    ),
+    (
+        "evicted-and-on-order",
+        include_str!("../scenarios/evicted-and-on-order.drill"),
     ),
     ("shut-gate", include_str!("../scenarios/shut-gate.drill")),
     (

@@ -9,6 +9,7 @@ pub struct Standing {
     pub sync_peer: Option<Peer>,
     pub downloaded: u32,
     pub known_tip: u32,
+    pub last_clock: u64,
     pub last_progress: u64,
     pub last_send: u64,
     pub pending: BTreeMap<Id, PendingRequest>,
@@ -24,6 +25,7 @@ impl Standing {
             sync_peer: keeper.sync_peer(),
             downloaded: keeper.downloaded_height(),
             known_tip: keeper.known_tip(),
+            last_clock: keeper.last_clock(),
             last_progress: keeper.last_progress(),
             last_send: keeper.last_send(),
             pending: keeper

@@ -1,6 +1,6 @@
 //! A played scenario as text: clock, step, outcome, why, what was sent, what is pending.
 
-use crate::fate_words::words;
+use crate::fate_words::{words, Told};
 use crate::fates::{Became, Fate};
 use crate::play::{Item, Moment, Played};
 use crate::scenario::show_type;
@@ -156,6 +156,9 @@ impl Text {
             .push(format!("{step:<OUTCOME$} {outcome:<PLACE$} {place}"));
         if let Err(refusal) = &moment.result {
             self.entry("refused", &format!("{refusal}; nothing has changed"));
+            for (label, why) in &moment.reasons {
+                self.entry(label, why);
+            }
         } else {
             self.told(moment, played);
         }
@@ -173,7 +176,8 @@ impl Text {
         };
         explain(&moment.reasons, true, self);
         for (became, ids) in same_fates(&moment.fates) {
-            let (label, why) = words(&became, &played.settings, names);
+            let told = Told::of(ids.len());
+            let (label, why) = words(&became, told, &played.settings, names);
             self.entry(label, &format!("{}: {why}", names.show_ids(&ids)));
         }
         explain(&moment.reasons, false, self);

@@ -24,11 +24,13 @@ impl Verdict {
     /// A step is expected to be finished unless the scenario says otherwise.
     pub fn unexpected_refusal(moment: &mut Moment) {
         if let (Err(refusal), false) = (moment.result, moment.refusal_expected) {
-            moment.verdicts.push(Self {
+            let verdict = Self {
                 line: moment.line,
                 expected: "a finished step".to_string(),
                 found: Some(refusal.to_string()),
-            });
+            };
+            // The step's own line stands above those of its expectations.
+            moment.verdicts.insert(0, verdict);
         }
     }
 }

@@ -73,12 +73,30 @@ impl World {
         Some(sections.iter().map(section).collect())
     }
 
-    /// The view for a step: as long as the rules read, or as the scenario cuts it short.
-    pub fn view(&self, wake: &Wake, downloaded: u32) -> View {
-        let from = match wake {
+    /// How many rows a step is lent at most, if the scenario says so.
+    pub fn most_rows(&self) -> Option<usize> {
+        self.most_rows
+    }
+
+    /// Above which height a step's view begins.
+    fn view_from(wake: &Wake, downloaded: u32) -> u32 {
+        match wake {
             Wake::Reorg(fork_point) => downloaded.min(*fork_point),
             _ => downloaded,
-        };
+        }
+    }
+
+    /// The first height of a step's view whose block has more sections than this, and how many it has.
+    pub fn rows_above(&self, wake: &Wake, downloaded: u32, most: usize) -> Option<(u32, usize)> {
+        let from = Self::view_from(wake, downloaded);
+        let mut long = self.headers.iter().filter(|(_, row)| row.len() > most);
+        let first = long.find(|(height, _)| **height > from)?;
+        Some((*first.0, first.1.len()))
+    }
+
+    /// The view for a step: as long as the rules read, or as the scenario cuts it short.
+    pub fn view(&self, wake: &Wake, downloaded: u32) -> View {
+        let from = Self::view_from(wake, downloaded);
         let whole = View::of_chain(from, self.chain_height, |height| self.row(height));
         let Some(most) = self.most_rows.filter(|most| *most < whole.rows()) else {
             return whole;

@@ -80,6 +80,112 @@ fn a_refusal_has_to_be_expected() {
     assert!(played(&short).as_expected());
 }
 
+/// Lines are named in the order of the file, the step's own before those of its expectations.
+#[test]
+fn unmet_lines_are_named_in_order() {
+    let text = format!("{STORY}at 500 check\nexpect mode new\nexpect downloaded 7\n");
+    let told = timeline::timeline(&played(&text));
+    assert!(told.ends_with("3 NOT MET, in lines 12, 13, 14\n"), "{told}");
+    let places = ["line 12: ", "line 13: ", "line 14: "].map(|line| told.find(line));
+    assert!(places.is_sorted() && places[0].is_some(), "{told}");
+}
+
+#[test]
+fn several_ids_are_told_as_several() {
+    let story = "ids h i j\nopen 0 400\npeers 4 5\nat 0 start\nat 1000 pick\n\
+                 at 1000 announced 4 header h i j\nat 1100 received h i\nat 1200 received h i\nat 1300 received j\n";
+    let told = timeline::timeline(&played(story));
+    for sentence in [
+        "h i j: of 4, which announced them",
+        "h i: they were on order from 4",
+        "h i: they were not on order",
+        "j: it was on order from 4",
+    ] {
+        assert!(told.contains(sentence), "{sentence} is not in\n{told}");
+    }
+    let evicted = "ids h i\nopen 0 400\npeers 4\nat 0 start\nat 1000 pick\nat 1000 evicted h i\nat 1100 check\n";
+    let told = timeline::timeline(&played(evicted));
+    assert!(
+        told.contains("h i: the next check asks for them again"),
+        "{told}"
+    );
+    assert!(told.contains("as headers: they were evicted"), "{told}");
+}
+
+/// A pick within the interval of the opening sends nothing, though no sync info has gone out; at the interval it does.
+#[test]
+fn what_keeps_a_sync_info_back_is_told_as_it_is() {
+    let pick = |clock: u32, rest: &str| {
+        let text = format!("open 1000 0\npeers 4\nat 1000 start\nat {clock} pick\n{rest}");
+        timeline::timeline(&played(&text))
+    };
+    let early = pick(1_199, "expect nothing sent\n");
+    let words =
+        "no sync info: none has gone out yet, and the opening was 199 ms ago, below the interval";
+    assert!(
+        early.contains(words) && early.contains("all met"),
+        "{early}"
+    );
+    let late = pick(1_200, "expect sent 4 sync-info\nat 1250 progress\n");
+    assert!(late.contains("all met"), "{late}");
+    assert!(
+        late.contains("the last one went out 50 ms ago, below the"),
+        "{late}"
+    );
+    let failed = pick(1_199, "fails 4\nat 1300 progress\nat 1310 scheduled-tick\n");
+    assert!(
+        failed.contains("the last one failed 10 ms ago, below the"),
+        "{failed}"
+    );
+}
+
+/// A refusal by a bound comes with the bound and what was handed in.
+#[test]
+fn refusals_name_the_bound() {
+    let ids = "ids x0001..x1025\n";
+    let list = "x0001..x1025";
+    let peers: Vec<String> = (1..=129).map(|peer| peer.to_string()).collect();
+    let peers = format!(
+        "peers {}\nat 2000 check\nexpect refused 7\n",
+        peers.join(" ")
+    );
+    let cases = [
+        (
+            format!("at 2000 announced 4 header {list}\nexpect refused 6\n"),
+            "1,025 ids are handed in, and at most 1,024 are taken",
+        ),
+        (
+            "at 2000 sync-info 4 no-tip continues x0001..x0401\nexpect refused 6\n".to_string(),
+            "401 continuation ids are handed in, and at most 400 are taken",
+        ),
+        (peers, "129 peers are listed, and at most 128 are taken"),
+        (
+            "chain 401\nheader 401 block:a proofs:b extension:c header:d\nat 2000 check\nexpect refused 8\n".to_string(),
+            "4 sections at height 401, and at most 3 are taken",
+        ),
+        (
+            "chain 401\nview 0\nat 2000 progress\nexpect refused 9\n".to_string(),
+            "the view is cut to 0 rows",
+        ),
+        (
+            "at 500 check\nexpect refused 4\n".to_string(),
+            "the clock 500 is before 1,000",
+        ),
+        (
+            "at 2000 pick\nexpect refused 5\n".to_string(),
+            "this is no step of the mode syncing",
+        ),
+    ];
+    for (lines, expected) in cases {
+        let text = format!("{ids}open 0 400\npeers 4\nat 0 start\nat 1000 pick\n{lines}");
+        let told = timeline::timeline(&played(&text));
+        assert!(
+            told.contains(expected) && told.contains("all met"),
+            "{told}"
+        );
+    }
+}
+
 #[test]
 fn a_failed_send_drops_the_rest_of_its_batch() {
     let text = "peer north 4\nids x001..x801\nopen 0 0\npeers north\nat 0 start\nat 1000 pick\nfails north\n\

@@ -158,6 +158,47 @@ fn what_a_file_lacks_is_said() {
     }
 }
 
+/// Who names a number that is too great is told the greatest.
+#[test]
+fn bounds_are_named() {
+    let most = ": at most 4,294,967,295";
+    let cases = [
+        ("chain 4294967296", most),
+        ("header 4294967296 block:a", most),
+        ("at 5 reorg 9,999,999,999", most),
+        (
+            "peers 18446744073709551616",
+            "at most 18,446,744,073,709,551,615",
+        ),
+        (
+            "at 18446744073709551616 check",
+            "at most 18,446,744,073,709,551,615",
+        ),
+        (
+            "at +18446744073709551615 check",
+            "at most 18,446,744,073,709,551,615",
+        ),
+        ("view 18446744073709551616", ": at most "),
+        ("at 5 needed 256 a", "a number up to 255"),
+        ("ids x1..x9999", "at most 2,000"),
+        ("ids x1..x1500 y1..y1500", "at most 2,000 entries"),
+        ("ids a123456789012345678901234567890123", "at most 32"),
+    ];
+    for (line, expected) in cases {
+        let what = fault_of(line);
+        assert!(what.contains(expected), "`{line}` gives: {what}");
+    }
+    let steps = format!("open 0 0\n{}", "at 0 start\n".repeat(2_001));
+    let fault = read(&steps).expect_err("a fault");
+    assert_eq!(fault.what, "a scenario has at most 2,000 steps");
+}
+
+#[test]
+fn a_byte_order_mark_is_passed_over() {
+    let text = "\u{feff}title A day\nopen 0 0\nat 0 start\n";
+    assert_eq!(read(text).expect("well formed").title, "A day");
+}
+
 #[test]
 fn comments_blanks_and_grouped_numbers_are_read() {
     let text = "  open 1,000 4_00   # the opening\n\n\tat\t1000  start # first\n# end";
@@ -176,7 +217,8 @@ fn no_text_panics() {
             if let Ok(scenario) = read(&cut) {
                 let played = drill::play::play(&scenario).expect("opened");
                 let _ = drill::timeline::timeline(&played);
-                let _ = drill::drawing::svg(&played);
+                let drawing = drill::drawing::Drawing::of(&played).expect("not too long");
+                let _ = drawing.svg(0);
             }
         }
     }

@@ -1,9 +1,10 @@
 //! The shipped scenarios: they hold, they are told as stored, and they are drawn whole.
 
+use drill::drawing::Drawing;
 use drill::play::{play, Played};
 use drill::scenario::read;
 use drill::shipped::SCENARIOS;
-use drill::{drawing, timeline};
+use drill::timeline;
 use std::collections::BTreeSet;
 use std::path::PathBuf;
 use std::{env, fs};
@@ -119,7 +120,9 @@ fn balanced(svg: &str) -> Result<(), String> {
 fn drawings_are_well_formed_with_one_lane_an_id() {
     for (name, text) in SCENARIOS {
         let played = played(text);
-        let svg = drawing::svg(&played);
+        let drawing = Drawing::of(&played).expect("not too long");
+        assert_eq!(drawing.pages(), 1, "{name}");
+        let svg = drawing.svg(0);
         balanced(&svg).unwrap_or_else(|fault| panic!("{name}: {fault}"));
         assert!(
             svg.starts_with("<?xml") && svg.ends_with("</svg>\n"),

@@ -7,8 +7,16 @@ pub const FAINT: &str = "#5d6b7a";
 pub const LINE: &str = "#d5dbe2";
 pub const GREEN: &str = "#2a8540";
 pub const RED: &str = "#c02626";
-pub const AMBER: &str = "#c77f00";
+pub const AMBER: &str = "#b87400";
 pub const BACKGROUND: &str = "#ffffff";
+
+/// How a line is drawn.
+#[derive(Debug, Clone, Copy, PartialEq, Eq)]
+pub enum Stroke {
+    Solid,
+    Dashed,
+    Dotted,
+}
 
 /// The elements of a drawing so far.
 #[derive(Debug, Default)]
@@ -41,6 +49,8 @@ pub struct Font {
     pub bold: bool,
     pub colour: &'static str,
     pub anchor: Anchor,
+    /// Whether lines that run behind the text are kept off it.
+    pub halo: bool,
 }
 
 impl Font {
@@ -50,11 +60,23 @@ impl Font {
             bold: false,
             colour,
             anchor,
+            halo: true,
         }
     }
 
     pub const fn bold(self) -> Self {
         Self { bold: true, ..self }
+    }
+
+    pub const fn coloured(self, colour: &'static str) -> Self {
+        Self { colour, ..self }
+    }
+
+    pub const fn on_colour(self) -> Self {
+        Self {
+            halo: false,
+            ..self
+        }
     }
 
     /// An estimate that wide fonts stay within.
@@ -77,6 +99,24 @@ impl Font {
             cut.push(letter);
         }
         format!("{}\u{2026}", cut.trim_end())
+    }
+}
+
+impl Font {
+    /// The text in lines that are no wider; a word that is wider alone is cut.
+    pub fn wrapped(&self, text: &str, width: f64) -> Vec<String> {
+        let mut lines: Vec<String> = Vec::new();
+        for word in text.split_whitespace() {
+            let word = self.fitted(word, width);
+            match lines.last_mut() {
+                Some(line) if self.width(&format!("{line} {word}")) <= width => {
+                    line.push(' ');
+                    line.push_str(&word);
+                }
+                _ => lines.push(word),
+            }
+        }
+        lines
     }
 }
 
@@ -146,9 +186,13 @@ impl Canvas {
         } else {
             ""
         };
+        let halo = if font.halo {
+            format!(" stroke=\"{BACKGROUND}\" stroke-width=\"3\" paint-order=\"stroke\"")
+        } else {
+            String::new()
+        };
         self.put(format_args!(
-            "<text x=\"{x:.1}\" y=\"{y:.1}\" font-size=\"{}\" fill=\"{}\" text-anchor=\"{anchor}\"{weight} \
-             stroke=\"{BACKGROUND}\" stroke-width=\"3\" paint-order=\"stroke\">{}</text>",
+            "<text x=\"{x:.1}\" y=\"{y:.1}\" font-size=\"{}\" fill=\"{}\" text-anchor=\"{anchor}\"{weight}{halo}>{}</text>",
             font.size,
             font.colour,
             escaped(text)
@@ -161,12 +205,12 @@ impl Canvas {
         to: (f64, f64),
         width: f64,
         colour: &str,
-        dashed: bool,
+        stroke: Stroke,
     ) {
-        let dashes = if dashed {
-            " stroke-dasharray=\"5 4\""
-        } else {
-            ""
+        let dashes = match stroke {
+            Stroke::Solid => "",
+            Stroke::Dashed => " stroke-dasharray=\"5 4\"",
+            Stroke::Dotted => " stroke-dasharray=\"0.1 6\" stroke-linecap=\"round\"",
         };
         self.put(format_args!(
             "<line x1=\"{:.1}\" y1=\"{:.1}\" x2=\"{:.1}\" y2=\"{:.1}\" stroke=\"{colour}\" stroke-width=\"{width}\"{dashes}/>",
@@ -177,6 +221,13 @@ impl Canvas {
     pub fn rectangle(&mut self, x: f64, y: f64, width: f64, height: f64, fill: &str) {
         self.put(format_args!(
             "<rect x=\"{x:.1}\" y=\"{y:.1}\" width=\"{width:.1}\" height=\"{height:.1}\" fill=\"{fill}\"/>"
+        ));
+    }
+
+    /// A rectangle with round corners.
+    pub fn rounded(&mut self, x: f64, y: f64, width: f64, height: f64, fill: &str) {
+        self.put(format_args!(
+            "<rect x=\"{x:.1}\" y=\"{y:.1}\" width=\"{width:.1}\" height=\"{height:.1}\" rx=\"6\" fill=\"{fill}\"/>"
         ));
     }
 
@@ -199,6 +250,18 @@ impl Canvas {
         self.put(format_args!(
             "<path d=\"{}\" fill=\"{fill}\" stroke=\"{stroke}\" stroke-width=\"2\" stroke-linecap=\"round\" \
              stroke-linejoin=\"round\"/>",
+            data.trim_end()
+        ));
+    }
+
+    /// A thin open path, its points relative to a place.
+    pub fn thin_path(&mut self, x: f64, y: f64, points: &[(f64, f64)], stroke: &str) {
+        let mut data = String::new();
+        for (dx, dy) in points {
+            let _ = write!(data, "{:.1},{:.1} ", x + dx, y + dy);
+        }
+        self.put(format_args!(
+            "<polyline points=\"{}\" fill=\"none\" stroke=\"{stroke}\" stroke-width=\"1\"/>",
             data.trim_end()
         ));
     }

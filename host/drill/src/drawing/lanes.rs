@@ -1,25 +1,46 @@
 //! The lanes: which ids have one, and what is drawn on it.
 
-use super::canvas::{Anchor, Canvas, Font, AMBER, FAINT, LINE, TEXT};
+use super::canvas::{Anchor, Canvas, Font, Stroke, AMBER, FAINT, LINE, TEXT};
 use super::marks::{drawn, Drawn};
-use super::{Drawing, LEFT};
-use crate::fate_words::words;
+use super::sheet::Sheet;
+use super::LEFT;
+use crate::fate_words::{words, Told};
 use crate::fates::Became;
 use crate::play::Moment;
 use crate::scenario::show_type;
 use crate::standing::Standing;
 use crate::text::grouped;
-use request_keeper::{Id, ModifierType};
+use request_keeper::{Id, ModifierType, Peer};
 use std::collections::BTreeSet;
 
+pub const LANE: f64 = 62.0;
 /// Room between two marks of one step.
 const BESIDE: f64 = 20.0;
+/// The bar of the evicted list runs so far below that of the order: both can hold at once.
+pub const BELOW: f64 = 10.0;
 
 /// An id's lane.
+#[derive(Debug, Clone, Copy)]
 pub struct Lane {
     pub id: Id,
     /// As it was first on order, if it ever was.
     pub modifier_type: Option<ModifierType>,
+}
+
+/// What holds of an id between two steps.
+#[derive(Debug, Clone, Copy, PartialEq, Eq)]
+struct Holds {
+    on_order_from: Option<Peer>,
+    evicted: bool,
+}
+
+impl Holds {
+    fn of(id: &Id, standing: &Standing) -> Self {
+        Self {
+            on_order_from: standing.pending.get(id).map(|request| request.peer),
+            evicted: standing.evicted.contains(id),
+        }
+    }
 }
 
 /// One lane an id that a step touched, in the order in which they come up.
@@ -42,40 +63,58 @@ pub fn lanes(moments: &[&Moment]) -> Vec<Lane> {
     lanes
 }
 
-impl Drawing<'_> {
-    /// Draws a lane at its height.
+impl Sheet<'_> {
+    /// Draws a lane with its bars at its height.
     pub(super) fn lane(&self, canvas: &mut Canvas, lane: &Lane, y: f64) {
-        let names = &self.played.names;
-        let name = names.show_id(&lane.id);
-        let font = Font::new(13.0, TEXT, Anchor::End).bold();
-        let small = Font::new(10.5, FAINT, Anchor::End);
+        let name = self.played.names.show_id(&lane.id);
+        let font = Font::new(14.0, TEXT, Anchor::End).bold();
+        let small = Font::new(11.5, FAINT, Anchor::End);
         canvas.open("lane", &name);
-        canvas.line((LEFT - 6.0, y), (self.right, y), 1.0, LINE, false);
-        canvas.text(LEFT - 14.0, y - 1.0, font, &font.fitted(&name, LEFT - 24.0));
+        canvas.hint(&name);
+        canvas.line((LEFT - 6.0, y), (self.right, y), 1.0, LINE, Stroke::Solid);
+        canvas.text(LEFT - 14.0, y, font, &font.fitted(&name, LEFT - 24.0));
         if let Some(modifier_type) = lane.modifier_type {
-            canvas.text(LEFT - 14.0, y + 13.0, small, &show_type(modifier_type));
+            canvas.text(LEFT - 14.0, y + 15.0, small, &show_type(modifier_type));
         }
-        for (number, (moment, column)) in self.steps().enumerate() {
-            let next = self
-                .columns
-                .get(number + 1)
-                .map_or(self.right, |next| next.x);
-            self.bar(canvas, &lane.id, &moment.after, (column.x, next), y);
-        }
-        for (moment, column) in self.steps() {
-            let fates = moment.fates.iter().filter(|fate| fate.id == lane.id);
-            let fates: Vec<Became> = fates.map(|fate| fate.became).collect();
-            self.marks(canvas, moment, &fates, (column.x, y), column.room);
-        }
+        self.bars(canvas, &lane.id, y);
         canvas.close();
     }
 
-    /// Between two steps: on order from a peer, or waiting in the evicted list.
-    fn bar(&self, canvas: &mut Canvas, id: &Id, after: &Standing, (from, to): (f64, f64), y: f64) {
-        if let Some(request) = after.pending.get(id) {
-            canvas.line((from, y), (to, y), 5.0, self.colour(request.peer), false);
-        } else if after.evicted.contains(id) {
-            canvas.line((from, y), (to, y), 3.0, AMBER, true);
+    /// A bar while the id is on order, and one below it while it stands in the evicted list.
+    fn bars(&self, canvas: &mut Canvas, id: &Id, y: f64) {
+        let before = self.places().next().map(|(moment, column)| {
+            let holds = Holds::of(id, &moment.before);
+            (holds, LEFT - 6.0, column.x)
+        });
+        let after = self.places().enumerate().map(|(number, (moment, column))| {
+            let holds = Holds::of(id, &moment.after);
+            (holds, column.x, self.next_x(number))
+        });
+        let pieces: Vec<_> = before.into_iter().chain(after).collect();
+        let order = pieces
+            .iter()
+            .map(|(holds, from, to)| (holds.on_order_from, *from, *to));
+        for (peer, from, to) in joined(order) {
+            let colour = self.colour(peer);
+            canvas.line((from, y), (to, y), 5.0, colour, Stroke::Solid);
+        }
+        let evicted = pieces
+            .iter()
+            .map(|(holds, from, to)| (holds.evicted.then_some(()), *from, *to));
+        for ((), from, to) in joined(evicted) {
+            let y = y + BELOW;
+            canvas.open("evicted", &self.played.names.show_id(id));
+            canvas.line((from, y), (to, y), 4.0, AMBER, Stroke::Dashed);
+            canvas.close();
+        }
+    }
+
+    /// Draws a lane's marks, over its bars.
+    pub(super) fn lane_marks(&self, canvas: &mut Canvas, lane: &Lane, y: f64) {
+        for (moment, column) in self.places() {
+            let fates = moment.fates.iter().filter(|fate| fate.id == lane.id);
+            let fates: Vec<Became> = fates.map(|fate| fate.became).collect();
+            self.marks(canvas, moment, &fates, (column.x, y), column.room);
         }
     }
 
@@ -99,7 +138,7 @@ impl Drawing<'_> {
         let told: Vec<String> = fates
             .iter()
             .map(|became| {
-                let (label, why) = words(became, &self.played.settings, names);
+                let (label, why) = words(became, Told::One, &self.played.settings, names);
                 format!("{} {label}: {why}", grouped(moment.clock))
             })
             .collect();
@@ -111,7 +150,7 @@ impl Drawing<'_> {
             each.mark
                 .draw(canvas, first + BESIDE * number as f64, y, colour);
         }
-        let font = Font::new(10.5, FAINT, Anchor::Middle);
+        let font = Font::new(11.5, FAINT, Anchor::Middle);
         let joined = |words: Vec<&str>| {
             let words: Vec<&str> = words.into_iter().filter(|word| !word.is_empty()).collect();
             font.fitted(&words.join(", "), room)
@@ -119,7 +158,20 @@ impl Drawing<'_> {
         let above = joined(marks.iter().map(|mark| mark.above.as_str()).collect());
         let below = joined(marks.iter().map(|mark| mark.below.as_str()).collect());
         canvas.text(x, y - 13.0, font, &above);
-        canvas.text(x, y + 20.0, font, &below);
+        canvas.text(x, y + 23.0, font, &below);
         canvas.close();
     }
+}
+
+/// Pieces that follow each other with the same content, as one.
+fn joined<T: PartialEq>(pieces: impl Iterator<Item = (Option<T>, f64, f64)>) -> Vec<(T, f64, f64)> {
+    let mut bars: Vec<(T, f64, f64)> = Vec::new();
+    for (content, from, to) in pieces {
+        let Some(content) = content else { continue };
+        match bars.last_mut() {
+            Some((last, _, end)) if *last == content && *end == from => *end = to,
+            _ => bars.push((content, from, to)),
+        }
+    }
+    bars
 }

@@ -1,6 +1,6 @@
 //! The mark for each fate, and its words.
 
-use super::canvas::{Canvas, AMBER, BACKGROUND, FAINT, GREEN, RED};
+use super::canvas::{Canvas, Stroke, AMBER, BACKGROUND, FAINT, GREEN, RED};
 use crate::fates::{Became, NotAsked};
 use crate::scenario::Names;
 use crate::text::grouped;
@@ -25,15 +25,12 @@ pub const LEGEND: [(Mark, &str); 10] = [
     (Mark::Request, "request, to the peer of this colour"),
     (Mark::Check, "check: not expired, with its age"),
     (Mark::Retry, "retry, to the peer of this colour"),
-    (
-        Mark::HeldRetry,
-        "retry behind a shut gate: counted, not sent",
-    ),
+    (Mark::HeldRetry, "retry behind a shut gate: not sent"),
     (Mark::Delivery, "delivery"),
     (Mark::GivenUp, "given up"),
     (Mark::Forgotten, "forgotten (a transaction)"),
     (Mark::Evicted, "evicted, asked for at the next check"),
-    (Mark::Purged, "purged by a reorg or with its lost peer"),
+    (Mark::Purged, "purged: a reorg, or its peer is lost"),
     (Mark::NotAsked, "not asked for"),
 ];
 
@@ -104,7 +101,7 @@ impl Mark {
             [[(-5.0, -5.0), (5.0, 5.0)], [(-5.0, 5.0), (5.0, -5.0)]];
         match self {
             Self::Request => canvas.circle(x, y, 6.5, colour, BACKGROUND),
-            Self::Check => canvas.line((x, y - 7.0), (x, y + 7.0), 2.0, colour, false),
+            Self::Check => canvas.line((x, y - 7.0), (x, y + 7.0), 2.5, colour, Stroke::Solid),
             Self::Retry => {
                 canvas.circle(x, y, 8.0, colour, BACKGROUND);
                 let head = [(-4.0, 0.0), (4.0, 0.0), (1.0, -3.0), (4.0, 0.0), (1.0, 3.0)];

@@ -2,7 +2,7 @@
 
 use super::names::{expanded, modifier_type, Names};
 use super::wakes::{ids, peers};
-use super::words::{number, Fault, Words};
+use super::words::{bound, number, Fault, Words};
 use request_keeper::{Id, ModifierType, Peer};
 
 /// The sections that a block needs.
@@ -67,8 +67,12 @@ fn view(words: &mut Words<'_>) -> Result<Option<usize>, Fault> {
     if word == "whole" {
         return Ok(None);
     }
-    let rows = number(word)
-        .ok_or_else(|| words.fault(format!("`{word}` was not expected here, but {FORMS}")))?;
+    let rows = number(word).ok_or_else(|| {
+        let bound = bound::<usize>(word);
+        words.fault(format!(
+            "`{word}` was not expected here, but {FORMS}{bound}"
+        ))
+    })?;
     Ok(Some(rows))
 }
 
@@ -80,8 +84,10 @@ fn headers(words: &mut Words<'_>, names: &mut Names) -> Result<Vec<Row>, Fault> 
     let sections = words.all();
     let mut rows = Vec::new();
     for height in heights {
-        let height: u32 =
-            number(&height).ok_or_else(|| words.fault(format!("`{height}` is not a height")))?;
+        let height: u32 = number(&height).ok_or_else(|| {
+            let bound = bound::<u32>(&height);
+            words.fault(format!("`{height}` is not a height{bound}"))
+        })?;
         if sections == ["absent"] {
             rows.push((height, None));
             continue;

@@ -1,5 +1,7 @@
 //! Names for ids and peers, and how both are shown.
 
+use super::words::bound;
+use crate::text::grouped;
 use request_keeper::{Id, ModifierType, Peer};
 use std::collections::BTreeMap;
 
@@ -65,8 +67,8 @@ pub fn expanded(word: &str) -> Result<Vec<String>, String> {
     };
     let wrong = || {
         format!(
-            "`{word}` is no range: expected the same letters and rising numbers at both ends, at most {LONGEST_LIST}, \
-             as `a1..a9`"
+            "`{word}` is no range: expected the same letters and rising numbers at both ends, at most {}, as `a1..a9`",
+            grouped(LONGEST_LIST as u64)
         )
     };
     let stem = first.trim_end_matches(|c: char| c.is_ascii_digit());
@@ -140,7 +142,10 @@ impl Names {
         let number = || super::words::number(word).map(Peer);
         let peer = self.peers.get(word).copied().or_else(number);
         peer.ok_or_else(|| {
-            format!("no peer has the name `{word}`: introduce it with `peer {word} NUMBER`, or write a peer's number")
+            let bound = bound::<u64>(word);
+            format!(
+                "no peer has the name `{word}`: introduce it with `peer {word} NUMBER`, or write a peer's number{bound}"
+            )
         })
     }
 

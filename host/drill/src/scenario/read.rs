@@ -4,8 +4,9 @@ use super::changes::Change;
 use super::expectations::Expectation;
 use super::names::Names;
 use super::wakes::{list, Wake};
-use super::words::{number, Fault, Words};
+use super::words::{bound, number, Fault, Words};
 use super::{Line, Scenario, What};
+use crate::text::grouped;
 use request_keeper::{Peer, Settings};
 
 /// More steps than this are no drill; what is read of each step is kept for the drawing.
@@ -29,8 +30,9 @@ struct Reader {
     after_step: bool,
 }
 
-/// Reads a scenario. The first fault ends it.
+/// Reads a scenario. The first fault ends it. A byte-order mark, which some editors put first, is no word.
 pub fn read(text: &str) -> Result<Scenario, Fault> {
+    let text = text.strip_prefix('\u{feff}').unwrap_or(text);
     let mut reader = Reader::default();
     let mut last = 1;
     for (index, line) in text.lines().enumerate() {
@@ -172,7 +174,10 @@ impl Reader {
             None => number(word),
             Some(after) => number(after).and_then(|after: u64| self.clock.checked_add(after)),
         };
-        clock.ok_or_else(|| words.fault(format!("`{word}` is not {CLOCK}")))
+        clock.ok_or_else(|| {
+            let bound = bound::<u64>(word.trim_start_matches('+'));
+            words.fault(format!("`{word}` is not {CLOCK}{bound}"))
+        })
     }
 
     fn at(&mut self, words: &mut Words<'_>) -> Result<(), Fault> {
@@ -180,7 +185,8 @@ impl Reader {
             return Err(words.fault("a step before `open CLOCK HEIGHT`"));
         }
         if self.steps == MOST_STEPS {
-            return Err(words.fault(format!("a scenario has at most {MOST_STEPS} steps")));
+            let most = grouped(MOST_STEPS as u64);
+            return Err(words.fault(format!("a scenario has at most {most} steps")));
         }
         let clock = self.clock(words)?;
         let wake = Wake::read(words, &self.names)?;

@@ -2,6 +2,7 @@
 
 use super::names::{expanded, modifier_type, Names, LONGEST_LIST};
 use super::words::{Fault, Words};
+use crate::text::grouped;
 use request_keeper::{Id, ModifierType, Peer, Step, SyncInfo};
 
 /// What wakes the keeper: a step that owns its lists.
@@ -141,7 +142,8 @@ pub fn list<T>(
             found.push(each(&name).map_err(|what| words.fault(what))?);
         }
         if found.len() > LONGEST_LIST {
-            return Err(words.fault(format!("a list has at most {LONGEST_LIST} entries")));
+            let most = grouped(LONGEST_LIST as u64);
+            return Err(words.fault(format!("a list has at most {most} entries")));
         }
     }
     Ok(found)

@@ -1,5 +1,6 @@
 //! Lines of words: reading them one after another, with errors that say what was expected.
 
+use crate::text::grouped;
 use std::fmt::{self, Display, Formatter};
 
 /// What is wrong with a scenario, and in which line.
@@ -86,15 +87,54 @@ impl<'a> Words<'a> {
     }
 
     /// A number, digits grouped by `,` or `_` if the author likes.
-    pub fn number<N: TryFrom<u64>>(&mut self, expected: &str) -> Result<N, Fault> {
+    pub fn number<N: Number>(&mut self, expected: &str) -> Result<N, Fault> {
         let word = self.expect(expected)?;
-        number(word).ok_or_else(|| self.fault(format!("`{word}` is not {expected}")))
+        number(word)
+            .ok_or_else(|| self.fault(format!("`{word}` is not {expected}{}", bound::<N>(word))))
+    }
+}
+
+/// The kinds of numbers in a scenario.
+pub trait Number: TryFrom<u64> {
+    const MOST: u64;
+}
+
+impl Number for u8 {
+    const MOST: u64 = Self::MAX as u64;
+}
+
+impl Number for u32 {
+    const MOST: u64 = Self::MAX as u64;
+}
+
+impl Number for u64 {
+    const MOST: u64 = Self::MAX;
+}
+
+impl Number for usize {
+    const MOST: u64 = Self::MAX as u64;
+}
+
+/// Digits, grouped or not.
+fn decimal(word: &str) -> bool {
+    word.starts_with(|first: char| first.is_ascii_digit())
+        && word
+            .chars()
+            .all(|c| c.is_ascii_digit() || matches!(c, ',' | '_'))
+}
+
+/// What is to be said of the greatest number, where a word is a number and too great.
+pub fn bound<N: Number>(word: &str) -> String {
+    if decimal(word) {
+        format!(": at most {}", grouped(N::MOST))
+    } else {
+        String::new()
     }
 }
 
 /// A decimal number that fits.
-pub fn number<N: TryFrom<u64>>(word: &str) -> Option<N> {
-    if !word.starts_with(|first: char| first.is_ascii_digit()) {
+pub fn number<N: Number>(word: &str) -> Option<N> {
+    if !decimal(word) {
         return None;
     }
     let digits: String = word.chars().filter(|c| !matches!(c, ',' | '_')).collect();
