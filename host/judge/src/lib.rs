@@ -7,6 +7,7 @@
 mod answer;
 mod difference;
 mod gloss;
+mod group;
 mod hint;
 mod lead;
 mod names;

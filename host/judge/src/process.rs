@@ -1,6 +1,7 @@
 //! A pupil's process and its three pipes. Threads write and read, so that a keeper that neither reads nor writes can't
 //! hold the judge up; none of them is waited for.
 
+use crate::group::{self, Group};
 use std::collections::VecDeque;
 use std::io::{BufRead, BufReader, Read, Write};
 use std::process::{Child, Command, Stdio};
@@ -47,6 +48,8 @@ struct Errors {
 
 pub struct Process {
     child: Child,
+    /// None once it is ended.
+    group: Option<Group>,
     say: Option<Sender<String>>,
     hear: Receiver<Heard>,
     errors: Arc<Mutex<Errors>>,
@@ -106,7 +109,7 @@ impl Process {
     /// Starts it; with `shown` its standard error goes where the judge's goes.
     pub fn start(words: &[String], shown: bool) -> Result<Self, String> {
         let (program, arguments) = words.split_first().ok_or("the command is empty")?;
-        let mut child = Command::new(program)
+        let mut child = group::lead(&mut Command::new(program))
             .args(arguments)
             .stdin(Stdio::piped())
             .stdout(Stdio::piped())
@@ -117,6 +120,7 @@ impl Process {
             })
             .spawn()
             .map_err(|error| format!("{program} does not start: {error}"))?;
+        let group = Some(Group::of(&child));
         let (say, said) = channel::<String>();
         let (heard, hear) = sync_channel(AHEAD);
         let errors = Arc::new(Mutex::new(Errors::default()));
@@ -145,6 +149,7 @@ impl Process {
         }
         Ok(Self {
             child,
+            group,
             say: Some(say),
             hear,
             errors,
@@ -185,7 +190,7 @@ impl Process {
             let errors = errors.lock().ok()?;
             errors.ended.then(|| errors.lines.iter().cloned().collect())
         };
-        // A process of its own may hold the pipe open: then what has come so far is all.
+        // A process that left the group may hold the pipe open: then what has come so far is all.
         within_grace(|| lines(&self.errors)).unwrap_or_else(|| {
             let errors = self.errors.lock();
             errors.map_or_else(
@@ -197,6 +202,10 @@ impl Process {
 
     fn kill(&mut self) {
         self.say = None;
+        // Also where the first process has ended: it may have left others behind.
+        if let Some(group) = self.group.take() {
+            group.end();
+        }
         // Both fail only for a process that has ended.
         let _ = self.child.kill();
         let _ = self.child.wait();
