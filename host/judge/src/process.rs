@@ -11,10 +11,11 @@ use std::thread::{sleep, spawn};
 use std::time::{Duration, Instant};
 
 /// The longest line that an answer can need: 1,024 pending records, with room to spare.
-const LONGEST: usize = 1 << 18;
+pub const LONGEST: usize = 1 << 18;
 
-/// Lines of standard error that are kept.
-const KEPT: usize = 12;
+/// Lines of standard error that are kept, and characters of one.
+pub const KEPT: usize = 12;
+const WIDTH: usize = 200;
 
 /// Lines read ahead.
 const AHEAD: usize = 64;
@@ -96,7 +97,13 @@ fn keep_errors(pipe: impl Read, errors: &Mutex<Errors>) {
             if errors.lines.len() == KEPT {
                 errors.lines.pop_front();
             }
-            errors.lines.push_back(line.chars().take(200).collect());
+            let cut = if line.chars().count() > WIDTH {
+                ".."
+            } else {
+                ""
+            };
+            let start: String = line.chars().take(WIDTH).collect();
+            errors.lines.push_back(start + cut);
             true
         })
     });

@@ -1,4 +1,4 @@
-//! Keepers to try the judge on, one for each mistake of the class. They speak the text form on standard input and
+//! Keepers to try the judge on, one for each mistake. They speak the text form on standard input and
 //! output, as a pupil's keeper has to.
 
 use keeper_core::Core;
@@ -117,13 +117,17 @@ fn speak(keeper: &dyn Keeper) -> Result<(), String> {
 
 fn main() -> ExitCode {
     let mistake = std::env::args().nth(1).unwrap_or_default();
+    if mistake == "--help" {
+        println!("{}", usage());
+        return ExitCode::SUCCESS;
+    }
     let spoken = keeper(&mistake)
-        .ok_or_else(usage)
+        .ok_or_else(|| format!("no mistake `{mistake}`; `faulty_keeper --help` names them"))
         .and_then(|keeper| speak(keeper.as_ref()));
     match spoken {
         Ok(()) => ExitCode::SUCCESS,
         Err(fault) => {
-            eprintln!("{fault}");
+            eprintln!("faulty_keeper: {fault}");
             ExitCode::from(2)
         }
     }
