@@ -1,5 +1,5 @@
-//! The run: directed streams, then random ones. After the first wrong answer it goes on for a while, since another one may
-//! be simpler to look at.
+//! The run: directed streams, then random ones. After the first wrong answer it goes on for a while, since another one
+//! may be simpler to look at.
 
 use crate::count::count;
 use crate::kind::Kinds;

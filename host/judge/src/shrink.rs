@@ -1,6 +1,6 @@
 //! A stream that is answered wrongly, made short: calls dropped, lists shortened, numbers lowered, ids and peers
-//! renamed, as long as some answer is wrong. Which one may change on the way. A step that the core finishes is not traded
-//! for one that it refuses, nor one refusal for another.
+//! renamed, as long as some answer is wrong. Which one may change on the way. A step that the core finishes is not
+//! traded for one that it refuses, nor one refusal for another.
 //!
 //! Big bites come first, and what was found until the deadline is given.
 

@@ -107,6 +107,16 @@ fn streams_from_standard_input() {
 }
 
 #[test]
+fn shrinking_shows_how_far_it_is() {
+    let keeper = common::shipped("hangs-in-a-reorg");
+    let limits = ["--patience", "400", "--go-on", "0", "--shrink", "3"];
+    let (status, report, told) = program(&[&[&keeper, "--progress"], &limits[..]].concat());
+    assert_eq!(status, Some(1), "{report}");
+    assert!(told.contains("making it short: "), "{told}");
+    assert!(told.contains(" tried"), "{told}");
+}
+
+#[test]
 fn an_interrupt_ends_the_keeper_too() {
     let file = Scratch::new("interrupted");
     let keeper = common::writing_on(&file);
