@@ -19,6 +19,8 @@ pub enum Expected {
     Numbers(usize),
     /// `>` or `.`
     CommandOrState,
+    /// `.`, after as many commands as there may be.
+    StateAtLast,
     State,
     Pairs,
 }
@@ -39,6 +41,9 @@ impl Expected {
             Expected::Numbers(count) => format!("`=` and {count} numbers"),
             Expected::CommandOrState => "a command `> ..` or the state `. ..`".to_string(),
             Expected::State => "the state `. ..`".to_string(),
+            Expected::StateAtLast => {
+                format!("the state `. ..`, after {MOST_COMMANDS} commands,")
+            }
             Expected::Pairs => "the pairs `? ..`".to_string(),
         }
     }
@@ -54,10 +59,14 @@ impl Expected {
                     _ => finished.then_some(Expected::CommandOrState),
                 })
             }
-            (Expected::CommandOrState, Line::Command(_)) if commands < MOST_COMMANDS => {
-                Some(Some(Expected::CommandOrState))
+            (Expected::CommandOrState, Line::Command(_)) => {
+                let more = commands < MOST_COMMANDS;
+                Some(Some(if more { self } else { Expected::StateAtLast }))
             }
-            (Expected::CommandOrState | Expected::State, Line::State(_)) => Some(None),
+            (
+                Expected::CommandOrState | Expected::State | Expected::StateAtLast,
+                Line::State(_),
+            ) => Some(None),
             (Expected::Pairs, Line::Pairs(_)) => Some(None),
             _ => None,
         }
@@ -155,6 +164,7 @@ mod tests {
         let step = Line::read("step 1 0 1 0 - - 00000000 0 0 0 0 0 0 - - -").expect("a step");
         let mut lines = vec!["= 0 0 0 0 0 0 0 0 0"];
         lines.extend(["> 3 0 0 4 0 -"; 5_000]);
-        assert_eq!(read(&step, &lines), Err(Expected::CommandOrState));
+        assert_eq!(read(&step, &lines), Err(Expected::StateAtLast));
+        assert!(Expected::StateAtLast.words().contains("4096 commands"));
     }
 }

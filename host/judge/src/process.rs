@@ -1,6 +1,7 @@
 //! A pupil's process and its three pipes. Threads write and read, so that a keeper that neither reads nor writes can't
 //! hold the judge up; none of them is waited for.
 
+use crate::group::{self, Group};
 use std::collections::VecDeque;
 use std::io::{BufRead, BufReader, Read, Write};
 use std::process::{Child, Command, Stdio};
@@ -10,10 +11,11 @@ use std::thread::{sleep, spawn};
 use std::time::{Duration, Instant};
 
 /// The longest line that an answer can need: 1,024 pending records, with room to spare.
-const LONGEST: usize = 1 << 18;
+pub const LONGEST: usize = 1 << 18;
 
-/// Lines of standard error that are kept.
-const KEPT: usize = 12;
+/// Lines of standard error that are kept, and characters of one.
+pub const KEPT: usize = 12;
+const WIDTH: usize = 200;
 
 /// Lines read ahead.
 const AHEAD: usize = 64;
@@ -47,6 +49,8 @@ struct Errors {
 
 pub struct Process {
     child: Child,
+    /// None once it is ended.
+    group: Option<Group>,
     say: Option<Sender<String>>,
     hear: Receiver<Heard>,
     errors: Arc<Mutex<Errors>>,
@@ -93,7 +97,13 @@ fn keep_errors(pipe: impl Read, errors: &Mutex<Errors>) {
             if errors.lines.len() == KEPT {
                 errors.lines.pop_front();
             }
-            errors.lines.push_back(line.chars().take(200).collect());
+            let cut = if line.chars().count() > WIDTH {
+                ".."
+            } else {
+                ""
+            };
+            let start: String = line.chars().take(WIDTH).collect();
+            errors.lines.push_back(start + cut);
             true
         })
     });
@@ -106,7 +116,7 @@ impl Process {
     /// Starts it; with `shown` its standard error goes where the judge's goes.
     pub fn start(words: &[String], shown: bool) -> Result<Self, String> {
         let (program, arguments) = words.split_first().ok_or("the command is empty")?;
-        let mut child = Command::new(program)
+        let mut child = group::lead(&mut Command::new(program))
             .args(arguments)
             .stdin(Stdio::piped())
             .stdout(Stdio::piped())
@@ -117,6 +127,7 @@ impl Process {
             })
             .spawn()
             .map_err(|error| format!("{program} does not start: {error}"))?;
+        let group = Some(Group::of(&child));
         let (say, said) = channel::<String>();
         let (heard, hear) = sync_channel(AHEAD);
         let errors = Arc::new(Mutex::new(Errors::default()));
@@ -145,6 +156,7 @@ impl Process {
         }
         Ok(Self {
             child,
+            group,
             say: Some(say),
             hear,
             errors,
@@ -185,7 +197,7 @@ impl Process {
             let errors = errors.lock().ok()?;
             errors.ended.then(|| errors.lines.iter().cloned().collect())
         };
-        // A process of its own may hold the pipe open: then what has come so far is all.
+        // A process that left the group may hold the pipe open: then what has come so far is all.
         within_grace(|| lines(&self.errors)).unwrap_or_else(|| {
             let errors = self.errors.lock();
             errors.map_or_else(
@@ -197,6 +209,10 @@ impl Process {
 
     fn kill(&mut self) {
         self.say = None;
+        // Also where the first process has ended: it may have left others behind.
+        if let Some(group) = self.group.take() {
+            group.end();
+        }
         // Both fail only for a process that has ended.
         let _ = self.child.kill();
         let _ = self.child.wait();

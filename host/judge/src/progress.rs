@@ -28,15 +28,12 @@ impl Progress {
         self.start.elapsed().as_secs_f64()
     }
 
-    pub fn streams(&mut self, streams: u64, of: u64, calls: u64) {
-        if !self.shown || self.last.elapsed() < EVERY {
-            return;
+    /// Now and then, what `text` gives.
+    pub fn now_and_then(&mut self, text: impl FnOnce() -> String) {
+        if self.shown && self.last.elapsed() >= EVERY {
+            self.last = Instant::now();
+            self.write(&text());
         }
-        self.last = Instant::now();
-        let rate = calls as f64 / self.seconds();
-        self.write(&format!(
-            "{streams} of {of} streams, {calls} calls, {rate:.0} calls a second"
-        ));
     }
 
     pub fn say(&mut self, what: &str) {

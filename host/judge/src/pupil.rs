@@ -1,7 +1,7 @@
 //! A pupil's keeper: asked call by call, started anew when it broke off.
 
 use crate::answer::{Answer, Reading, Unexpected};
-use crate::process::{Process, Silence};
+use crate::process::{Process, Silence, LONGEST};
 use crate::words::words;
 use keeper_streams::text::Line;
 use std::time::{Duration, Instant};
@@ -14,19 +14,20 @@ pub enum Break {
 }
 
 impl Break {
+    /// One sentence or two, after the word `It`.
     pub fn words(&self) -> String {
         match self {
             Break::Silence(Silence::Waiting, patience) => format!(
-                "gave no whole answer within {} ms; is each answer flushed?",
+                "gave no whole answer within {} ms (--patience). Is each answer flushed?",
                 patience.as_millis()
             ),
-            Break::Silence(Silence::Ended(status), _) => format!("ended ({status})"),
-            Break::Silence(Silence::Closed, _) => "closed its standard output".to_string(),
+            Break::Silence(Silence::Ended(status), _) => format!("ended ({status})."),
+            Break::Silence(Silence::Closed, _) => "closed its standard output.".to_string(),
             Break::Silence(Silence::Endless(start), _) => {
-                format!("wrote a line without an end: {start}..")
+                format!("wrote a line of more than {LONGEST} bytes: {start}..")
             }
             Break::Unexpected(Unexpected { line, expected }) => format!(
-                "wrote `{}` where {} has to stand",
+                "wrote `{}` where {} has to stand.",
                 shortened(line),
                 expected.words()
             ),
@@ -35,11 +36,6 @@ impl Break {
 
     pub fn is_waiting(&self) -> bool {
         matches!(self, Break::Silence(Silence::Waiting, _))
-    }
-
-    /// Whether the judge had to wait to find it out.
-    pub fn took_long(&self) -> bool {
-        self.is_waiting() || matches!(self, Break::Silence(Silence::Closed, _))
     }
 }
 
@@ -61,9 +57,15 @@ pub struct Broken {
     pub errors: Vec<String>,
 }
 
+/// A keeper in a hurry is given so many times its slowest answer, and this at least.
+const TIMES: u32 = 10;
+const LEAST: Duration = Duration::from_millis(500);
+
 pub struct Pupil {
     command: Vec<String>,
     patience: Duration,
+    slowest: Duration,
+    hurried: bool,
     /// Its standard error is shown as it comes.
     shown: bool,
     running: Option<Process>,
@@ -77,10 +79,26 @@ impl Pupil {
         Ok(Self {
             command: words(command)?,
             patience,
+            slowest: Duration::ZERO,
+            hurried: false,
             shown,
             running: None,
             calls: 0,
         })
+    }
+
+    /// Whether an answer is waited for less long, by what the keeper took so far. For tries only: what is reported is
+    /// played again with the whole patience.
+    pub fn hurry(&mut self, hurried: bool) {
+        self.hurried = hurried;
+    }
+
+    fn wait(&self) -> Duration {
+        if self.hurried {
+            self.patience.min(LEAST.max(self.slowest * TIMES))
+        } else {
+            self.patience
+        }
     }
 
     /// The next stream meets a new process.
@@ -109,9 +127,11 @@ impl Pupil {
                 errors: Vec::new(),
             });
         };
+        let start = Instant::now();
         process.say(call.write());
-        match self.answer(&mut process, call) {
+        match self.answer(&mut process, call, start) {
             Ok(answer) => {
+                self.slowest = self.slowest.max(start.elapsed());
                 self.running = Some(process);
                 Ok(answer)
             }
@@ -122,13 +142,14 @@ impl Pupil {
         }
     }
 
-    fn answer(&self, process: &mut Process, call: &Line) -> Result<Answer, Break> {
-        let deadline = Instant::now() + self.patience;
+    fn answer(&self, process: &mut Process, call: &Line, start: Instant) -> Result<Answer, Break> {
+        let patience = self.wait();
+        let deadline = start + patience;
         let mut reading = Reading::new(call);
         while !reading.is_whole() {
             let line = process
                 .hear(deadline)
-                .map_err(|silence| Break::Silence(silence, self.patience))?;
+                .map_err(|silence| Break::Silence(silence, patience))?;
             reading.line(line).map_err(Break::Unexpected)?;
         }
         Ok(reading.whole())

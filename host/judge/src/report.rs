@@ -1,8 +1,10 @@
 //! What the judge says.
 
+use crate::count::count;
 use crate::difference::differences;
 use crate::gloss;
 use crate::names::Names;
+use crate::process::KEPT;
 use crate::pupil::{shortened, Broken};
 use crate::rows::{self, rows, Row};
 use crate::stream::Stream;
@@ -10,7 +12,6 @@ use crate::trial::{Fault, Wrong};
 use crate::value::Value;
 use crate::Found;
 use keeper_streams::text::Line;
-use keeper_values::numbers::kinds;
 use std::fmt::Write;
 
 /// Differences named beside the first.
@@ -19,15 +20,12 @@ const ALSO: usize = 8;
 /// Rows of a table; a longer one has only those that differ.
 const ROWS: usize = 40;
 
-/// The call at a place, by number and kind.
-fn place(stream: &Stream, at: usize) -> String {
-    let what = match (at, stream.kind(at)) {
-        (0, _) => "the opening",
-        (_, Some(kind)) => kinds::name(kind),
-        (_, None) => "question",
-    };
-    format!("call {at}, {what}")
-}
+/// Other kinds of wrong answers that are named.
+const KINDS: usize = 6;
+
+/// Calls of a stream that are shown of its beginning and of its end, and the longest line.
+const CALLS: usize = 12;
+const LINE: usize = 1_000;
 
 fn names(stream: &Stream, fault: &Fault) -> Names {
     let mut ids = stream.ids();
@@ -39,20 +37,50 @@ fn names(stream: &Stream, fault: &Fault) -> Names {
 }
 
 /// The stream in the text form, each call said in words above it.
-pub fn stream_text(stream: &Stream, names: &Names) -> String {
+fn stream_lines(stream: &Stream, names: &Names) -> Vec<(String, String)> {
     let said = stream.calls.iter().map(|call| gloss::call(call, names));
     let said = std::iter::once(gloss::opening(&stream.opening)).chain(said);
+    let lines = said.zip(stream.asked()).enumerate();
+    lines
+        .map(|(at, (said, line))| (format!("# {at} {said}"), line.write()))
+        .collect()
+}
+
+fn stream_text(stream: &Stream, lines: &[(String, String)]) -> String {
     let mut text = Line::Stream(stream.name.clone()).write() + "\n";
-    for (at, (said, line)) in said.zip(stream.asked()).enumerate() {
+    for (said, line) in lines {
         // Writing to a string does not fail.
-        let _ = writeln!(text, "# {at} {said}\n{}", line.write());
+        let _ = writeln!(text, "{said}\n{line}");
+    }
+    text
+}
+
+/// The stream for a reader, without the middle of a long one. What is left out is marked by what is not of the form, so
+/// that a part is not played for the whole.
+fn shown(stream: &Stream, names: &Names) -> String {
+    let mut lines = stream_lines(stream, names);
+    let mut left_out = false;
+    if lines.len() > 2 * CALLS + 1 {
+        let middle = CALLS..lines.len() - CALLS;
+        let gap = format!(".. {} are left out ..", count(middle.len() as u64, "call"));
+        lines.splice(middle, [(gap, "..".to_string())]);
+        left_out = true;
+    }
+    for (_, line) in lines.iter_mut().filter(|(_, line)| line.len() > LINE) {
+        *line = shortened(line);
+        left_out = true;
+    }
+    let mut text = stream_text(stream, &lines);
+    if left_out {
+        text += "\nThis is not the whole stream: `--save FILE` writes it.\n";
     }
     text
 }
 
 /// A stream as `--save` keeps it.
 pub fn saved(found: &Found) -> String {
-    stream_text(&found.stream, &names(&found.stream, &found.fault))
+    let stream = &found.stream;
+    stream_text(stream, &stream_lines(stream, &names(stream, &found.fault)))
 }
 
 fn table(all: &[Row]) -> String {
@@ -84,9 +112,17 @@ fn table(all: &[Row]) -> String {
         text += line.trim_end();
         text.push('\n');
     }
-    let left = all.len() - shown.len();
-    if left > 0 {
-        let _ = writeln!(text, "  {left} more rows are left out");
+    let differing = all.iter().filter(differs).count();
+    if !short {
+        let alike = count((all.len() - differing) as u64, "row");
+        let _ = writeln!(text, "  {alike} without a difference left out");
+    }
+    if !short && differing > ROWS {
+        let more = count((differing - ROWS) as u64, "row");
+        let _ = writeln!(
+            text,
+            "  {more} with a difference left out, {ROWS} are shown"
+        );
     }
     text
 }
@@ -121,9 +157,10 @@ fn difference_text(found: &Found, yours: &[Line], names: &Names) -> (String, Str
 }
 
 fn broken_text(broken: &Broken) -> String {
-    let mut text = format!("It {}.\n", broken.how.words());
+    let mut text = format!("It {}\n", broken.how.words());
     if !broken.errors.is_empty() {
-        let _ = writeln!(text, "The last lines of its standard error:");
+        let most = "The last lines of its standard error";
+        let _ = writeln!(text, "{most}, {KEPT} at most:");
         for line in &broken.errors {
             let _ = writeln!(text, "  {line}");
         }
@@ -132,20 +169,45 @@ fn broken_text(broken: &Broken) -> String {
 }
 
 fn origin(found: &Found) -> String {
-    let (before, after) = (found.met, found.stream.calls.len());
-    let shrunk = if after < before {
-        format!("shrunk from {before} calls after the opening to {after}")
+    let (before, after) = (found.met as u64, found.stream.calls.len() as u64);
+    let mut shrunk = if after < before {
+        let before = count(before, "call");
+        format!("shrunk from {before} after the opening to {after}")
     } else {
-        format!("{after} calls after the opening")
+        format!("{} after the opening", count(after, "call"))
     };
+    if let Some(time) = found.out_of_time {
+        let seconds = count(time.as_secs(), "second");
+        let _ = write!(shrunk, ", cut off after {seconds} (--shrink)");
+    }
     format!("The stream, {shrunk}; met in \"{}\":", found.from)
+}
+
+/// A line on the other kinds that were met.
+fn others(found: &Found) -> String {
+    let were = match found.others.len() {
+        0 => return String::new(),
+        1 => "1 other kind of wrong answer was met".to_string(),
+        more => format!("{more} other kinds of wrong answers were met"),
+    };
+    let more = match found.others.len().saturating_sub(KINDS) {
+        0 => String::new(),
+        more => format!("; and {more} more"),
+    };
+    let named: Vec<&str> = found
+        .others
+        .iter()
+        .take(KINDS)
+        .map(String::as_str)
+        .collect();
+    format!("{were}: {}{more}.\n", named.join("; "))
 }
 
 /// The whole report of a wrong answer.
 pub fn found(found: &Found) -> String {
     let (stream, fault) = (&found.stream, &found.fault);
     let names = names(stream, fault);
-    let place = place(stream, fault.at);
+    let place = format!("call {}, {}", fault.at, stream.call_name(fault.at));
     let core = || text_form("core ", fault.core.iter().map(Line::write));
     let (title, head, tail) = match &fault.wrong {
         Wrong::Differs(yours) => {
@@ -178,9 +240,6 @@ pub fn found(found: &Found) -> String {
         "It answers this stream rightly in a new process: something is kept from one `stream` line \
          to the next, or an answer is left to chance. Nothing was shrunk.\n"
     };
-    let text = stream_text(stream, &names);
-    format!(
-        "{title}\n\n{head}{alone}\n{}\n\n{text}\n{tail}",
-        origin(found)
-    )
+    let (others, origin, text) = (others(found), origin(found), shown(stream, &names));
+    format!("{title}\n\n{head}{alone}{others}\n{origin}\n\n{text}\n{tail}")
 }

@@ -37,6 +37,37 @@ pub enum Field {
     Length,
 }
 
+impl Field {
+    pub fn name(self) -> &'static str {
+        match self {
+            Field::Number => "number",
+            Field::Outcome => "outcome",
+            Field::Retried => "retried",
+            Field::Fresh => "fresh",
+            Field::Abandoned => "abandoned",
+            Field::Forgotten => "forgotten",
+            Field::Command => "command",
+            Field::Mode => "mode",
+            Field::SyncPeer => "sync peer",
+            Field::LastClock => "last clock",
+            Field::LastProgress => "last progress",
+            Field::LastSend => "last send",
+            Field::SendsCounted => "sends counted",
+            Field::Downloaded => "downloaded height",
+            Field::KnownTip => "known tip",
+            Field::ProgressMark => "progress mark",
+            Field::EntryMark => "entry mark",
+            Field::Stalled => "stalled",
+            Field::Evicted => "evicted",
+            Field::Pending => "pending id",
+            Field::Pairs => "pairs",
+            Field::PendingCount => "count of pending",
+            Field::EvictedCount => "count of evicted",
+            Field::Length => "length",
+        }
+    }
+}
+
 /// A field; which command or which pending id, where there are several.
 type Key = (Field, Id);
 
@@ -89,38 +120,22 @@ fn state_facts(state: &State, names: &Names) -> Facts {
     };
     let stalled = state.stalled.iter().map(u64::to_string).collect();
     let fields = [
-        (Field::Mode, "mode", text(state.mode.name())),
-        (Field::SyncPeer, "sync peer", sync_peer),
-        (Field::LastClock, "last clock", text(state.last_clock)),
-        (
-            Field::LastProgress,
-            "last progress",
-            text(state.last_progress),
-        ),
-        (Field::LastSend, "last send", text(state.last_send)),
-        (
-            Field::SendsCounted,
-            "sends counted",
-            text(state.sends_counted),
-        ),
-        (
-            Field::Downloaded,
-            "downloaded height",
-            text(state.downloaded),
-        ),
-        (Field::KnownTip, "known tip", text(state.known_tip)),
-        (
-            Field::ProgressMark,
-            "progress mark",
-            mark(state.progress_mark),
-        ),
-        (Field::EntryMark, "entry mark", mark(state.entry_mark)),
-        (Field::Stalled, "stalled", list(stalled)),
-        (Field::Evicted, "evicted", list(names.ids(&state.evicted))),
+        (Field::Mode, text(state.mode.name())),
+        (Field::SyncPeer, sync_peer),
+        (Field::LastClock, text(state.last_clock)),
+        (Field::LastProgress, text(state.last_progress)),
+        (Field::LastSend, text(state.last_send)),
+        (Field::SendsCounted, text(state.sends_counted)),
+        (Field::Downloaded, text(state.downloaded)),
+        (Field::KnownTip, text(state.known_tip)),
+        (Field::ProgressMark, mark(state.progress_mark)),
+        (Field::EntryMark, mark(state.entry_mark)),
+        (Field::Stalled, list(stalled)),
+        (Field::Evicted, list(names.ids(&state.evicted))),
     ];
-    let fields = fields.map(|(field, name, value)| ((field, ONE), (name.to_string(), value)));
+    let fields = fields.map(|(field, value)| ((field, ONE), (field.name().to_string(), value)));
     let pending = state.pending.iter().map(|(id, request)| {
-        let name = format!("pending id {}", names.id(id));
+        let name = format!("{} {}", Field::Pending.name(), names.id(id));
         ((Field::Pending, *id), (name, request_value(request)))
     });
     fields.into_iter().chain(pending).collect()
@@ -128,27 +143,27 @@ fn state_facts(state: &State, names: &Names) -> Facts {
 
 /// After `open` the number, after `ask` number and length, after `step` all nine.
 fn number_facts(numbers: &[u32]) -> Facts {
-    const FIELDS: [(Field, &str); 9] = [
-        (Field::Number, "number"),
-        (Field::Outcome, "outcome"),
-        (Field::Retried, "retried"),
-        (Field::Fresh, "fresh"),
-        (Field::Abandoned, "abandoned"),
-        (Field::Forgotten, "forgotten"),
-        (Field::PendingCount, "count of pending"),
-        (Field::EvictedCount, "count of evicted"),
-        (Field::Length, "length"),
+    const FIELDS: [Field; 9] = [
+        Field::Number,
+        Field::Outcome,
+        Field::Retried,
+        Field::Fresh,
+        Field::Abandoned,
+        Field::Forgotten,
+        Field::PendingCount,
+        Field::EvictedCount,
+        Field::Length,
     ];
     let fields = match numbers.len() {
-        2 => vec![FIELDS[0], FIELDS[8]],
+        2 => vec![Field::Number, Field::Length],
         _ => FIELDS.to_vec(),
     };
-    let fact = |((field, name), number): ((Field, &str), &u32)| {
+    let fact = |(field, number): (Field, &u32)| {
         let value = match field {
             Field::Outcome => outcome(*number),
             _ => number.to_string(),
         };
-        ((field, ONE), (name.to_string(), Value::Text(value)))
+        ((field, ONE), (field.name().to_string(), Value::Text(value)))
     };
     fields.into_iter().zip(numbers).map(fact).collect()
 }
@@ -170,13 +185,14 @@ fn facts(answer: &[Line], names: &Names) -> Facts {
         match line {
             Line::Answer(numbers) => facts.extend(number_facts(numbers)),
             Line::Command(command) => {
-                let said = (format!("command {commands}"), command_value(command, names));
+                let name = format!("{} {commands}", Field::Command.name());
+                let said = (name, command_value(command, names));
                 facts.insert((Field::Command, nth(commands)), said);
                 commands += 1;
             }
             Line::State(state) => facts.extend(state_facts(state, names)),
             Line::Pairs(bytes) => {
-                let said = ("pairs".to_string(), pairs_value(bytes, names));
+                let said = (Field::Pairs.name().to_string(), pairs_value(bytes, names));
                 facts.insert((Field::Pairs, ONE), said);
             }
             _ => {}

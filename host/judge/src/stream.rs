@@ -1,6 +1,7 @@
 //! A stream as a pupil meets it: an opening, then steps and questions. No state is put in and no byte is damaged.
 
 use keeper_streams::text::Line;
+use keeper_values::numbers::kinds;
 use keeper_values::{Arguments, Id, Settings};
 
 #[derive(Debug, Clone, Copy, PartialEq, Eq)]
@@ -65,6 +66,20 @@ impl Stream {
     /// The kind of the step at this place; none for the opening and a question.
     pub fn kind(&self, at: usize) -> Option<u8> {
         self.calls.get(at.checked_sub(1)?)?.kind()
+    }
+
+    /// What the call at this place is.
+    pub fn call_name(&self, at: usize) -> &'static str {
+        match (at, self.kind(at)) {
+            (0, _) => "the opening",
+            (_, Some(kind)) => kinds::name(kind),
+            (_, None) => "question",
+        }
+    }
+
+    /// The length of its text, which grows with its calls and with their lists: the shorter stream is the simpler one.
+    pub fn length(&self) -> usize {
+        self.asked().iter().map(|line| line.write().len()).sum()
     }
 
     /// Every id in its lists.

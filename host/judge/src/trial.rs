@@ -5,6 +5,7 @@ use crate::stream::Stream;
 use keeper_core::Core;
 use keeper_play::Player;
 use keeper_streams::text::Line;
+use std::time::Instant;
 
 /// What is wrong with an answer.
 #[derive(Debug, Clone, PartialEq, Eq)]
@@ -31,11 +32,28 @@ fn written_so(texts: &[String], expected: &[Line]) -> bool {
     texts.iter().cloned().eq(expected.iter().map(Line::write))
 }
 
-/// Plays a stream. An error is the judge's own: the keeper does not start.
-pub fn play(pupil: &mut Pupil, stream: &Stream) -> Result<Option<Fault>, String> {
+impl Fault {
+    /// The number by which the core turns the call back, if it does.
+    pub fn refusal(&self) -> Option<u32> {
+        match self.core.first() {
+            Some(Line::Answer(numbers)) => numbers.first().copied().filter(|number| *number != 0),
+            _ => None,
+        }
+    }
+}
+
+/// Plays a stream up to its end, a wrong answer or the deadline. An error is the judge's own: the keeper does not start.
+pub fn play(
+    pupil: &mut Pupil,
+    stream: &Stream,
+    deadline: Option<Instant>,
+) -> Result<Option<Fault>, String> {
     pupil.begin(&stream.name)?;
     let mut core = Player::new(&Core);
     for (at, call) in stream.asked().iter().enumerate() {
+        if deadline.is_some_and(|deadline| Instant::now() >= deadline) {
+            return Ok(None);
+        }
         let expected = core.play(call)?;
         let wrong = match pupil.ask(call) {
             Err(broken) => Wrong::Broken(broken),

@@ -3,10 +3,9 @@
 
 mod common;
 
-use common::{before_the_right_one, broken, few_streams, judged, Scratch};
-use keeper_judge::{judge, Options, Wrong};
+use common::{before_the_right_one, broken, few_streams, judged, writing_on, Scratch, DRAW};
+use keeper_judge::{judge, streams, Options, Wrong};
 use std::fs;
-use std::process::Command;
 use std::time::{Duration, Instant};
 
 #[test]
@@ -35,14 +34,19 @@ fn hangs() {
     let (found, broken, report) = broken("sleep 100");
     assert_eq!(found.fault.at, 0);
     assert!(broken.how.is_waiting());
-    assert!(report.contains("no whole answer within 300 ms"));
+    assert!(report
+        .contains("It gave no whole answer within 300 ms (--patience). Is each answer flushed?\n"));
     assert!(start.elapsed() < Duration::from_secs(20));
 }
 
 #[test]
 fn closes_its_output() {
     let (_, broken, report) = broken("sh -c 'exec >&-; exec sleep 100'");
-    assert_eq!(broken.how.words(), "closed its standard output", "{report}");
+    assert_eq!(
+        broken.how.words(),
+        "closed its standard output.",
+        "{report}"
+    );
 }
 
 #[test]
@@ -64,7 +68,7 @@ fn writes_nonsense() {
         ("yes '= -1'", "wrote `= -1` where"),
         ("yes ''", "wrote `` where"),
         ("cat", "wrote `stream "),
-        ("cat /dev/zero", "a line without an end"),
+        ("cat /dev/zero", "a line of more than 262144 bytes"),
     ] {
         let (_, broken, report) = broken(command);
         assert!(report.contains(says), "{command}: {report}");
@@ -108,7 +112,8 @@ fn something_kept_from_stream_to_stream() {
     let (verdict, report) = judged(&format!("sh '{}'", file.0.display()), &few_streams());
     let found = verdict.found.expect("it is found");
     assert!(!found.alone, "{report}");
-    assert_eq!(verdict.streams, 4);
+    let mut all = streams(DRAW).map(|stream| stream.expect("the core plays it").name);
+    assert_eq!(Some(found.from), all.nth(3), "the first one is shown");
     assert!(report.contains("something is kept from one `stream` line to the next"));
 }
 
@@ -121,34 +126,13 @@ fn does_not_start() {
     assert!(out.is_empty());
 }
 
-/// The program's status and standard output.
-fn program(words: &[&str]) -> (Option<i32>, String) {
-    let judge = Command::new(env!("CARGO_BIN_EXE_keeper_judge"))
-        .args(words)
-        .output();
-    let output = judge.expect("the judge starts");
-    let text = String::from_utf8(output.stdout).expect("text");
-    (output.status.code(), text)
-}
-
 #[test]
-fn exit_status() {
-    let few = ["--streams", "0", "--patience", "20000"];
-    let judged = |command: &str| program(&[&[command], &few[..]].concat());
-    let (status, report) = judged(&common::shipped("older-stamp"));
-    assert_eq!(status, Some(1));
-    assert!(report.starts_with("Your keeper differs"));
-    assert_eq!(judged("sh -c 'exit 0'").0, Some(1));
-    assert_eq!(judged("no-such-keeper-anywhere").0, Some(2));
-    assert_eq!(program(&[]).0, Some(2));
-    assert_eq!(program(&["cat", "--unknown"]).0, Some(2));
-    assert_eq!(program(&["cat", "--replay", "/no/such/file"]).0, Some(2));
-}
-
-#[test]
-fn the_fixed_list_can_be_played() {
-    let list = concat!(env!("CARGO_MANIFEST_DIR"), "/../fixed/streams.txt");
-    let (status, report) = program(&[&common::shipped("none"), "--replay", list]);
-    assert_eq!(status, Some(0));
-    assert!(report.contains("streams left out"));
+fn nothing_is_left_behind() {
+    let file = Scratch::new("alive");
+    let (_, broken, _) = broken(&writing_on(&file));
+    assert!(broken.how.is_waiting());
+    let length = || fs::metadata(&file.0).map(|file| file.len());
+    let before = length().expect("it was started");
+    std::thread::sleep(Duration::from_millis(400));
+    assert_eq!(length().expect("the file stays"), before);
 }

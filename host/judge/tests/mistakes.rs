@@ -2,16 +2,9 @@
 
 mod common;
 
-use common::{few_streams, judged, shipped, Scratch};
-use keeper_judge::{streams, Draw, Options, Wrong};
+use common::{few_streams, judged, page_says, shipped, Scratch, DRAW};
+use keeper_judge::{streams, Options, Wrong};
 use std::fs;
-
-const DRAW: Draw = Draw {
-    streams: 0,
-    seed: 1,
-    steps: 200,
-    questions: true,
-};
 
 /// Caught by the directed streams; the report says this; the saved stream tells it from the right ones.
 fn caught(mistake: &str, says: &[&str]) {
@@ -26,7 +19,7 @@ fn caught(mistake: &str, says: &[&str]) {
     assert!(found.alone);
     assert!(matches!(found.fault.wrong, Wrong::Differs(_)));
     assert_eq!(found.fault.at, found.stream.calls.len(), "cut after it");
-    assert!(found.stream.calls.len() <= 8, "{report}");
+    page_says(mistake, found.stream.calls.len());
     for text in says {
         assert!(report.contains(text), "{text}: {report}");
     }

@@ -1,16 +1,19 @@
-//! Keepers to try the judge on, one for each mistake of the class. They speak the text form on standard input and
+//! Keepers to try the judge on, one for each mistake. They speak the text form on standard input and
 //! output, as a pupil's keeper has to.
 
 use keeper_core::Core;
 use keeper_play::Player;
-use keeper_reference::Reference;
+use keeper_reference::{delivery, steps, Reference, Rules, PLAIN};
 use keeper_streams::text::Line;
+use keeper_values::numbers::limits;
 use keeper_values::Keeper;
 use std::io::{stdin, stdout, BufRead, Write};
 use std::process::ExitCode;
+use std::thread::sleep;
+use std::time::Duration;
 
-/// A word for each mistake, and the fault by which `keeper_variants` knows it.
-const MISTAKES: [(&str, &str); 4] = [
+/// A word for each mistake of the class, and the fault by which `keeper_variants` knows it.
+const CLASS: [(&str, &str); 4] = [
     ("older-stamp", "a retry keeps its older stamp"),
     (
         "no-check-behind-a-shut-gate",
@@ -26,12 +29,56 @@ const MISTAKES: [(&str, &str); 4] = [
     ),
 ];
 
+/// Mistakes whose first wrong answer is a bad one to show: after many calls, with many ids, or none at all.
+const LATE: [(&str, &str, Rules); 3] = [
+    (
+        "never-eleven",
+        "a 257th stalled peer is passed over",
+        Rules {
+            join_stalled: |run| {
+                if run.state.stalled.len() < limits::STALLED {
+                    steps::join_stalled(run);
+                }
+            },
+            ..PLAIN
+        },
+    ),
+    (
+        "hangs-in-a-reorg",
+        "a reorg is never answered",
+        Rules {
+            reorg: |_| loop {
+                sleep(Duration::from_secs(60));
+            },
+            ..PLAIN
+        },
+    ),
+    (
+        "evicted-emptied-when-idle",
+        "a reorg empties the evicted list when nothing is pending",
+        Rules {
+            purge_all: |run| {
+                if run.state.pending.is_empty() {
+                    run.state.evicted.clear();
+                }
+                delivery::purge_all(run);
+            },
+            ..PLAIN
+        },
+    ),
+];
+
 fn usage() -> String {
-    let mut text = "usage: faulty_keeper MISTAKE, one of\n".to_string();
-    for (word, fault) in MISTAKES {
-        text += &format!("  {word:28} {fault}\n");
+    let late = LATE.iter().map(|(word, fault, _)| (*word, *fault));
+    let right = [
+        ("none", "no mistake: the reference"),
+        ("core", "no mistake: the proved core"),
+    ];
+    let mut text = "usage: faulty_keeper MISTAKE, one of".to_string();
+    for (word, fault) in CLASS.into_iter().chain(late).chain(right) {
+        text += &format!("\n  {word:28} {fault}");
     }
-    text + "  none                         no mistake: the reference\n  core                         no mistake: the proved core"
+    text
 }
 
 fn keeper(mistake: &str) -> Option<Box<dyn Keeper>> {
@@ -40,7 +87,10 @@ fn keeper(mistake: &str) -> Option<Box<dyn Keeper>> {
         "none" => return Some(Box::new(Reference::plain())),
         _ => {}
     }
-    let (_, fault) = MISTAKES.iter().find(|(word, _)| *word == mistake)?;
+    if let Some((_, _, rules)) = LATE.iter().find(|(word, ..)| *word == mistake) {
+        return Some(Box::new(Reference { rules: *rules }));
+    }
+    let (_, fault) = CLASS.iter().find(|(word, _)| *word == mistake)?;
     let variant = keeper_variants::all()
         .into_iter()
         .find(|variant| variant.fault == *fault)?;
@@ -67,13 +117,17 @@ fn speak(keeper: &dyn Keeper) -> Result<(), String> {
 
 fn main() -> ExitCode {
     let mistake = std::env::args().nth(1).unwrap_or_default();
+    if mistake == "--help" {
+        println!("{}", usage());
+        return ExitCode::SUCCESS;
+    }
     let spoken = keeper(&mistake)
-        .ok_or_else(usage)
+        .ok_or_else(|| format!("no mistake `{mistake}`; `faulty_keeper --help` names them"))
         .and_then(|keeper| speak(keeper.as_ref()));
     match spoken {
         Ok(()) => ExitCode::SUCCESS,
         Err(fault) => {
-            eprintln!("{fault}");
+            eprintln!("faulty_keeper: {fault}");
             ExitCode::from(2)
         }
     }

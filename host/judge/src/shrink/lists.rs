@@ -1,6 +1,6 @@
 //! Lists made shorter, entry by entry.
 
-use super::Shrinker;
+use super::{Shrinker, ROUGH};
 use crate::stream::{Call, VIEW_HEAD, VIEW_ROW};
 use keeper_values::Arguments;
 
@@ -15,6 +15,12 @@ const LISTS: [(ListOf, usize, usize); 5] = [
     (|step| &mut step.view, VIEW_HEAD, VIEW_ROW),
 ];
 
+pub fn empty_all(step: &mut Arguments) {
+    for (of, head, _) in LISTS {
+        of(step).truncate(head);
+    }
+}
+
 impl Shrinker<'_> {
     fn entries(&mut self, call: usize, list: usize) -> usize {
         let (of, head, width) = LISTS[list];
@@ -24,11 +30,16 @@ impl Shrinker<'_> {
         }
     }
 
-    /// Drops runs of entries of one list, long ones first, from the end.
-    fn shorten(&mut self, call: usize, list: usize) -> Result<(), String> {
+    /// Drops runs of entries of one list, long ones first, from the end; the shortest are this part of the list.
+    fn shorten(&mut self, call: usize, list: usize, parts: usize) -> Result<(), String> {
         let (of, head, width) = LISTS[list];
         let mut run = self.entries(call, list);
-        while run > 0 {
+        // The big bites of a short list are small ones of the stream.
+        if parts == ROUGH && run < ROUGH {
+            return Ok(());
+        }
+        let least = (run / parts).max(1);
+        while run >= least {
             let mut end = self.entries(call, list);
             while end > 0 {
                 let start = end.saturating_sub(run);
@@ -36,7 +47,11 @@ impl Shrinker<'_> {
                 let candidate = self.changed(call, |step| {
                     of(step).drain(dropped);
                 });
-                self.keeps(candidate)?;
+                if parts == ROUGH {
+                    self.keeps(candidate)?;
+                } else {
+                    self.keeps_small(candidate)?;
+                }
                 end = start.min(self.entries(call, list));
             }
             run /= 2;
@@ -44,11 +59,11 @@ impl Shrinker<'_> {
         Ok(())
     }
 
-    pub(super) fn shorten_lists(&mut self) -> Result<(), String> {
+    pub(super) fn shorten_lists(&mut self, parts: usize) -> Result<(), String> {
         let mut call = 0;
-        while call < self.best.calls.len() {
+        while call < self.best.calls.len() && !self.gives_up() {
             for list in 0..LISTS.len() {
-                self.shorten(call, list)?;
+                self.shorten(call, list, parts)?;
             }
             call += 1;
         }

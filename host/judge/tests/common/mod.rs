@@ -2,7 +2,7 @@
 
 #![allow(dead_code)]
 
-use keeper_judge::{judge, Broken, Found, Options, Verdict, Wrong};
+use keeper_judge::{judge, Broken, Draw, Found, Options, Verdict, Wrong};
 use std::path::PathBuf;
 use std::time::Duration;
 
@@ -17,10 +17,20 @@ pub fn before_the_right_one(script: &str) -> String {
     format!("sh -c \"{script} | '{keeper}' none\"")
 }
 
+/// The directed streams.
+pub const DRAW: Draw = Draw {
+    streams: 0,
+    seed: 1,
+    steps: 200,
+    questions: true,
+};
+
+/// Up to the first wrong answer, so that no clock has a say in what comes out.
 pub fn few_streams() -> Options {
     Options {
         streams: 20,
         patience: Duration::from_secs(20),
+        go_on: Duration::ZERO,
         ..Options::default()
     }
 }
@@ -29,6 +39,25 @@ pub fn judged(command: &str, options: &Options) -> (Verdict, String) {
     let mut out = Vec::new();
     let verdict = judge(command, options, &mut out).expect("the keeper starts");
     (verdict, String::from_utf8(out).expect("a report is text"))
+}
+
+/// A keeper that does not answer, and whose other process would write on into this file for some seconds.
+pub fn writing_on(file: &Scratch) -> String {
+    let name = file.0.display();
+    let numbers = "0 1 2 3 4 5 6 7 8 9";
+    let script = format!("echo on >> {name}; sleep 0.05");
+    let script = format!("for n in {numbers}; do for m in {numbers}; do {script}; done; done");
+    format!("sh -c '{script} & wait'")
+}
+
+/// The page tells that this mistake is shown with so many calls.
+pub fn page_says(mistake: &str, calls: usize) {
+    let page = include_str!("../../../../docs/JUDGE.md");
+    let row = page
+        .lines()
+        .find(|line| line.starts_with(&format!("| `{mistake}` |")));
+    let row = row.expect("the page names the mistake");
+    assert!(row.ends_with(&format!("| {calls} calls |")), "{row}");
 }
 
 /// What a keeper that breaks off is reported with.
