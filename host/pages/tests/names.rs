@@ -63,8 +63,14 @@ fn every_edit_fits_its_crate() {
 fn an_edit_that_does_not_fit_is_noticed() {
     let folder = root().join("crates/steps");
     let cases = [
-        ("file: src/lib.rt\nold: pub fn run(\nnew: pub fn walk(", true),
-        ("file: src/lib.rt\nold: pub fn walk(\nnew: pub fn run(", false),
+        (
+            "file: src/lib.rt\nold: pub fn run(\nnew: pub fn walk(",
+            true,
+        ),
+        (
+            "file: src/lib.rt\nold: pub fn walk(\nnew: pub fn run(",
+            false,
+        ),
         ("file: src/lib.rt\nold: ghost use\nnew: use", false),
         ("file: src/gone.rt\nold: a\nnew: b", false),
         ("file: src/lib.rt", false),
