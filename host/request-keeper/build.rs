@@ -13,8 +13,9 @@ use std::{env, fs};
 const HELP: &str = "put rt on the path or its path into RT, so that `rt staticlib request_keeper` \
 can build it, or name a built librequest_keeper.a, by its whole path, in REQUEST_KEEPER_LIB";
 
-/// Tells people who wait at a terminal. Cargo keeps a build script's output to itself unless it is run with `-vv`.
+/// Tells people who wait, at the terminal itself: cargo keeps a build script's output back unless it is run with `-vv`.
 fn tell(verb: &str, what: &str) {
+    eprintln!("{verb} {what}");
     if let Ok(mut terminal) = OpenOptions::new().write(true).open("/dev/tty") {
         // Over cargo's bar, which it draws again below.
         let _ = writeln!(terminal, "\r\x1b[K{verb:>12} {what}");

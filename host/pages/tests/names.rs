@@ -11,9 +11,12 @@ fn root() -> PathBuf {
 }
 
 fn pages(root: &Path) -> Vec<PathBuf> {
-    let docs = fs::read_dir(root.join("docs")).expect("there is a folder docs");
-    let listed = docs.map(|entry| entry.expect("a page").path());
-    let mut pages: Vec<PathBuf> = listed.collect();
+    let mut pages = Vec::new();
+    for folder in ["docs", "docs/changes"] {
+        let entries = fs::read_dir(root.join(folder)).expect("there is such a folder");
+        let listed = entries.map(|entry| entry.expect("a page").path());
+        pages.extend(listed.filter(|path| path.is_file()));
+    }
     pages.extend(
         ["README.md", "host/README.md", "host/fixed/README.md"].map(|page| root.join(page)),
     );
