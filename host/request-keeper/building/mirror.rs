@@ -1,5 +1,5 @@
-//! Copies of files and folders. Contents alone are copied: the sources may be read-only, the copies must not be. A file that
-//! is the same already is left alone; each function says whether it changed anything.
+//! Copies of files and folders. Contents alone are copied: the sources may be read-only, the copies must not be. A file
+//! that is the same already is left alone; each function says whether it changed anything.
 
 use std::fs;
 use std::io::{ErrorKind, Result};

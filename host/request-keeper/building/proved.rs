@@ -1,7 +1,7 @@
 //! What was proved before, here or elsewhere.
 //!
-//! `rt` keeps for each crate target/rlib/NAME.rlib and target/stamp/NAME, which says of what sources it was made, with which
-//! kit. It proves a crate anew whose stamp is not that of its sources, so that nothing is lost by a stamp that does not fit.
+//! `rt` keeps for each crate target/rlib/NAME.rlib and target/stamp/NAME, which says of what sources it was made, with
+//! which kit. It proves a crate anew whose stamp is not that of its sources, so that one that does not fit does no harm.
 
 use super::{fault, mirror, Places};
 use std::fs;

@@ -69,6 +69,7 @@ mod step_shown;
 mod surroundings;
 mod values;
 mod view;
+mod view_shown;
 
 pub use answer::{Answer, Outcome};
 pub use command::{Command, Commands, Message};

@@ -1,10 +1,8 @@
-use crate::{Hex, Id, ModifierType, Refusal};
-use std::fmt::{self, Debug, Display, Formatter};
+use crate::{Id, ModifierType, Refusal};
 
 const FIRST: usize = 4;
 const ROW: usize = 103;
-const PLACE: usize = 34;
-const ABSENT: u8 = 255;
+pub(crate) const ABSENT: u8 = 255;
 const MOST_SECTIONS: usize = 3;
 /// Heights that are requested at a time.
 const WINDOW: u32 = 192;
@@ -18,27 +16,10 @@ pub struct Section {
     pub stored: bool,
 }
 
-impl Debug for Section {
-    fn fmt(&self, out: &mut Formatter<'_>) -> fmt::Result {
-        out.debug_struct("Section")
-            .field("modifier_type", &self.modifier_type)
-            .field("id", &Hex(&self.id))
-            .field("stored", &self.stored)
-            .finish()
-    }
-}
-
-impl Display for Section {
-    fn fmt(&self, out: &mut Formatter<'_>) -> fmt::Result {
-        let stored = if self.stored { "stored" } else { "missing" };
-        write!(out, "{} {} {stored}", self.modifier_type, Hex(&self.id))
-    }
-}
-
 /// What chain and store say of the heights from a first one on. Rows are added for one height after another.
 ///
-/// A view has no malformed row: what a row can't say is turned back as [`Refusal::View`] where it is added, and the view is
-/// left as it was.
+/// A view has no malformed row: what a row can't say is turned back as [`Refusal::View`] where it is added, and the view
+/// is left as it was.
 ///
 /// ```
 /// use request_keeper::{ModifierType, Refusal, Section, View};
@@ -134,10 +115,15 @@ impl View {
     }
 
     /// The height of the first row.
-    fn first(&self) -> u32 {
+    pub(crate) fn first(&self) -> u32 {
         self.bytes
             .first_chunk()
             .map_or(0, |first| u32::from_be_bytes(*first))
+    }
+
+    /// The rows' bytes, one after another.
+    pub(crate) fn row_bytes(&self) -> impl Iterator<Item = &[u8]> {
+        self.bytes.get(FIRST..).unwrap_or_default().chunks(ROW)
     }
 
     /// How many heights have a row.
@@ -151,49 +137,6 @@ impl View {
             return &[0; 4];
         }
         &self.bytes
-    }
-}
-
-impl Display for View {
-    fn fmt(&self, out: &mut Formatter<'_>) -> fmt::Result {
-        let first = u64::from(self.first());
-        match self.rows() as u64 {
-            0 => out.write_str("no heights"),
-            rows => write!(out, "heights {first} to {}", first + rows - 1),
-        }
-    }
-}
-
-impl Debug for View {
-    fn fmt(&self, out: &mut Formatter<'_>) -> fmt::Result {
-        let rows = self.bytes.get(FIRST..).unwrap_or_default();
-        let rows: Vec<_> = rows.chunks(ROW).map(Row).collect();
-        out.debug_struct("View")
-            .field("first", &self.first())
-            .field("rows", &rows)
-            .finish()
-    }
-}
-
-/// A row's bytes, to be shown.
-struct Row<'a>(&'a [u8]);
-
-impl Debug for Row<'_> {
-    fn fmt(&self, out: &mut Formatter<'_>) -> fmt::Result {
-        let (count, places) = match self.0.split_first() {
-            Some((&count, places)) if count != ABSENT => (usize::from(count), places),
-            _ => return out.write_str("absent"),
-        };
-        let section = |place: &[u8]| {
-            let (modifier_type, rest) = place.split_first()?;
-            Some(Section {
-                modifier_type: ModifierType::from_byte(*modifier_type),
-                id: *rest.first_chunk()?,
-                stored: place.last() == Some(&1),
-            })
-        };
-        let sections = places.chunks(PLACE).take(count).filter_map(section);
-        out.debug_list().entries(sections).finish()
     }
 }
 
