@@ -3,7 +3,7 @@
 #[path = "building/mod.rs"]
 mod building;
 
-use building::{archive, watched, Places};
+use building::{archive, room, watched, Places};
 use std::fs::OpenOptions;
 use std::io::Write;
 use std::path::{Path, PathBuf};
@@ -46,7 +46,7 @@ fn built(root: &Path, out: &Path) -> Result<PathBuf, String> {
     let rt = env::var("RT").unwrap_or_else(|_| "rt".to_string());
     let places = Places {
         root,
-        room: &out.join("proving"),
+        room: &room(root, out),
         others: other_rooms(out),
         rt: &rt,
     };

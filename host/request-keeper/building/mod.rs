@@ -1,7 +1,7 @@
 //! Builds the static library with `rt` in a room of cargo's own, and leaves the sources alone.
 //!
 //! `rt` works on the repository that it stands in. So what `request_keeper` needs of it is copied into the room, and what
-//! is proved there stays for the next build.
+//! is proved there stays for the next build. Where cargo's folder is in the repository itself, the room is the repository.
 
 mod listed;
 mod mirror;
@@ -35,6 +35,16 @@ pub fn fault(path: &Path) -> impl FnOnce(std::io::Error) -> String + '_ {
     move |error| format!("{}: {error}", path.display())
 }
 
+/// Where to build, for cargo's folder `out`. `rt ci` refuses a repository that has files of Rattle outside its crates, as a
+/// room inside it would be; and a repository that cargo writes to is not read-only.
+pub fn room(root: &Path, out: &Path) -> PathBuf {
+    let within = |out: PathBuf| root.canonicalize().is_ok_and(|root| out.starts_with(root));
+    match out.canonicalize().is_ok_and(within) {
+        true => root.to_path_buf(),
+        false => out.join("proving"),
+    }
+}
+
 /// What a change of has to lead to a new build.
 pub fn watched(root: &Path) -> Result<Vec<PathBuf>, String> {
     let list = root.join("crates.txt");
@@ -51,15 +61,18 @@ pub fn watched(root: &Path) -> Result<Vec<PathBuf>, String> {
 /// The archive of the crate `request_keeper`, made of the sources at the root as they are now.
 pub fn archive(places: &Places<'_>, tell: &mut Tell<'_>) -> Result<PathBuf, String> {
     let crates = listed::needed(&places.root.join("crates.txt"), CRATE)?;
+    let names: Vec<&str> = crates.iter().map(|(name, _)| name.as_str()).collect();
+    let built = proved::archive_in(places.room);
+    if places.room == places.root {
+        return proven(places, &names, tell).map(|()| built);
+    }
     let version = said(places, "version")?;
     let made = proved::begin(places.room)?;
     let changed = copied(places, &crates)?;
-    let built = proved::archive_in(places.room);
     if changed || made.as_ref() != Some(&version) {
         if let Some(archive) = proved::archive_of_another(places, &version) {
             mirror::write(&built, &archive).map_err(fault(&built))?;
         } else {
-            let names: Vec<&str> = crates.iter().map(|(name, _)| name.as_str()).collect();
             proved::take(places, &names);
             proven(places, &names, tell)?;
         }
