@@ -79,18 +79,11 @@ impl World {
             Wake::Reorg(fork_point) => downloaded.min(*fork_point),
             _ => downloaded,
         };
-        let whole = View::of_chain(from, self.chain_height, |height| self.row(height))?;
-        let Some(most) = self.most_rows.filter(|most| *most < whole.rows()) else {
-            return Ok(whole);
-        };
-        let mut short = View::from_height(from.saturating_add(1));
-        for height in (from..self.chain_height).map(|below| below + 1).take(most) {
-            match self.row(height) {
-                Some(sections) => short.push_header(&sections)?,
-                None => short.push_absent()?,
-            }
-        }
-        Ok(short)
+        let most = self
+            .most_rows
+            .map(|rows| u32::try_from(rows).unwrap_or(u32::MAX));
+        let cut = most.map_or(u32::MAX, |rows| from.saturating_add(rows));
+        View::of_chain(from, self.chain_height.min(cut), |height| self.row(height))
     }
 
     /// The stored pairs that a step may read (docs/SHELL.md, "What a step is lent").
