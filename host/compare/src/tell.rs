@@ -32,6 +32,17 @@ pub fn streams(lines: &[Line]) -> Vec<(&str, &[Line])> {
     starts.windows(2).map(part).collect()
 }
 
+/// The variants that no recorded stream tells. A variant is played up to the first stream that does.
+pub fn untold(variants: &[Variant], lines: &[Line]) -> Vec<Variant> {
+    let streams = streams(lines);
+    let tells = |variant: &Variant| {
+        let mut parts = streams.iter();
+        parts.any(|(_, part)| told_apart(&variant.keeper, part))
+    };
+    let untold = variants.iter().filter(|variant| !tells(variant));
+    untold.copied().collect()
+}
+
 /// Every variant against every recorded stream.
 pub fn table(variants: &[Variant], lines: &[Line]) -> Vec<Told> {
     let streams = streams(lines);

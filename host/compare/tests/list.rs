@@ -28,7 +28,19 @@ fn every_variant_is_told_apart() {
     let lines = keeper_play::read(LIST).expect("every line is one");
     let variants = keeper_variants::all();
     assert!(variants.len() >= 50);
-    for told in tell::table(&variants, &lines) {
-        assert!(told.streams > 0, "{}", told.variant.fault);
-    }
+    let untold = tell::untold(&variants, &lines);
+    let faults: Vec<&str> = untold.iter().map(|variant| variant.fault).collect();
+    assert!(faults.is_empty(), "{faults:?}");
+}
+
+#[test]
+fn a_variant_that_nothing_tells_is_named() {
+    let lines = keeper_play::read(LIST).expect("every line is one");
+    let plain = keeper_variants::Variant {
+        place: "",
+        fault: "none",
+        keeper: keeper_reference::Reference::plain(),
+    };
+    let untold = tell::untold(&[plain], &lines);
+    assert_eq!(untold.len(), 1);
 }

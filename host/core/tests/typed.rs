@@ -6,7 +6,7 @@ use keeper_streams::Opening;
 use keeper_values::numbers::kinds;
 use keeper_values::{Answer, Call, Keeper, Mode, Row, COMMAND_BYTES};
 use request_keeper::{
-    ModifierType, Peer, Question, RequestKeeper, Section, Settings, Step, StoredPairs,
+    ModifierType, Peer, Question, Refusal, RequestKeeper, Section, Settings, Step, StoredPairs,
     Surroundings, SyncInfo, View,
 };
 
@@ -34,7 +34,7 @@ fn opened(opening: &Opening) -> RequestKeeper {
 fn typed(call: &Call) -> Option<(Step<'_>, Call)> {
     let from = Peer(call.peer);
     let ids = call.ids.as_slice();
-    let modifier_type = ModifierType(call.type_id);
+    let modifier_type = ModifierType::from_byte(call.type_id);
     let parsed = call.parsed.then_some(SyncInfo {
         tip: call.has_tip.then_some(call.tip),
         continuation: &call.continuation,
@@ -83,29 +83,32 @@ fn typed(call: &Call) -> Option<(Step<'_>, Call)> {
     Some((step, read))
 }
 
-fn view(call: &Call) -> View {
+fn view(call: &Call) -> Result<View, Refusal> {
     let mut view = View::from_height(call.view.first);
     for row in &call.view.rows {
         match row {
-            Row::Absent => view.push_absent(),
+            Row::Absent => view.push_absent()?,
             Row::Present(places) => {
                 let section = |place: &keeper_values::Place| Section {
-                    modifier_type: ModifierType(place.type_id),
+                    modifier_type: ModifierType::from_byte(place.type_id),
                     id: place.id,
                     stored: place.stored,
                 };
-                view.push_header(&places.iter().map(section).collect::<Vec<_>>());
+                view.push_header(&places.iter().map(section).collect::<Vec<_>>())?;
             }
         }
     }
-    view
+    Ok(view)
 }
 
 /// One call on both sides.
 fn compare(keeper: &mut RequestKeeper, state: &mut Vec<u8>, step: Step<'_>, call: &Call) {
     let mut commands = vec![0; COMMAND_BYTES];
     let expected = Reference::plain().step(state, &mut commands, &call.to_arguments());
-    let pairs = call.stored.iter().map(|(t, id)| (ModifierType(*t), *id));
+    let pairs = call
+        .stored
+        .iter()
+        .map(|(t, id)| (ModifierType::from_byte(*t), *id));
     let peers: Vec<Peer> = call.peers.iter().map(|peer| Peer(*peer)).collect();
     let now = Surroundings {
         clock: call.clock,
@@ -113,7 +116,7 @@ fn compare(keeper: &mut RequestKeeper, state: &mut Vec<u8>, step: Step<'_>, call
         chain_height: call.height,
         peers: &peers,
         stored: &pairs.collect::<StoredPairs>(),
-        view: &view(call),
+        view: &view(call).expect("rows that can be said"),
     };
     let answer = match keeper.step(step, &now) {
         Err(refusal) => Answer::refused(refusal.number()),
@@ -124,7 +127,7 @@ fn compare(keeper: &mut RequestKeeper, state: &mut Vec<u8>, step: Step<'_>, call
             let answer = finished.answer;
             Answer {
                 number: 0,
-                outcome: answer.outcome as u32,
+                outcome: answer.outcome.number(),
                 retried: answer.retried,
                 fresh: answer.fresh,
                 abandoned: answer.abandoned,
@@ -144,7 +147,9 @@ fn read_back(finished: &request_keeper::Finished<'_>) -> Vec<u8> {
     let mut bytes = Vec::new();
     for command in finished.commands() {
         let (kind, type_id, ids) = match command.message {
-            request_keeper::Message::Request { modifier_type, ids } => (1, modifier_type.0, ids),
+            request_keeper::Message::Request { modifier_type, ids } => {
+                (1, modifier_type.number() as u8, ids)
+            }
             request_keeper::Message::Announcement { ids } => (2, 101, ids),
             request_keeper::Message::SyncInfo => (3, 0, [].as_slice()),
         };
@@ -181,7 +186,7 @@ fn stream(seed: u64) -> u64 {
         if values.mode == Mode::Ended {
             break;
         }
-        assert_eq!(keeper.mode() as u8, values.mode.number());
+        assert_eq!(keeper.mode().number(), values.mode.number());
         assert_eq!(keeper.sync_peer(), values.sync_peer.map(Peer));
         assert_eq!(keeper.downloaded_height(), values.downloaded);
         assert_eq!(keeper.known_tip(), values.known_tip);

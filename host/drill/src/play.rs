@@ -8,7 +8,7 @@ use crate::sending::{sent, SendFate, Sending, Sent};
 use crate::standing::Standing;
 use crate::verdict::{judge, Verdict};
 use crate::world::World;
-use request_keeper::{Answer, Refusal, RequestKeeper, Settings, Surroundings};
+use request_keeper::{Answer, Refusal, RequestKeeper, Settings, Surroundings, View};
 use std::rc::Rc;
 
 /// A scenario that was played.
@@ -155,6 +155,7 @@ type Ran = Result<(Answer, Vec<Sending>, bool), Refusal>;
 /// Hands a step in with what the world lends it, and sends its commands.
 fn run(keeper: &mut RequestKeeper, world: &World, clock: u64, wake: &Wake) -> Ran {
     let view = world.view(wake, keeper.downloaded_height());
+    let none = View::EMPTY;
     let stored = world.stored_pairs(wake, keeper)?;
     let now = Surroundings {
         clock,
@@ -162,11 +163,18 @@ fn run(keeper: &mut RequestKeeper, world: &World, clock: u64, wake: &Wake) -> Ra
         chain_height: world.chain_height,
         peers: &world.peers,
         stored: &stored,
-        view: &view,
+        view: view.as_ref().unwrap_or(&none),
     };
+    if let Err(malformed) = view {
+        // The crate makes no such view, so the core can't refuse it: what comes before it in the order is asked for.
+        let earlier = keeper.clone().step(wake.step(), &now).err();
+        let first = earlier.filter(|refusal| refusal.number() < malformed.number());
+        return Err(first.unwrap_or(malformed));
+    }
     let finished = keeper.step(wake.step(), &now)?;
-    let (sendings, entry_failed) = sent(&finished, &world.fails);
-    Ok((finished.answer, sendings, entry_failed))
+    let answer = finished.answer;
+    let (sendings, entry_failed) = sent(finished, &world.fails);
+    Ok((answer, sendings, entry_failed))
 }
 
 /// One step, and all that is to be known of it.

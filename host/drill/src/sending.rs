@@ -39,7 +39,7 @@ fn sending(command: &Command<'_>, fate: SendFate) -> Sending {
 }
 
 /// Sends a step's commands as a shell does. The second part: whether send failure has to be the next step.
-pub fn sent(finished: &Finished<'_>, fails: &BTreeSet<Peer>) -> (Vec<Sending>, bool) {
+pub fn sent(finished: Finished<'_>, fails: &BTreeSet<Peer>) -> (Vec<Sending>, bool) {
     let mut written = finished.commands();
     let mut outbox = finished.outbox();
     let mut sendings = Vec::new();

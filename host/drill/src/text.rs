@@ -17,14 +17,8 @@ pub fn grouped(number: impl Into<u64>) -> String {
     out
 }
 
-pub fn mode_word(mode: Mode) -> &'static str {
-    match mode {
-        Mode::New => "new",
-        Mode::Seeking => "seeking",
-        Mode::Syncing => "syncing",
-        Mode::Synced => "synced",
-        Mode::Ended => "ended",
-    }
+pub fn mode_word(mode: Mode) -> String {
+    mode.to_string()
 }
 
 /// A message and whom it goes to.

@@ -95,20 +95,13 @@ impl World {
     }
 
     /// The view for a step: as long as the rules read, or as the scenario cuts it short.
-    pub fn view(&self, wake: &Wake, downloaded: u32) -> View {
+    pub fn view(&self, wake: &Wake, downloaded: u32) -> Result<View, Refusal> {
         let from = Self::view_from(wake, downloaded);
-        let whole = View::of_chain(from, self.chain_height, |height| self.row(height));
-        let Some(most) = self.most_rows.filter(|most| *most < whole.rows()) else {
-            return whole;
-        };
-        let mut short = View::from_height(from.saturating_add(1));
-        for height in (from..self.chain_height).map(|below| below + 1).take(most) {
-            match self.row(height) {
-                Some(sections) => short.push_header(&sections),
-                None => short.push_absent(),
-            }
-        }
-        short
+        let most = self
+            .most_rows
+            .map(|rows| u32::try_from(rows).unwrap_or(u32::MAX));
+        let cut = most.map_or(u32::MAX, |rows| from.saturating_add(rows));
+        View::of_chain(from, self.chain_height.min(cut), |height| self.row(height))
     }
 
     /// The stored pairs that a step may read (docs/SHELL.md, "What a step is lent").

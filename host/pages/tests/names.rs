@@ -11,9 +11,12 @@ fn root() -> PathBuf {
 }
 
 fn pages(root: &Path) -> Vec<PathBuf> {
-    let docs = fs::read_dir(root.join("docs")).expect("there is a folder docs");
-    let listed = docs.map(|entry| entry.expect("a page").path());
-    let mut pages: Vec<PathBuf> = listed.collect();
+    let mut pages = Vec::new();
+    for folder in ["docs", "docs/changes"] {
+        let entries = fs::read_dir(root.join(folder)).expect("there is such a folder");
+        let listed = entries.map(|entry| entry.expect("a page").path());
+        pages.extend(listed.filter(|path| path.is_file()));
+    }
     pages.extend(
         ["README.md", "host/README.md", "host/fixed/README.md"].map(|page| root.join(page)),
     );
@@ -63,8 +66,14 @@ fn every_edit_fits_its_crate() {
 fn an_edit_that_does_not_fit_is_noticed() {
     let folder = root().join("crates/steps");
     let cases = [
-        ("file: src/lib.rt\nold: pub fn run(\nnew: pub fn walk(", true),
-        ("file: src/lib.rt\nold: pub fn walk(\nnew: pub fn run(", false),
+        (
+            "file: src/lib.rt\nold: pub fn run(\nnew: pub fn walk(",
+            true,
+        ),
+        (
+            "file: src/lib.rt\nold: pub fn walk(\nnew: pub fn run(",
+            false,
+        ),
         ("file: src/lib.rt\nold: ghost use\nnew: use", false),
         ("file: src/gone.rt\nold: a\nnew: b", false),
         ("file: src/lib.rt", false),

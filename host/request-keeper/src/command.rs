@@ -1,4 +1,6 @@
+use crate::hex::{count, HexList};
 use crate::{Id, ModifierType, Peer};
+use std::fmt::{self, Debug, Display, Formatter};
 
 const HEADER: usize = 16;
 
@@ -12,8 +14,14 @@ pub struct Command<'a> {
     pub message: Message<'a>,
 }
 
+impl Display for Command<'_> {
+    fn fmt(&self, out: &mut Formatter<'_>) -> fmt::Result {
+        write!(out, "to {}: {}", self.to, self.message)
+    }
+}
+
 /// What to send.
-#[derive(Debug, Clone, Copy, PartialEq, Eq)]
+#[derive(Clone, Copy, PartialEq, Eq)]
 pub enum Message<'a> {
     /// Ask for these modifiers, at most 400.
     Request {
@@ -26,8 +34,37 @@ pub enum Message<'a> {
     SyncInfo,
 }
 
+impl Debug for Message<'_> {
+    fn fmt(&self, out: &mut Formatter<'_>) -> fmt::Result {
+        match *self {
+            Self::Request { modifier_type, ids } => out
+                .debug_struct("Request")
+                .field("modifier_type", &modifier_type)
+                .field("ids", &HexList(ids))
+                .finish(),
+            Self::Announcement { ids } => out
+                .debug_struct("Announcement")
+                .field("ids", &HexList(ids))
+                .finish(),
+            Self::SyncInfo => out.write_str("SyncInfo"),
+        }
+    }
+}
+
+impl Display for Message<'_> {
+    fn fmt(&self, out: &mut Formatter<'_>) -> fmt::Result {
+        match *self {
+            Self::Request { modifier_type, ids } => {
+                write!(out, "request of {modifier_type}, {}", count(ids))
+            }
+            Self::Announcement { ids } => write!(out, "announcement of headers, {}", count(ids)),
+            Self::SyncInfo => out.write_str("sync info"),
+        }
+    }
+}
+
 /// A step's commands in the order in which they are to be sent.
-#[derive(Debug, Clone)]
+#[derive(Clone)]
 pub struct Commands<'a> {
     rest: &'a [u8],
 }
@@ -40,6 +77,12 @@ impl<'a> Commands<'a> {
     /// The bytes of the commands that are left.
     pub fn as_bytes(&self) -> &'a [u8] {
         self.rest
+    }
+}
+
+impl Debug for Commands<'_> {
+    fn fmt(&self, out: &mut Formatter<'_>) -> fmt::Result {
+        out.debug_list().entries(self.clone()).finish()
     }
 }
 
@@ -57,7 +100,7 @@ impl<'a> Iterator for Commands<'a> {
         let (ids, _) = bytes.as_chunks::<32>();
         let message = match kind {
             1 => Message::Request {
-                modifier_type: ModifierType(modifier_type),
+                modifier_type: ModifierType::from_byte(modifier_type),
                 ids,
             },
             2 => Message::Announcement { ids },

@@ -1,7 +1,17 @@
 use crate::{Answer, Command, Commands, Outbox, Sends};
+use std::fmt::{self, Debug, Formatter};
 
-/// A finished step: its numbers, and what is to be sent.
-#[derive(Debug, Clone, Copy)]
+/// A finished step: its numbers, and what is to be sent, once.
+///
+/// Sending takes the value, so that a step's commands can't go out twice:
+///
+/// ```compile_fail,E0382
+/// # use request_keeper::Finished;
+/// fn twice(finished: Finished<'_>) {
+///     let _ = finished.send(|_command| Ok::<(), ()>(()));
+///     let _ = finished.send(|_command| Ok::<(), ()>(()));
+/// }
+/// ```
 #[must_use = "a step's commands have to be sent"]
 pub struct Finished<'k> {
     pub answer: Answer,
@@ -19,13 +29,13 @@ impl<'k> Finished<'k> {
         }
     }
 
-    /// The commands, in the order in which they are to be sent.
+    /// The commands, to look at. [`send`](Self::send) or [`outbox`](Self::outbox) sends them.
     pub fn commands(&self) -> Commands<'k> {
         Commands::read(self.written)
     }
 
-    /// The commands as they are sent.
-    pub fn outbox(&self) -> Outbox<'k> {
+    /// The commands as they are sent, one by one.
+    pub fn outbox(self) -> Outbox<'k> {
         Outbox::new(self.commands(), self.entry)
     }
 
@@ -44,7 +54,7 @@ impl<'k> Finished<'k> {
     /// # Ok(())
     /// # }
     /// ```
-    pub fn send<E>(&self, mut send: impl FnMut(Command<'k>) -> Result<(), E>) -> Sends {
+    pub fn send<E>(self, mut send: impl FnMut(Command<'k>) -> Result<(), E>) -> Sends {
         let mut outbox = self.outbox();
         let mut sends = Sends::default();
         while let Some(command) = outbox.next() {
@@ -59,5 +69,15 @@ impl<'k> Finished<'k> {
         sends.dropped = outbox.dropped();
         sends.entry_failed = outbox.entry_failed();
         sends
+    }
+}
+
+impl Debug for Finished<'_> {
+    fn fmt(&self, out: &mut Formatter<'_>) -> fmt::Result {
+        out.debug_struct("Finished")
+            .field("answer", &self.answer)
+            .field("commands", &self.commands())
+            .field("entry", &self.entry)
+            .finish()
     }
 }

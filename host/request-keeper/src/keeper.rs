@@ -1,7 +1,7 @@
 use crate::boundary;
 use crate::surroundings::Pairs;
 use crate::{Answer, Finished, Mode, Outcome, Peer, Refusal, Settings, Step, Surroundings};
-use std::fmt::{self, Debug, Formatter};
+use std::fmt::{self, Debug, Display, Formatter};
 
 /// Bytes of a stored keeper.
 pub const STATE_BYTES: usize = 65_536;
@@ -24,6 +24,15 @@ pub enum Question {
     Check,
     /// The next step is [`Step::LostPeer`].
     LostPeer,
+}
+
+impl Display for Question {
+    fn fmt(&self, out: &mut Formatter<'_>) -> fmt::Result {
+        out.write_str(match self {
+            Self::Check => "question before a check",
+            Self::LostPeer => "question before a lost peer",
+        })
+    }
 }
 
 fn area(length: usize) -> Box<[u8]> {
@@ -146,20 +155,15 @@ impl RequestKeeper {
 
     /// Which steps the keeper takes now.
     pub fn mode(&self) -> Mode {
-        match self.field(MODE) {
-            [0] => Mode::New,
-            [1] => Mode::Seeking,
-            [2] => Mode::Syncing,
-            [3] => Mode::Synced,
-            _ => Mode::Ended,
-        }
+        let [number] = self.field(MODE);
+        Mode::of(number)
     }
 
     /// The peer that headers come from; in syncing and synced only.
     pub fn sync_peer(&self) -> Option<Peer> {
         match self.mode() {
             Mode::Syncing | Mode::Synced => Some(Peer(u64::from_be_bytes(self.field(SYNC_PEER)))),
-            Mode::New | Mode::Seeking | Mode::Ended => None,
+            Mode::New | Mode::Seeking | Mode::Ended | Mode::Unknown(_) => None,
         }
     }
 
@@ -176,6 +180,17 @@ impl RequestKeeper {
     /// The clock of the last finished step or of the opening; no later step may have an earlier one.
     pub fn last_clock(&self) -> u64 {
         u64::from_be_bytes(self.field(LAST_CLOCK))
+    }
+}
+
+impl Display for RequestKeeper {
+    fn fmt(&self, out: &mut Formatter<'_>) -> fmt::Result {
+        write!(out, "{}", self.mode())?;
+        if let Some(peer) = self.sync_peer() {
+            write!(out, " with {peer}")?;
+        }
+        let downloaded = self.downloaded_height();
+        write!(out, ", downloaded height {downloaded}")
     }
 }
 

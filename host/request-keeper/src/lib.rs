@@ -21,7 +21,7 @@
 //!     let mut keeper = RequestKeeper::open(Settings::default(), 1_000, 400)?;
 //!     let mut view = View::from_height(401);
 //!     let block = Section { modifier_type: ModifierType::BLOCK_TRANSACTIONS, id: [0xcc; 32], stored: false };
-//!     view.push_header(&[block]);
+//!     view.push_header(&[block])?;
 //!     let now = Surroundings { chain_height: 401, peers: &[Peer(4), Peer(5)], view: &view, ..Surroundings::at(1_000) };
 //!     let _ = keeper.step(Step::Start, &now)?; // sends nothing
 //!
@@ -39,7 +39,7 @@
 //!
 //!     // The section comes in: the view says so, the keeper is told, and the downloaded height rises.
 //!     let mut view = View::from_height(401);
-//!     view.push_header(&[Section { stored: true, ..block }]);
+//!     view.push_header(&[Section { stored: true, ..block }])?;
 //!     let _ = keeper.step(Step::Received { ids: &[[0xcc; 32]] }, &Surroundings { view: &view, ..now })?;
 //!     assert_eq!(keeper.downloaded_height(), 401);
 //!
@@ -54,27 +54,35 @@
 //! }
 //! ```
 
+mod answer;
 pub mod boundary;
 mod command;
 mod finished;
+mod hex;
 mod keeper;
+mod modifier_type;
 mod outbox;
 mod reading;
 mod refusal;
 mod step;
+mod step_shown;
 mod surroundings;
 mod values;
 mod view;
+mod view_shown;
 
+pub use answer::{Answer, Outcome};
 pub use command::{Command, Commands, Message};
 pub use finished::Finished;
+pub use hex::Hex;
 pub use keeper::{Question, RequestKeeper, STATE_BYTES};
+pub use modifier_type::ModifierType;
 pub use outbox::{Outbox, Sends};
 pub use reading::PendingRequest;
 pub use refusal::Refusal;
 pub use step::{Step, SyncInfo};
 pub use surroundings::{Pairs, StoredPairs, Surroundings};
-pub use values::{Answer, Id, Mode, ModifierType, Outcome, Peer, Settings};
+pub use values::{Id, Mode, Peer, Settings};
 pub use view::{Section, View};
 
 #[doc = include_str!("../../../docs/SHELL.md")]

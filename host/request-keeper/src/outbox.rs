@@ -1,4 +1,5 @@
 use crate::{Command, Commands, Message};
+use std::fmt::{self, Display, Formatter};
 
 /// A step's commands as they are sent: after a failed send the rest of its batch is dropped.
 ///
@@ -24,7 +25,7 @@ use crate::{Command, Commands, Message};
 /// # Ok(())
 /// # }
 /// ```
-#[derive(Debug, Clone)]
+#[derive(Debug)]
 pub struct Outbox<'a> {
     commands: Commands<'a>,
     /// Whether the step was an entry to syncing that sent.
@@ -93,4 +94,24 @@ pub struct Sends {
     pub dropped: usize,
     /// The next step is [`Step::SendFailure`](crate::Step::SendFailure).
     pub entry_failed: bool,
+}
+
+impl Display for Sends {
+    fn fmt(&self, out: &mut Formatter<'_>) -> fmt::Result {
+        let Self {
+            sent,
+            failed,
+            dropped,
+            entry_failed,
+        } = self;
+        let entry = if *entry_failed {
+            "; the entry failed"
+        } else {
+            ""
+        };
+        write!(
+            out,
+            "{sent} sent, {failed} failed, {dropped} dropped{entry}"
+        )
+    }
 }

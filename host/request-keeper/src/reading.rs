@@ -1,7 +1,8 @@
 //! What the state area holds besides the fields that every shell reads: for monitors, drills and tests. Read only; the
 //! offsets are docs/LAYOUT.md's, "State area".
 
-use crate::{Id, ModifierType, Peer, RequestKeeper, Settings};
+use crate::{Hex, Id, ModifierType, Peer, RequestKeeper, Settings};
+use std::fmt::{self, Debug, Display, Formatter};
 
 const TIMEOUT: usize = 16;
 const MAX_CHECKS: usize = 20;
@@ -17,7 +18,7 @@ const REGION: usize = 2_560;
 const RECORD: usize = 54;
 
 /// A request that is on order.
-#[derive(Debug, Clone, Copy, PartialEq, Eq)]
+#[derive(Clone, Copy, PartialEq, Eq)]
 pub struct PendingRequest {
     pub id: Id,
     /// Whom it was last asked of.
@@ -39,10 +40,36 @@ impl PendingRequest {
         Some(Self {
             id: *id,
             peer: Peer(u64::from_be_bytes(*peer)),
-            modifier_type: ModifierType(*modifier_type),
+            modifier_type: ModifierType::from_byte(*modifier_type),
             stamp: u64::from_be_bytes(*stamp),
             checks: u32::from_be_bytes(*rest.first_chunk()?),
         })
+    }
+}
+
+impl Debug for PendingRequest {
+    fn fmt(&self, out: &mut Formatter<'_>) -> fmt::Result {
+        out.debug_struct("PendingRequest")
+            .field("id", &Hex(&self.id))
+            .field("peer", &self.peer)
+            .field("modifier_type", &self.modifier_type)
+            .field("stamp", &self.stamp)
+            .field("checks", &self.checks)
+            .finish()
+    }
+}
+
+impl Display for PendingRequest {
+    fn fmt(&self, out: &mut Formatter<'_>) -> fmt::Result {
+        write!(
+            out,
+            "{} {} of {}, stamp {}, checks {}",
+            self.modifier_type,
+            Hex(&self.id),
+            self.peer,
+            self.stamp,
+            self.checks
+        )
     }
 }
 

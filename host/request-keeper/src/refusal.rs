@@ -3,31 +3,32 @@ use std::fmt::{self, Display, Formatter};
 
 /// Why a step was turned back (document 01, "Where a step can be turned back"). Nothing has changed.
 ///
-/// The first that applies is given, in this order.
+/// The first that applies is given, in this order. What a shell does about each is on the page [`shell`](crate::shell),
+/// "Refusals".
 #[derive(Debug, Clone, Copy, PartialEq, Eq, Hash)]
 #[non_exhaustive]
 pub enum Refusal {
-    /// 1: only bytes to restore from can have another length.
+    /// 1: the state is not 65,536 bytes. Only bytes to restore from can have another length.
     StateLength,
-    /// 2: only bytes to restore from can be malformed.
+    /// 2: the bytes to restore from are no image that a keeper has left.
     MalformedImage,
-    /// 3: not met with the areas of a [`RequestKeeper`](crate::RequestKeeper).
+    /// 3: the command area is under 65,536 bytes. That of a [`RequestKeeper`](crate::RequestKeeper) is not.
     CommandLength,
-    /// 4
+    /// 4: the clock is before that of the last finished step or of the opening.
     ClockWentBack,
-    /// 5
+    /// 5: the step is not one of this mode, or a send failure does not follow an entry that sent.
     WrongStep,
-    /// 6
+    /// 6: over 1,024 ids or stored pairs, or over 400 continuation ids.
     Lists,
-    /// 7
+    /// 7: over 128 peers.
     Peers,
-    /// 8
+    /// 8: a row of over three sections, or above height 2^32 − 1. [`View`](crate::View) makes none.
     View,
-    /// 9
+    /// 9: the step would read a height, up to the chain height, that the view has no row for.
     HeightOutsideView,
-    /// 10
+    /// 10: more than 1,024 requests and evicted ids after the step.
     TooManyTracked,
-    /// 11
+    /// 11: a 257th stalled peer.
     TooManyStalled,
     /// A number that this crate does not know: the library linked is not of its version.
     Unknown(u32),

@@ -5,7 +5,7 @@ use crate::{Id, ModifierType, Peer};
 /// is read by all.
 ///
 /// [`Surroundings`]: crate::Surroundings
-#[derive(Debug, Clone, Copy, PartialEq, Eq)]
+#[derive(Clone, Copy, PartialEq, Eq)]
 pub enum Step<'a> {
     /// The first step. Reads chain height and view.
     Start,
@@ -52,7 +52,7 @@ pub enum Step<'a> {
 }
 
 /// A parsed sync info.
-#[derive(Debug, Clone, Copy, PartialEq, Eq, Default)]
+#[derive(Clone, Copy, PartialEq, Eq, Default)]
 pub struct SyncInfo<'a> {
     /// The peer's tip, if it names one.
     pub tip: Option<u32>,
@@ -69,7 +69,7 @@ impl<'a> Step<'a> {
             Self::Pick => Arguments { kind: 2, ..none },
             Self::NeededModifier { modifier_type, id } => Arguments {
                 kind: 3,
-                typeid: modifier_type.0,
+                typeid: modifier_type.byte(),
                 ids: id,
                 ..none
             },
@@ -85,7 +85,7 @@ impl<'a> Step<'a> {
             } => Arguments {
                 kind: 5,
                 peer: from.0,
-                typeid: modifier_type.0,
+                typeid: modifier_type.byte(),
                 ids: ids.as_flattened(),
                 ..none
             },

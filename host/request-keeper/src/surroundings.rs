@@ -1,5 +1,6 @@
-use crate::{Id, ModifierType, Peer, View};
+use crate::{Hex, Id, ModifierType, Peer, View};
 use std::collections::BTreeSet;
+use std::fmt::{self, Debug, Display, Formatter};
 
 pub(crate) const PAIR: usize = 33;
 
@@ -53,7 +54,7 @@ impl Surroundings<'static> {
 /// let pairs: StoredPairs = [(header, [2; 32]), (header, [1; 32]), (header, [2; 32])].into_iter().collect();
 /// assert_eq!(pairs.iter().collect::<Vec<_>>(), [(header, &[1; 32]), (header, &[2; 32])]);
 /// ```
-#[derive(Debug, Clone, PartialEq, Eq, Default)]
+#[derive(Clone, PartialEq, Eq, Default)]
 pub struct StoredPairs {
     bytes: Vec<u8>,
 }
@@ -69,7 +70,7 @@ impl StoredPairs {
     }
 
     fn push(&mut self, modifier_type: ModifierType, id: &Id) {
-        self.bytes.push(modifier_type.0);
+        self.bytes.push(modifier_type.byte());
         self.bytes.extend_from_slice(id);
     }
 }
@@ -94,8 +95,20 @@ impl<'a> IntoIterator for &'a StoredPairs {
     }
 }
 
+impl Debug for StoredPairs {
+    fn fmt(&self, out: &mut Formatter<'_>) -> fmt::Result {
+        Debug::fmt(&self.iter(), out)
+    }
+}
+
+impl Display for StoredPairs {
+    fn fmt(&self, out: &mut Formatter<'_>) -> fmt::Result {
+        write!(out, "{} stored", self.bytes.len() / PAIR)
+    }
+}
+
 /// Pairs of type and id, strictly rising.
-#[derive(Debug, Clone)]
+#[derive(Clone)]
 pub struct Pairs<'a> {
     rest: &'a [u8],
 }
@@ -117,6 +130,15 @@ impl<'a> Pairs<'a> {
     }
 }
 
+impl Debug for Pairs<'_> {
+    fn fmt(&self, out: &mut Formatter<'_>) -> fmt::Result {
+        let shown = self
+            .clone()
+            .map(|(modifier_type, id)| (modifier_type, Hex(id)));
+        out.debug_list().entries(shown).finish()
+    }
+}
+
 impl<'a> Iterator for Pairs<'a> {
     type Item = (ModifierType, &'a Id);
 
@@ -124,6 +146,6 @@ impl<'a> Iterator for Pairs<'a> {
         let (pair, rest) = self.rest.split_first_chunk::<PAIR>()?;
         let (modifier_type, id) = pair.split_first()?;
         self.rest = rest;
-        Some((ModifierType(*modifier_type), id.try_into().ok()?))
+        Some((ModifierType::from_byte(*modifier_type), id.try_into().ok()?))
     }
 }

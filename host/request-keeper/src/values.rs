@@ -1,22 +1,18 @@
 //! Small values that calls and answers are made of.
 
-/// A modifier id.
+use std::fmt::{self, Display, Formatter};
+
+/// A modifier id. [`Hex`](crate::Hex) shows it in hexadecimal digits.
 pub type Id = [u8; 32];
 
 /// A peer, by the number that the host has given it.
 #[derive(Debug, Clone, Copy, PartialEq, Eq, PartialOrd, Ord, Hash)]
 pub struct Peer(pub u64);
 
-/// A modifier type of Ergo's protocol. Any number may be handed in; the core requests the five that are named here.
-#[derive(Debug, Clone, Copy, PartialEq, Eq, PartialOrd, Ord, Hash)]
-pub struct ModifierType(pub u8);
-
-impl ModifierType {
-    pub const TRANSACTION: Self = Self(2);
-    pub const HEADER: Self = Self(101);
-    pub const BLOCK_TRANSACTIONS: Self = Self(102);
-    pub const AD_PROOFS: Self = Self(104);
-    pub const EXTENSION: Self = Self(108);
+impl Display for Peer {
+    fn fmt(&self, out: &mut Formatter<'_>) -> fmt::Result {
+        write!(out, "peer {}", self.0)
+    }
 }
 
 /// Settings, fixed when the keeper is opened. Milliseconds, save for the check limit.
@@ -44,6 +40,16 @@ impl Default for Settings {
     }
 }
 
+impl Display for Settings {
+    fn fmt(&self, out: &mut Formatter<'_>) -> fmt::Result {
+        write!(
+            out,
+            "timeout {} ms, check limit {}, sync infos {} ms apart, stalled after {} ms",
+            self.timeout, self.max_checks, self.min_sync_send_interval, self.stall_timeout
+        )
+    }
+}
+
 /// Where the keeper stands.
 #[derive(Debug, Clone, Copy, PartialEq, Eq, Hash)]
 pub enum Mode {
@@ -57,53 +63,58 @@ pub enum Mode {
     Synced,
     /// After the end of the stream; takes no step.
     Ended,
+    /// A number that this crate does not know: the library linked is not of its version.
+    Unknown(u8),
 }
 
-/// What a finished step came to.
-#[derive(Debug, Clone, Copy, PartialEq, Eq, Hash)]
-pub enum Outcome {
-    /// No other is named.
-    Continue,
-    /// Caught up with the sync peer.
-    Synced,
-    /// The sender is ahead; it is the sync peer now.
-    BehindPeer,
-    /// The sync peer is lost, its entry's send failed, or a tick in synced found no peer.
-    SyncPeerGone,
-    /// No progress for longer than the stall timeout.
-    Stalled,
-    /// The stream of events has ended.
-    EndOfStream,
-}
-
-impl Outcome {
-    /// The core's contract knows the numbers 0 to 5 and no other.
-    pub(crate) fn of(number: u32) -> Self {
+impl Mode {
+    /// The core's images have the numbers 0 to 4 and no other.
+    pub(crate) fn of(number: u8) -> Self {
         match number {
-            0 => Self::Continue,
-            1 => Self::Synced,
-            2 => Self::BehindPeer,
-            3 => Self::SyncPeerGone,
-            4 => Self::Stalled,
-            _ => Self::EndOfStream,
+            0 => Self::New,
+            1 => Self::Seeking,
+            2 => Self::Syncing,
+            3 => Self::Synced,
+            4 => Self::Ended,
+            other => Self::Unknown(other),
+        }
+    }
+
+    /// The number in the state area.
+    pub fn number(self) -> u8 {
+        match self {
+            Self::New => 0,
+            Self::Seeking => 1,
+            Self::Syncing => 2,
+            Self::Synced => 3,
+            Self::Ended => 4,
+            Self::Unknown(number) => number,
         }
     }
 }
 
-/// The numbers of a finished step.
-#[derive(Debug, Clone, Copy, PartialEq, Eq)]
-pub struct Answer {
-    pub outcome: Outcome,
-    /// In a check, else 0: requests that expired and go out again.
-    pub retried: u32,
-    /// In a check, else 0: evicted ids handed out.
-    pub fresh: u32,
-    /// In a check, else 0: requests given up.
-    pub abandoned: u32,
-    /// In a check, else 0: transactions that expired.
-    pub forgotten: u32,
-    /// Pending requests after the step.
-    pub pending: u32,
-    /// Evicted ids after the step.
-    pub evicted: u32,
+impl Display for Mode {
+    fn fmt(&self, out: &mut Formatter<'_>) -> fmt::Result {
+        out.write_str(match self {
+            Self::New => "new",
+            Self::Seeking => "seeking",
+            Self::Syncing => "syncing",
+            Self::Synced => "synced",
+            Self::Ended => "ended",
+            Self::Unknown(number) => return write!(out, "unknown mode {number}"),
+        })
+    }
+}
+
+#[cfg(test)]
+mod tests {
+    use super::Mode;
+
+    #[test]
+    fn each_number_has_its_mode() {
+        for number in 0..=u8::MAX {
+            assert_eq!(Mode::of(number).number(), number);
+        }
+        assert_eq!(Mode::of(5), Mode::Unknown(5));
+    }
 }

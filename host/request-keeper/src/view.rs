@@ -1,13 +1,14 @@
-use crate::{Id, ModifierType};
+use crate::{Id, ModifierType, Refusal};
 
+const FIRST: usize = 4;
 const ROW: usize = 103;
-const ABSENT: u8 = 255;
+pub(crate) const ABSENT: u8 = 255;
 const MOST_SECTIONS: usize = 3;
 /// Heights that are requested at a time.
 const WINDOW: u32 = 192;
 
 /// A section that a block needs.
-#[derive(Debug, Clone, Copy, PartialEq, Eq)]
+#[derive(Clone, Copy, PartialEq, Eq)]
 pub struct Section {
     pub modifier_type: ModifierType,
     pub id: Id,
@@ -17,19 +18,23 @@ pub struct Section {
 
 /// What chain and store say of the heights from a first one on. Rows are added for one height after another.
 ///
-/// ```
-/// use request_keeper::{ModifierType, Section, View};
+/// A view has no malformed row: what a row can't say is turned back as [`Refusal::View`] where it is added, and the view
+/// is left as it was.
 ///
-/// let mut view = View::from_height(401);
-/// view.push_header(&[Section {
-///     modifier_type: ModifierType::BLOCK_TRANSACTIONS,
-///     id: [0xcc; 32],
-///     stored: false,
-/// }]);
-/// view.push_absent();
-/// assert_eq!(view.as_bytes().len(), 4 + 2 * 103);
 /// ```
-#[derive(Debug, Clone, PartialEq, Eq, Default)]
+/// use request_keeper::{ModifierType, Refusal, Section, View};
+///
+/// # fn main() -> Result<(), Refusal> {
+/// let mut view = View::from_height(401);
+/// let section = Section { modifier_type: ModifierType::BLOCK_TRANSACTIONS, id: [0xcc; 32], stored: false };
+/// view.push_header(&[section])?;
+/// view.push_absent()?;
+/// assert_eq!(view.push_header(&[section; 4]), Err(Refusal::View));
+/// assert_eq!(view.to_string(), "heights 401 to 402");
+/// # Ok(())
+/// # }
+/// ```
+#[derive(Clone, PartialEq, Eq, Default)]
 pub struct View {
     /// Empty, or the first height and the rows.
     bytes: Vec<u8>,
@@ -48,56 +53,77 @@ impl View {
 
     /// The rows that a step can read when it starts from a downloaded height: over the complete heights to the first
     /// that is not, 192 heights from there, not beyond the chain height, and to the first absent header. The closure
-    /// gives a height's sections, or `None` if its header is absent.
+    /// gives a height's sections, at most three, or `None` if its header is absent.
+    ///
+    /// So it knows how far document 01's rules 5 (complete heights) and 4 (the window) read, and nothing else of them.
+    /// That decides nothing: the core reads from any longer view what it reads from this one and answers the same, and a
+    /// view that is too short it refuses as [`Refusal::HeightOutsideView`], changing nothing. A node may lend more.
     pub fn of_chain(
         downloaded: u32,
         chain_height: u32,
         mut sections_at: impl FnMut(u32) -> Option<Vec<Section>>,
-    ) -> Self {
+    ) -> Result<Self, Refusal> {
         let mut view = Self::from_height(downloaded.saturating_add(1));
         let mut complete = true;
         let mut left = WINDOW;
         for height in (downloaded..chain_height).map(|below| below + 1) {
             let Some(sections) = sections_at(height) else {
-                view.push_absent();
+                view.push_absent()?;
                 break;
             };
-            view.push_header(&sections);
+            view.push_header(&sections)?;
             complete = complete && sections.iter().all(|section| section.stored);
             left -= u32::from(!complete);
             if left == 0 {
                 break;
             }
         }
-        view
+        Ok(view)
     }
 
-    /// The next height's header is absent.
-    pub fn push_absent(&mut self) {
-        self.push_row(ABSENT, &[]);
+    /// The next height's header is absent. Refused above height 2^32 − 1.
+    pub fn push_absent(&mut self) -> Result<(), Refusal> {
+        self.push_row(ABSENT, &[])
     }
 
-    /// The next height's header is present, and its block needs these sections, at most three. A row of more is
-    /// refused by the core as [`Refusal::View`](crate::Refusal::View).
-    pub fn push_header(&mut self, sections: &[Section]) {
+    /// The next height's header is present, and its block needs these sections. Refused for more than three, and above
+    /// height 2^32 − 1.
+    pub fn push_header(&mut self, sections: &[Section]) -> Result<(), Refusal> {
         match sections.len() {
             0..=MOST_SECTIONS => self.push_row(sections.len() as u8, sections),
-            _ => self.push_row(MOST_SECTIONS as u8 + 1, &[]),
+            _ => Err(Refusal::View),
         }
     }
 
-    fn push_row(&mut self, count: u8, sections: &[Section]) {
+    fn push_row(&mut self, count: u8, sections: &[Section]) -> Result<(), Refusal> {
+        let room = u32::MAX - self.first();
+        if u32::try_from(self.rows()).map_or(true, |rows| rows > room) {
+            return Err(Refusal::View);
+        }
         if self.bytes.is_empty() {
             self.bytes.extend_from_slice(&0_u32.to_be_bytes());
         }
         let end = self.bytes.len() + ROW;
         self.bytes.push(count);
         for section in sections {
-            self.bytes.push(section.modifier_type.0);
+            self.bytes.push(section.modifier_type.byte());
             self.bytes.extend_from_slice(&section.id);
             self.bytes.push(u8::from(section.stored));
         }
         self.bytes.resize(end, 0);
+        Ok(())
+    }
+
+    /// The height of the first row.
+    pub(crate) fn first(&self) -> u32 {
+        self.bytes
+            .first_chunk()
+            .map_or(0, |first| u32::from_be_bytes(*first))
+    }
+
+    /// The rows' bytes, one after another.
+    pub(crate) fn row_bytes(&self) -> impl Iterator<Item = &[u8]> {
+        self.bytes.get(FIRST..).unwrap_or_default().chunks(ROW)
     }
 
     /// How many heights have a row.
@@ -124,7 +150,7 @@ mod tests {
         for rows in 0..50 {
             assert_eq!(view.rows(), rows);
             assert_eq!(view.as_bytes().len(), 4 + 103 * rows);
-            view.push_absent();
+            assert_eq!(view.push_absent(), Ok(()));
         }
         assert_eq!(View::EMPTY.rows(), 0);
     }

@@ -93,7 +93,7 @@ fn sync_infos(scenario: &mut Scenario) {
 /// A check whose numbers all differ, and both questions before it.
 fn checks(scenario: &mut Scenario) {
     let announce = |scenario: &mut Scenario, after, modifier_type: ModifierType, ids: &[Id]| {
-        let request = command(1, modifier_type.0, 0, SENDER, ids);
+        let request = command(1, modifier_type.number() as u8, 0, SENDER, ids);
         scenario.writes(announcement(modifier_type, ids), at(after), &[request]);
     };
     let now = Surroundings {

@@ -21,8 +21,9 @@ fn now<'a>(clock: u64) -> Surroundings<'a> {
 
 fn step(keeper: &mut RequestKeeper, step: Step<'_>, clock: u64) -> Outcome {
     let finished = keeper.step(step, &now(clock)).expect("finished");
+    let outcome = finished.answer.outcome;
     let _ = finished.send(|_| Ok::<(), ()>(()));
-    finished.answer.outcome
+    outcome
 }
 
 /// In syncing from the first peer, with a header and a transaction on order from peer 9.

@@ -83,7 +83,8 @@ fn other_batches_are_sent_nevertheless() {
     view.push_header(&[
         section(ModifierType::BLOCK_TRANSACTIONS, 1),
         section(ModifierType::EXTENSION, 2),
-    ]);
+    ])
+    .expect("two sections");
     let surroundings = Surroundings {
         chain_height: 1,
         view: &view,
@@ -125,16 +126,6 @@ fn lists_of_any_size_are_handed_on() {
         .map(|id| (ModifierType::HEADER, id))
         .collect();
     let peers = vec![Peer(1); 129];
-    let section = Section {
-        modifier_type: ModifierType::EXTENSION,
-        id: [1; 32],
-        stored: true,
-    };
-    let mut four = View::from_height(1);
-    four.push_header(&[section; 4]);
-    let mut past_the_top = View::from_height(u32::MAX);
-    past_the_top.push_absent();
-    past_the_top.push_absent();
     let now = now(2_000);
     let calls = [
         (Step::Received { ids: &ids }, now, Refusal::Lists),
@@ -155,19 +146,6 @@ fn lists_of_any_size_are_handed_on() {
             Refusal::Peers,
         ),
         (
-            Step::Check,
-            Surroundings { view: &four, ..now },
-            Refusal::View,
-        ),
-        (
-            Step::Check,
-            Surroundings {
-                view: &past_the_top,
-                ..now
-            },
-            Refusal::View,
-        ),
-        (
             Step::Progress,
             Surroundings {
                 chain_height: 1,
@@ -184,16 +162,90 @@ fn lists_of_any_size_are_handed_on() {
     }
 }
 
+#[test]
+fn a_view_has_no_malformed_row() {
+    let section = Section {
+        modifier_type: ModifierType::EXTENSION,
+        id: [1; 32],
+        stored: true,
+    };
+    let mut view = View::from_height(u32::MAX - 1);
+    for count in 0..=3 {
+        assert_eq!(view.clone().push_header(&vec![section; count]), Ok(()));
+    }
+    assert_eq!(view.push_header(&[section; 4]), Err(Refusal::View));
+    assert_eq!(view, View::from_height(u32::MAX - 1));
+    assert_eq!(view.push_absent(), Ok(()));
+    assert_eq!(view.push_header(&[section; 3]), Ok(()));
+    let full = view.clone();
+    assert_eq!(view.push_absent(), Err(Refusal::View));
+    assert_eq!(view.push_header(&[]), Err(Refusal::View));
+    assert_eq!(view, full);
+    assert_eq!(full.to_string(), "heights 4294967294 to 4294967295");
+    let surroundings = Surroundings {
+        view: &full,
+        ..now(2_000)
+    };
+    assert!(syncing().step(Step::Check, &surroundings).is_ok());
+    let four = View::of_chain(0, 1, |_| Some(vec![section; 4]));
+    assert_eq!(four, Err(Refusal::View));
+}
+
 /// Heights 1 to 100 are complete; the header of `absent` is absent.
+fn row_of(height: u32, absent: u32) -> Option<Vec<Section>> {
+    let section = Section {
+        modifier_type: ModifierType::EXTENSION,
+        id: [height as u8; 32],
+        stored: height <= 100,
+    };
+    (height != absent).then(|| vec![section])
+}
+
 fn view_of(chain_height: u32, absent: u32) -> View {
-    View::of_chain(0, chain_height, |height| {
-        let section = Section {
-            modifier_type: ModifierType::EXTENSION,
-            id: [height as u8; 32],
-            stored: height <= 100,
-        };
-        (height != absent).then(|| vec![section])
-    })
+    View::of_chain(0, chain_height, |height| row_of(height, absent)).expect("one section each")
+}
+
+/// The first heights up to `last`.
+fn view_to(last: u32, absent: u32) -> View {
+    let mut view = View::from_height(1);
+    for height in 1..=last {
+        match row_of(height, absent) {
+            Some(sections) => view.push_header(&sections),
+            None => view.push_absent(),
+        }
+        .expect("one section");
+    }
+    view
+}
+
+/// What a step with this view comes to: its answer, its commands, the state; or its refusal.
+fn with_view(step: Step<'_>, chain_height: u32, view: &View) -> Result<(String, Vec<u8>), Refusal> {
+    let mut keeper = syncing();
+    let surroundings = Surroundings {
+        chain_height,
+        view,
+        ..now(2_000)
+    };
+    let finished = format!("{:?}", keeper.step(step, &surroundings)?);
+    Ok((finished, keeper.as_bytes().to_vec()))
+}
+
+#[test]
+fn how_far_a_view_reaches_decides_nothing() {
+    for (chain_height, absent) in [(50, 0), (500, 0), (500, 150)] {
+        let view = view_of(chain_height, absent);
+        let longer = view_to(chain_height + 300, absent);
+        let shorter = view_to(view.rows() as u32 - 1, absent);
+        // Of both rules, progress runs one.
+        let reorg = Step::Reorg { fork_point: 0 };
+        for step in [Step::Progress, reorg] {
+            let answered = with_view(step, chain_height, &view);
+            assert!(answered.is_ok());
+            assert!(with_view(step, chain_height, &longer) == answered);
+        }
+        let refused = with_view(reorg, chain_height, &shorter).err();
+        assert_eq!(refused, Some(Refusal::HeightOutsideView));
+    }
 }
 
 #[test]
@@ -212,7 +264,8 @@ fn a_view_reaches_as_far_as_the_rules_read() {
             assert!(keeper.step(step, &surroundings(2_000)).is_ok());
         }
     }
-    assert_eq!(View::of_chain(u32::MAX, u32::MAX, |_| None).rows(), 0);
+    let none = View::of_chain(u32::MAX, u32::MAX, |_| None);
+    assert_eq!(none.map(|view| view.rows()), Ok(0));
 }
 
 #[test]

@@ -67,7 +67,7 @@ pub fn outcome_look(outcome: Outcome) -> (&'static str, bool) {
         Outcome::Continue => (FAINT, false),
         Outcome::Synced => (GREEN, false),
         Outcome::BehindPeer => (AMBER, true),
-        Outcome::SyncPeerGone | Outcome::Stalled => (RED, true),
+        Outcome::SyncPeerGone | Outcome::Stalled | Outcome::Unknown(_) => (RED, true),
         Outcome::EndOfStream => (TEXT, false),
     }
 }
@@ -133,7 +133,7 @@ impl Sheet<'_> {
             }
         }
         y += ROW;
-        canvas.text(x, y, faint, mode_word(after.mode));
+        canvas.text(x, y, faint, &mode_word(after.mode));
         y += ROW;
         if let Some(peer) = after.sync_peer {
             let words = format!("with {}", self.played.names.show_peer(peer));

@@ -201,7 +201,7 @@ const TYPES: [(&str, ModifierType); 5] = [
 /// A modifier type by its word or its number.
 pub fn modifier_type(word: &str) -> Result<ModifierType, String> {
     let known = TYPES.iter().find(|(name, _)| *name == word);
-    let number = || super::words::number(word).map(ModifierType);
+    let number = || super::words::number(word).and_then(ModifierType::new);
     known.map(|(_, found)| *found).or_else(number).ok_or_else(|| {
         format!(
             "`{word}` is not a type: expected transaction, header, block, proofs, extension or a number up to 255"
@@ -212,7 +212,7 @@ pub fn modifier_type(word: &str) -> Result<ModifierType, String> {
 pub fn show_type(modifier_type: ModifierType) -> String {
     let known = TYPES.iter().find(|(_, found)| *found == modifier_type);
     known.map_or_else(
-        || format!("type {}", modifier_type.0),
+        || format!("type {}", modifier_type.number()),
         |(name, _)| name.to_string(),
     )
 }

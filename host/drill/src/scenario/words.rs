@@ -99,7 +99,7 @@ pub trait Number: TryFrom<u64> {
     const MOST: u64;
 }
 
-impl Number for u8 {
+impl Number for u16 {
     const MOST: u64 = Self::MAX as u64;
 }
 

@@ -33,7 +33,7 @@ pub fn row(modifier_type: ModifierType, number: u8, stored: bool) -> [Section; 1
 pub fn view(first: u32, rows: &[[Section; 1]]) -> View {
     let mut view = View::from_height(first);
     for row in rows {
-        view.push_header(row);
+        view.push_header(row).expect("one section");
     }
     view
 }
@@ -86,7 +86,7 @@ impl Scenario {
         let numbers = match &finished {
             Ok((answer, commands)) => [
                 0,
-                answer.outcome as u32,
+                answer.outcome.number(),
                 answer.retried,
                 answer.fresh,
                 answer.abandoned,
