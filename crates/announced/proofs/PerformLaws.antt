@@ -25,6 +25,7 @@ use Rattle.model.proofs.PendingLaws.{rising-performed, wanted-well}
 use Rattle.model.proofs.SendingLaws.{sendings-bytes, performed-sends-well, performed-weight, actWeight}
 use Rattle.requests.specs.Pending.{requestsIn, holding}
 use Rattle.requests.specs.Sent.{sentBytes}
+use Rattle.requests.proofs.SentLaws.{sent-append}
 use Rattle.entering.specs.Marking.{heldWithin}
 use Rattle.entering.proofs.AnswerLaws.{few-held}
 use Rattle.entering.proofs.MarkedLaws.{marked-length, marked-recorded}
@@ -90,20 +91,6 @@ act-once : (gate : Bool) (clock : ℕ) (act : Act) (rs : List Request) → lengt
 act-once true clock (ask typeId peer pairs ids) rs = request-once typeId peer (wanted rs typeId pairs ids)
 act-once false clock (ask typeId peer pairs ids) rs = omega arith
 act-once gate clock (send s) rs = omega arith
-
--- ---- commands of sendings one behind another
-
-commands-append : (cs ds : List Command) → allCommandBytes (cs ++ ds) ≡ allCommandBytes cs ++ allCommandBytes ds
-commands-append [] ds = refl
-commands-append (c ∷ cs) ds = rw (append-assoc (commandBytes c) (allCommandBytes cs) (allCommandBytes ds), commands-append cs ds)
-
-pub sent-append : (batch : ℕ) (one others : List Sending) → sentBytes batch (one ++ others) ≡ sentBytes batch one ++ sentBytes (batch + length one) others
-unfolding sentBytes
-sent-append batch [] others = rw add-zero
-sent-append batch (s ∷ one) others =
-    let n : batch + suc (length one) ≡ suc batch + length one = omega arith in
-    rw (n, commands-append (commandsOf batch s) (commandsFrom (suc batch) (one ++ others)), commands-append (commandsOf batch s) (commandsFrom (suc batch) one), append-assoc (allCommandBytes (commandsOf batch s)) (allCommandBytes (commandsFrom (suc batch) one)) (allCommandBytes (commandsFrom (suc batch + length one) others)))
-    (ap (λ (x : List ℕ). allCommandBytes (commandsOf batch s) ++ x) (sent-append (suc batch) one others))
 
 -- the bytes of acts, at most
 pub sent-within : (gate : Bool) (clock batch : ℕ) (acts : List Act) (rs : List Request) → All WellAct acts → length (sentBytes batch (performAll gate clock acts rs .sendings)) ≤ total actWeight acts

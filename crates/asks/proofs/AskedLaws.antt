@@ -27,7 +27,8 @@ use Rattle.announced.specs.declared.request.Requested.{Requested}
 use Rattle.announced.specs.declared.request.Requested.the-variants as requested
 use Rattle.announced.specs.Requested.{requestedAs, sentWithin}
 use Rattle.announced.proofs.RequestedLaws.{few-sent}
-use Rattle.announced.proofs.PerformLaws.{act-recorded, sent-append, sent-within}
+use Rattle.requests.proofs.SentLaws.{sent-append}
+use Rattle.announced.proofs.PerformLaws.{act-recorded, sent-within}
 use Rattle.tracker.specs.declared.Counts.{Counts}
 use Rattle.tracker.specs.declared.Performed.{Performed}
 use Rattle.tracker.specs.declared.Performed.the-variants.{Done as Finished, Full}

@@ -6,31 +6,15 @@ use mathlib.Core.List.{List, [], _∷_}
 use native.Mathlib.Omega.{arith}
 use lib.Dec.{eqb}
 use lib.ListN.{length, take, drop, getD, drop-of-length-le}
-use Rattle.fields.specs.Facts.{Bytes}
 use Rattle.fields.specs.Number.{fromBe}
 use Rattle.fields.specs.Entries.{entry}
-use Rattle.fields.proofs.NumberLaws.{bytes-take, bytes-drop}
-use Rattle.fields.proofs.EntriesLaws.{entry-field}
 use Rattle.places.proofs.MappedLaws.{next-mapped}
-use Rattle.model.specs.Image.{recordSize, requestOf}
 use Rattle.model.specs.Sections.{Item}
+use Rattle.requests.proofs.RecordedLaws.{peer-read, type-read}
 use Rattle.batches.specs.Items.{itemOf, itemAt, itemsAt, alike, span}
 use Rattle.batches.specs.Batches.{batchAt}
 
 -- ---- what is read
-
-pub entry-bytes : (width i : ℕ) (t : List ℕ) → Bytes t → Bytes (entry width i t)
-unfolding entry
-entry-bytes width i t f = bytes-take width (drop (i * width) t) (bytes-drop (i * width) t f)
-
-module _ (i : ℕ) (t : List ℕ) where
-  pub peer-read : fromBe (take 8 (drop (i * 54 + 32) t)) ≡ requestOf (entry recordSize i t) .peer
-  unfolding requestOf
-  peer-read = ap fromBe (sym (entry-field 54 i 32 8 t (omega arith)))
-
-  pub type-read : fromBe (take 2 (drop (i * 54 + 40) t)) ≡ requestOf (entry recordSize i t) .typeId
-  unfolding requestOf
-  type-read = ap fromBe (sym (entry-field 54 i 40 2 t (omega arith)))
 
 module _ (t : List ℕ) where
   pub item-type : (place : ℕ) → fromBe (take 2 (drop (place * 54 + 40) t)) ≡ itemAt t place .typeId

@@ -24,7 +24,7 @@ use Rattle.peers.specs.declared.Listed.{Listed}
 use Rattle.peers.specs.declared.Listed.the-variants.{Peer, Nobody}
 use Rattle.requests.specs.Sent.{sentBytes}
 use Rattle.requests.proofs.WriteLaws.{length-ids, joined-ids}
-use Rattle.announced.proofs.PerformLaws.{sent-append}
+use Rattle.requests.proofs.SentLaws.{sent-append}
 use Rattle.plans.specs.declared.Plan.{Plan}
 use Rattle.tracker.specs.declared.Performed.{Performed}
 use Rattle.tracker.specs.Worked.{Worked, workedBy, fits, performedAs, Performs}

@@ -26,7 +26,7 @@ use Rattle.delivery_check.specs.Checked.{pendingAfterCheck, checkedAs, r
 use Rattle.delivery_check.specs.Turn.{restartedTo, tableAfter, placesAfter, countsAfter}
 use Rattle.delivery_check.specs.declared.check.Checked.{Checked}
 use Rattle.delivery_check.proofs.RetryLaws.{checkedTo, length-checked, pending-after}
-use Rattle.batches.proofs.ItemLaws.{entry-bytes}
+use Rattle.requests.proofs.RecordedLaws.{entry-bytes}
 use Rattle.delivery_check.proofs.RecordLaws.{restarted-long}
 
 abbrev pub none : Checked

@@ -20,7 +20,7 @@ use Rattle.model.specs.Image.{recordSize, requestOf, requestBytes}
 use Rattle.model.proofs.RecordLaws.{length-request, ids-rise}
 use Rattle.model.proofs.Well.{RisingIds}
 use Rattle.requests.specs.Pending.{requestsIn}
-use Rattle.batches.proofs.ItemLaws.{entry-bytes}
+use Rattle.requests.proofs.RecordedLaws.{entry-bytes}
 use Rattle.delivery_check.proofs.RetryLaws.{mark-none, not-among-later}
 use Rattle.delivery_check.proofs.RecordLaws.{id-long, asked-back}
 

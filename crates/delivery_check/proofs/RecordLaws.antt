@@ -21,7 +21,7 @@ use Rattle.model.specs.Settings.{Settings, expired, givenUp}
 use Rattle.model.specs.Delivery.{Request, waiting, retried, abandoned, forgotten, verdict, withPeer, restarted}
 use Rattle.model.specs.Image.{recordSize, requestOf, requestBytes}
 use Rattle.model.proofs.RecordLaws.{bytes-of-request, length-request, request-of-bytes}
-use Rattle.batches.proofs.ItemLaws.{entry-bytes, peer-read, type-read}
+use Rattle.requests.proofs.RecordedLaws.{entry-bytes, peer-read, type-read}
 use Rattle.delivery_check.specs.Turn.{restartedTo}
 
 -- ---- what is read

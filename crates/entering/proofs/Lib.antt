@@ -3,3 +3,4 @@ pub mod AnswerLaws
 pub mod OneLaws
 pub mod MarkedLaws
 pub mod EachLaws
+pub mod KeyLaws

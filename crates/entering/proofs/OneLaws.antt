@@ -21,7 +21,8 @@ use Rattle.model.specs.Image.{requestOf, requestBytes}
 use Rattle.model.proofs.RecordLaws.{request-id, records-of-requests}
 use Rattle.requests.specs.Pending.{requestsIn, holding}
 use Rattle.requests.proofs.HoldingLaws.{length-requests, holding-same}
-use Rattle.wanted.proofs.WantedLaws.{pending-key, found-has, gap-has}
+use Rattle.search.proofs.HasLaws.{found-has, gap-has}
+use Rattle.entering.proofs.KeyLaws.{pending-key}
 use Rattle.entering.specs.Marking.{newRequest}
 
 -- ---- the gap of a search is the place of an insertion

@@ -26,7 +26,7 @@ use Rattle.model.specs.Image.{recordSize, requestOf, typesNarrow}
 use Rattle.model.specs.Calls.{pairBytes}
 use Rattle.model.proofs.RecordLaws.{high-low}
 use Rattle.requests.specs.Pending.{requestsIn}
-use Rattle.batches.proofs.ItemLaws.{peer-read, type-read}
+use Rattle.requests.proofs.RecordedLaws.{peer-read, type-read}
 use Rattle.delivery.proofs.HeldLaws.{length-filtered}
 use Rattle.orphans.specs.Orphans.{isOrphan, pairIn}
 

@@ -20,7 +20,7 @@ use Rattle.fields.proofs.EntriesLaws.{length-entries, entries-at, replaced-fewe
 use Rattle.model.specs.Delivery.{Request, purgePeer, purgeAll}
 use Rattle.model.specs.Image.{recordSize, requestOf}
 use Rattle.requests.specs.Pending.{requestsIn, holding}
-use Rattle.batches.proofs.ItemLaws.{peer-read}
+use Rattle.requests.proofs.RecordedLaws.{peer-read}
 use Rattle.delivery.proofs.HeldLaws.{length-filtered, filtered}
 use Rattle.purge.specs.Others.{ofOther}
 

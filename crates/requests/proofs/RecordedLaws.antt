@@ -1,17 +1,18 @@
 -- Requests and ids that are read from bytes fit their records.
-use Prim.Native.Nat.{ℕ, _/_}
-use mathlib.Core.Path.{_≡_}
+use Prim.Native.Nat.{ℕ, _+_, _*_, _/_}
+use mathlib.Core.Path.{_≡_, sym, ap}
 use mathlib.Core.List.{List, [], _∷_, map}
 use native.Mathlib.Omega.{arith}
-use lib.ListN.{length}
+use lib.ListN.{length, take, drop}
 use lib.Seq.{length-take-le}
 use Rattle.fields.specs.Facts.{All, Bytes}
-use Rattle.fields.specs.Entries.{entries}
+use Rattle.fields.specs.Number.{fromBe}
+use Rattle.fields.specs.Entries.{entries, entry}
 use Rattle.fields.proofs.AllLaws.{all-weaker, entries-all}
 use Rattle.fields.proofs.PartLaws.{part-below}
-use Rattle.fields.proofs.NumberLaws.{bytes-take}
-use Rattle.fields.proofs.EntriesLaws.{Wide}
-use Rattle.model.specs.Image.{requestOf}
+use Rattle.fields.proofs.NumberLaws.{bytes-take, bytes-drop}
+use Rattle.fields.proofs.EntriesLaws.{Wide, entry-field}
+use Rattle.model.specs.Image.{recordSize, requestOf}
 use Rattle.model.specs.Lists.{idsIn}
 use Rattle.model.proofs.Well.{WellId}
 use Rattle.model.proofs.RecordLaws.{Recorded}
@@ -34,3 +35,18 @@ unfolding idsIn
 well-ids ids f =
     all-weaker (λ (e : List ℕ). (length e ≡ 32) × Bytes e) WellId (λ e p. record { long = p .0; bytes = p .1 }) (entries 32 (length ids / 32) ids)
     (entries-all 32 (length ids / 32) ids (omega arith) f)
+
+-- ---- what is read of a record
+
+pub entry-bytes : (width i : ℕ) (t : List ℕ) → Bytes t → Bytes (entry width i t)
+unfolding entry
+entry-bytes width i t f = bytes-take width (drop (i * width) t) (bytes-drop (i * width) t f)
+
+module _ (i : ℕ) (t : List ℕ) where
+  pub peer-read : fromBe (take 8 (drop (i * 54 + 32) t)) ≡ requestOf (entry recordSize i t) .peer
+  unfolding requestOf
+  peer-read = ap fromBe (sym (entry-field 54 i 32 8 t (omega arith)))
+
+  pub type-read : fromBe (take 2 (drop (i * 54 + 40) t)) ≡ requestOf (entry recordSize i t) .typeId
+  unfolding requestOf
+  type-read = ap fromBe (sym (entry-field 54 i 40 2 t (omega arith)))

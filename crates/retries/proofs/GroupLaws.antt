@@ -37,7 +37,8 @@ use Rattle.model.proofs.SendingLaws.{retries-sent-well, sendings-bytes, retries
 use Rattle.requests.specs.Sent.{sentBytes}
 use Rattle.requests.proofs.RunLaws.{take-ids, drop-ids}
 use Rattle.batches.specs.Items.{itemOf, Asked, itemAt, itemsAt, alike, span}
-use Rattle.batches.proofs.ItemLaws.{entry-bytes, span-le}
+use Rattle.requests.proofs.RecordedLaws.{entry-bytes}
+use Rattle.batches.proofs.ItemLaws.{span-le}
 use Rattle.retries.specs.Batches.{idsAt, sendingsOf}
 
 -- ---- the first batch of some items

@@ -33,7 +33,7 @@ use Rattle.image.specs.Heads.{headIn, headOf}
 use Rattle.image.proofs.HeadLaws.{head-decode}
 use Rattle.peers.specs.Values.{listedPeer}
 use Rattle.requests.specs.Sent.{sentBytes}
-use Rattle.announced.proofs.PerformLaws.{sent-append}
+use Rattle.requests.proofs.SentLaws.{sent-append}
 use Rattle.plans.specs.declared.Plan.{Plan}
 use Rattle.plans.specs.declared.Stalling.{Stalling}
 use Rattle.plans.specs.declared.Stalling.the-variants.{Stay, Empty, Join}

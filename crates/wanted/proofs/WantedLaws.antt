@@ -18,44 +18,14 @@ use Rattle.fields.proofs.OverwriteLaws.{overwritten-next, overwritten-nil, leng
 use Rattle.fields.proofs.EntriesLaws.{Wide, length-entries, entries-at, entries-wide, length-entry, length-joined}
 use Rattle.fields.proofs.FilterLaws.{length-kept}
 use Rattle.fields.proofs.AllLaws.{all-kept, all-drop}
-use Rattle.search.specs.Find.{found}
-use Rattle.search.specs.declared.find.Found.the-variants.{At, Gap}
-use Rattle.search.proofs.FindLaws.{at-inside, at-same, gap-absent}
 use Rattle.model.specs.Protocol.{Id, isAmong}
 use Rattle.model.specs.Delivery.{Request, isPending}
 use Rattle.model.specs.Requests.{Pair, isStored, wanted}
 use Rattle.model.specs.Image.{requestOf}
 use Rattle.model.specs.Lists.{pairOf, pairsFit, pairsIn, idsIn, listFits}
-use Rattle.wanted.specs.Keys.{hasKey}
+use Rattle.search.specs.Keys.{hasKey}
 
--- ---- a search's answer
-
-module _ (key : List ℕ) where
-  has-one : (es : List (List ℕ)) (i : ℕ) → i < length es → same (take (length key) (getD es i [])) key ≡ true → hasKey key es ≡ true
-  has-one [] i h e = absurd (not-suc-le-zero h)
-  has-one (x ∷ es) zero h e = rw e
-  has-one (x ∷ es) (suc i) h e = go (same (take (length key) x) key) (has-one es i (le-of-suc-le-suc h) e)
-    where
-      go : (b : Bool) → hasKey key es ≡ true → b || hasKey key es ≡ true
-      go true q = refl
-      go false q = q
-
-  has-none : (es : List (List ℕ)) → ((j : ℕ) → j < length es → same (take (length key) (getD es j [])) key ≡ false) → hasKey key es ≡ false
-  has-none [] f = refl
-  has-none (x ∷ es) f = rw (f 0 (omega arith), has-none es (λ j l. f (suc j) (omega arith)))
-
-  pub found-has : (es : List (List ℕ)) (i : ℕ) → found key 0 es ≡ At i → hasKey key es ≡ true
-  found-has es i h = has-one es i (at-inside key es i h) (at-same key es i h)
-
-  pub gap-has : (es : List (List ℕ)) (i : ℕ) → rising (length key) es ≡ true → found key 0 es ≡ Gap i → hasKey key es ≡ false
-  gap-has es i r h = has-none es (gap-absent key es i r h)
-
--- ---- pending and stored
-
-pub pending-key : (id : List ℕ) (es : List (List ℕ)) → length id ≡ 32 → isPending id (map requestOf es) ≡ hasKey id es
-unfolding isPending isAmong requestOf
-pending-key id [] l = refl
-pending-key id (e ∷ es) l = rw (l, same-sym id (take 32 e), pending-key id es l)
+-- ---- stored
 
 pair-same : (e : List ℕ) (typeId : ℕ) (id : List ℕ) → length e ≡ 33 → length id ≡ 32 → eqb (getD e 0 0) typeId && same (drop 1 e) id ≡ same (take (suc (length id)) e) (typeId ∷ id)
 unfolding same

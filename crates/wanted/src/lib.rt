@@ -11,7 +11,7 @@ ghost use Rattle.model.specs.Delivery.{isPending};
 ghost use Rattle.model.specs.Requests as model;
 ghost use Rattle.model.specs.Lists.{idsIn, pairsIn, pairsFit};
 ghost use Rattle.requests.specs.Pending.{requestsIn};
-ghost use Rattle.wanted.specs.Keys.{hasKey};
+ghost use Rattle.search.specs.Keys.{hasKey};
 use search::find::Found;
 
 // Whether an entry starts with the key.

@@ -4,7 +4,8 @@ use Rattle.model.specs.Image.{recordSize, requestOf}
 use Rattle.fields.proofs.AllLaws.{all-at}
 use Rattle.batches.specs.Items.{Asked}
 use Rattle.batches.specs.Batches.{batchAt}
-use Rattle.batches.proofs.ItemLaws.{type-read, batch-as}
+use Rattle.requests.proofs.RecordedLaws.{type-read}
+use Rattle.batches.proofs.ItemLaws.{batch-as}
 use borrow.Author.Needs.{needs}
 use native.Mathlib.Omega.{arith}
 use Prim.Native.Nat.{_-_}

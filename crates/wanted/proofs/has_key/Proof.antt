@@ -2,7 +2,7 @@
 use borrow.Author.Needs.{needs}
 use mathlib.Core.Path.{sym, _∙_}
 use Rattle.fields.specs.Entries.{entries}
-use Rattle.wanted.proofs.WantedLaws.{found-has, gap-has}
+use Rattle.search.proofs.HasLaws.{found-has, gap-has}
 use Rattle.wanted.proofs.has_key.Statement.{statement}
 use Rattle.wanted.proofs.has_key.Tie as tie
 

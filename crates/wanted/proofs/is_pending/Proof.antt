@@ -2,7 +2,7 @@
 use native.Mathlib.Omega.{arith}
 use mathlib.Core.Path.{sym, _∙_}
 use Rattle.fields.specs.Entries.{entries}
-use Rattle.wanted.proofs.WantedLaws.{pending-key}
+use Rattle.entering.proofs.KeyLaws.{pending-key}
 use Rattle.wanted.proofs.is_pending.Statement.{statement}
 use Rattle.wanted.proofs.is_pending.Tie as tie
 
