@@ -17,14 +17,14 @@ use Rattle.fields.proofs.FilterLaws.{length-kept}
 use Rattle.fields.proofs.MarkLaws.{kept-map, length-marks-left}
 use Rattle.fields.proofs.OverwriteLaws.{overwritten-next}
 use Rattle.fields.proofs.EntriesLaws.{Wide, length-entries, entries-wide, entries-bytes, joined-entries, joined-append, drop-replaced, length-replaced}
-use Rattle.moving.specs.Move.{moved}
-use Rattle.moving.proofs.MoveLaws.{length-part}
+use Rattle.spans.specs.Move.{moved}
+use Rattle.spans.proofs.MoveLaws.{length-part}
 use Rattle.model.specs.Protocol.{Id, isAmong}
 use Rattle.model.specs.Delivery.{Request, markReceived, pendingAfterEviction, evictedAfterEviction}
 use Rattle.model.specs.Image.{idSize, recordSize, requestOf}
 use Rattle.model.specs.Lists.{idsIn}
 use Rattle.model.proofs.RecordLaws.{records-of-requests}
-use Rattle.requests.specs.Pending.{requestsIn, holding}
+use Rattle.commands.specs.Pending.{requestsIn, holding}
 use Rattle.delivery.specs.Records.{unlisted}
 use Rattle.delivery.specs.Region.{evictedIn, endingWith, scheduledAs, regionThen}
 use Rattle.delivery.specs.declared.evict.Evicted.the-variants.{Pending, Full}

@@ -13,13 +13,13 @@ use Rattle.fields.proofs.AllLaws.{all-by-index, all-marked}
 use Rattle.fields.proofs.MarkLaws.{kept-all, kept-same-test, kept-kept, marked-unset}
 use Rattle.fields.proofs.OrderLaws.{same-sym, before-not-same}
 use Rattle.fields.proofs.RisingLaws.{rising-at}
-use Rattle.search.specs.Find.{found}
-use Rattle.search.specs.declared.find.Found.the-variants.{At, Gap}
-use Rattle.search.proofs.FindLaws.{at-inside, at-same, at-key, gap-absent}
+use Rattle.keys.specs.Find.{found}
+use Rattle.keys.specs.declared.find.Found.the-variants.{At, Gap}
+use Rattle.keys.proofs.FindLaws.{at-inside, at-same, at-key, gap-absent}
 use Rattle.model.specs.Protocol.{Id, isAmong}
 use Rattle.model.specs.Image.{idSize}
 use Rattle.model.specs.Lists.{idsIn}
-use Rattle.requests.proofs.RunLaws.{ids-from, ids-none}
+use Rattle.commands.proofs.RunLaws.{ids-from, ids-none}
 use Rattle.delivery.specs.Records.{unlisted}
 
 neither-of : (a b : Bool) → not (a || false) && not b ≡ not (a || b)

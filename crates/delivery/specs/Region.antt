@@ -9,7 +9,7 @@ use Rattle.fields.specs.Entries.{entries, joined}
 use Rattle.model.specs.Protocol.{Id}
 use Rattle.model.specs.Delivery.{Request}
 use Rattle.model.specs.Image.{idSize}
-use Rattle.requests.specs.Pending.{holding}
+use Rattle.commands.specs.Pending.{holding}
 use Rattle.delivery.specs.declared.evict.Evicted.{Evicted}
 use Rattle.delivery.specs.declared.evict.Evicted.the-variants.{Pending, Full}
 

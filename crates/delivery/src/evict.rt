@@ -6,7 +6,7 @@ ghost use lib.ListN.{length};
 ghost use Rattle.fields.specs.Entries.{entries, rising};
 ghost use Rattle.model.specs.Delivery.{pendingAfterEviction, evictedAfterEviction};
 ghost use Rattle.model.specs.Lists.{idsIn};
-ghost use Rattle.requests.specs.Pending.{requestsIn};
+ghost use Rattle.commands.specs.Pending.{requestsIn};
 ghost use Rattle.delivery.specs.Region.{evictedIn, endingWith, scheduledAs, regionThen};
 
 pub enum Evicted {
@@ -21,8 +21,8 @@ fn append_evicted(region: &mut [u8], evicted: usize, ids: &[u8])
 {
     let size = evicted * 32;
     let from = region.len() - size;
-    moving::move_down(region, from, from - ids.len(), size);
-    moving::overwrite(region, region.len() - ids.len(), ids);
+    spans::moving::move_down(region, from, from - ids.len(), size);
+    spans::moving::overwrite(region, region.len() - ids.len(), ids);
 }
 
 // With more than 1,024 pending and evicted then, the answer is Full and the region stays.

@@ -9,7 +9,7 @@ ghost use Rattle.fields.specs.Entries.{entries, rising};
 ghost use Rattle.fields.specs.Filter.{kept, marked};
 ghost use Rattle.model.specs.Lists.{idsIn};
 ghost use Rattle.delivery.specs.Records.{unlisted};
-use search::find::Found;
+use keys::find::Found;
 
 // Takes the mark from the record that has this id, by a binary search.
 pub fn unmark(table: &[u8], count: usize, id: &[u8], marks: &mut [u8])
@@ -17,7 +17,7 @@ pub fn unmark(table: &[u8], count: usize, id: &[u8], marks: &mut [u8])
     requires { ⌜ rising 32 (entries 54 count (now table)) ≡ true ⌝ }
     ensures { λ _. ⌜ marked (now (marks .exit)) (entries 54 count (now (table .entry))) ≡ unlisted (now (id .entry) ∷ []) (marked (now (marks .entry)) (entries 54 count (now (table .entry)))) ⌝ }
 {
-    match search::find::find(table, 54, count, id) {
+    match keys::find::find(table, 54, count, id) {
         Found::At(i) => {
             marks[i] = 0;
         }

@@ -6,7 +6,7 @@ ghost use lib.ListN.{length};
 ghost use Rattle.fields.specs.Entries.{entries, rising};
 ghost use Rattle.model.specs.Delivery.{markReceived};
 ghost use Rattle.model.specs.Lists.{idsIn};
-ghost use Rattle.requests.specs.Pending.{requestsIn, holding};
+ghost use Rattle.commands.specs.Pending.{requestsIn, holding};
 
 // Takes the listed ids out of the table. Answers how many requests are left.
 pub fn mark_received(table: &mut [u8], count: usize, ids: &[u8]) -> usize

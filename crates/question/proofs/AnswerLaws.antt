@@ -20,7 +20,7 @@ use Rattle.model.specs.Delivery.{Request, orphansOf}
 use Rattle.model.specs.Image.{requestOf}
 use Rattle.model.specs.Lists.{entriesOf}
 use Rattle.model.specs.Calls.{pairBytes}
-use Rattle.requests.specs.Pending.{requestsIn}
+use Rattle.commands.specs.Pending.{requestsIn}
 
 abbrev header : List ℕ → List ℕ
 header = pairBytes headerType

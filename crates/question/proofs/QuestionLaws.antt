@@ -20,7 +20,7 @@ use Rattle.model.specs.Image.{field, modeOf, typesNarrow, pendingCount, evicted
 use Rattle.model.specs.Lists.{entriesOf}
 use Rattle.model.specs.Calls.{pairBytes, strictlyRising, questionPairs}
 use Rattle.model.proofs.FormedLaws.{formed}
-use Rattle.requests.specs.Pending.{requestsIn}
+use Rattle.commands.specs.Pending.{requestsIn}
 use Rattle.image.specs.Heads.{headIn}
 use Rattle.image.specs.declared.head.Head.{Head}
 use Rattle.question.specs.Asked.{askedPairs}

@@ -1,6 +1,8 @@
 // The question: the pairs of type and id that a check or a lost peer may read, strictly rising.
 //
 // n pairs cost n log n comparisons. The area is read only.
+pub mod rising;
+
 ghost use mathlib.Core.Path.{_≡_};
 ghost use mathlib.Core.Bool.{true};
 ghost use mathlib.Core.List.{map};
@@ -25,7 +27,7 @@ fn put_header(ids: &[u8], i: usize, pairs: &mut [u8])
     let end = from + 32;
     let at = i * 33;
     pairs[at] = 101;
-    moving::overwrite(pairs, at + 1, &ids[from..end]);
+    spans::moving::overwrite(pairs, at + 1, &ids[from..end]);
 }
 
 // The first `count` ids as pairs of headers.
@@ -54,7 +56,7 @@ fn gather(area: &[u8], head: Head, flag: u8, pairs: &mut [u8]) -> usize
         put_headers(&area[from..], count, pairs);
         return count;
     }
-    orphans::orphans(&area[2560..], head.pending, head.peer, pairs)
+    delivery::orphans::orphans(&area[2560..], head.pending, head.peer, pairs)
 }
 
 // Whether a mode has a sync peer.
@@ -78,5 +80,5 @@ pub fn question_pairs(area: &[u8], head: Head, flag: u8, out: &mut [u8]) -> usiz
     let mut pairs = [0u8; 33792];
     let count = gather(area, head, flag, &mut pairs);
     let size = count * 33;
-    rising::put_rising(&pairs[..size], out)
+    crate::rising::put_rising(&pairs[..size], out)
 }

@@ -21,9 +21,9 @@ use Rattle.fields.proofs.NumberLaws.{bytes-take, bytes-drop}
 use Rattle.fields.proofs.PartLaws.{part-below, length-part}
 use Rattle.fields.proofs.SortLaws.{map-sorted, all-sorted, length-sorted}
 use Rattle.fields.proofs.AllLaws.{all-map, all-weaker}
-use Rattle.places.proofs.MappedLaws.{next-mapped, drop-map, take-map}
-use Rattle.gathering.specs.Gathered.{gathered}
-use Rattle.gathering.proofs.GatheredLaws.{gathered-wide, length-gathered, gathered-all}
+use Rattle.order.proofs.MappedLaws.{next-mapped, drop-map, take-map}
+use Rattle.order.specs.Gathered.{gathered}
+use Rattle.order.proofs.GatheredLaws.{gathered-wide, length-gathered, gathered-all}
 use Rattle.order.specs.Places.{keyAt, keyBelow}
 use Rattle.model.specs.Protocol.{Id}
 use Rattle.model.specs.Image.{recordSize, requestOf}
@@ -34,12 +34,12 @@ use Rattle.model.specs.Check.{retrySendings}
 use Rattle.model.specs.Lists.{idsIn}
 use Rattle.model.proofs.Widths.{WellItem}
 use Rattle.model.proofs.SendingLaws.{retries-sent-well, sendings-bytes, retries-weight}
-use Rattle.requests.specs.Sent.{sentBytes}
-use Rattle.requests.proofs.RunLaws.{take-ids, drop-ids}
-use Rattle.batches.specs.Items.{itemOf, Asked, itemAt, itemsAt, alike, span}
-use Rattle.requests.proofs.RecordedLaws.{entry-bytes}
-use Rattle.batches.proofs.ItemLaws.{span-le}
-use Rattle.retries.specs.Batches.{idsAt, sendingsOf}
+use Rattle.commands.specs.Sent.{sentBytes}
+use Rattle.commands.proofs.RunLaws.{take-ids, drop-ids}
+use Rattle.retries.specs.Items.{itemOf, Asked, itemAt, itemsAt, alike, span}
+use Rattle.commands.proofs.RecordedLaws.{entry-bytes}
+use Rattle.retries.proofs.ItemLaws.{span-le}
+use Rattle.retries.specs.Retried.{idsAt, sendingsOf}
 
 -- ---- the first batch of some items
 

@@ -15,12 +15,12 @@ use Rattle.fields.specs.Overwrite.{overwritten}
 use Rattle.model.specs.Requests.{request, commandsOf}
 use Rattle.model.specs.Commands.{allCommandBytes}
 use Rattle.model.specs.Lists.{idsIn}
-use Rattle.requests.specs.Sent.{sentBytes}
-use Rattle.batches.specs.Items.{Asked, itemAt, itemsAt, alike, span}
-use Rattle.batches.specs.Batches.{batchAt, batchesFrom, batchesIn, filledWith}
-use Rattle.batches.specs.declared.Batch as declared
-use Rattle.batches.proofs.FillLaws.{batches-next, batches-end}
-use Rattle.retries.specs.Batches.{idsAt, sendingsOf}
+use Rattle.commands.specs.Sent.{sentBytes}
+use Rattle.retries.specs.Items.{Asked, itemAt, itemsAt, alike, span}
+use Rattle.retries.specs.Batches.{batchAt, batchesFrom, batchesIn, filledWith}
+use Rattle.retries.specs.declared.batches.Batch as declared
+use Rattle.retries.proofs.FillLaws.{batches-next, batches-end}
+use Rattle.retries.specs.Retried.{idsAt, sendingsOf}
 use Rattle.retries.proofs.GroupLaws.{ids-with, Sent, sent-starts, sent-ends, batch-within, batch-room, sent-next, length-ids, next-item, batch-ids}
 
 -- ---- one batch, at place i

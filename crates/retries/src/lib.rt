@@ -1,6 +1,8 @@
 // The retries of a delivery check, sent in batches by target, then type.
 //
 // One sort of the retried places, one pass over their ids. Where nothing is sent, no room is made.
+pub mod batches;
+
 ghost use mathlib.Core.Path.{_≡_};
 ghost use mathlib.Core.Bool.{cond};
 ghost use mathlib.Core.List.{[], map};
@@ -11,10 +13,10 @@ ghost use Rattle.fields.specs.Entries.{entry, joined};
 ghost use Rattle.fields.specs.Overwrite.{overwritten};
 ghost use Rattle.model.specs.Image.{requestOf, recordSize};
 ghost use Rattle.model.specs.Check.{retrySendings};
-ghost use Rattle.requests.specs.Sent.{sentBytes};
-ghost use Rattle.batches.specs.Items.{Asked, itemsAt, itemOf};
-ghost use Rattle.retries.specs.Batches.{idsAt, sendingsOf};
-use batches::Batch;
+ghost use Rattle.commands.specs.Sent.{sentBytes};
+ghost use Rattle.retries.specs.Items.{Asked, itemsAt, itemOf};
+ghost use Rattle.retries.specs.Retried.{idsAt, sendingsOf};
+use crate::batches::Batch;
 
 pub struct Written {
     pub at: usize,
@@ -47,7 +49,7 @@ fn put_batches(
     ensures { λ r. ⌜ r .at ≡ at + length (sentBytes batch (sendingsOf (itemsAt (now (table .entry)) (now (places .entry))))) ⌝ }
     ensures { λ r. ⌜ r .batch ≡ batch + length (sendingsOf (itemsAt (now (table .entry)) (now (places .entry)))) ⌝ }
 {
-    let grouped = batches::grouped(no_batches(), table, places);
+    let grouped = crate::batches::grouped(no_batches(), table, places);
     let list = grouped.list;
     let count = grouped.count;
     let mut place = at;
@@ -57,7 +59,7 @@ fn put_batches(
         let one = list[i];
         let from = one.first * 32;
         let end = from + one.count * 32;
-        place = requests::commands::put_requests(
+        place = commands::writing::put_requests(
             out,
             place,
             one.typeid,
@@ -94,7 +96,7 @@ fn put_retries(
     ensures { λ r. ⌜ r .batch ≡ batch + length (retrySendings (map (λ (place : ℕ). itemOf (requestOf (entry recordSize place (now (table .entry))))) (now (places .entry)))) ⌝ }
 {
     order::sort(table, 54, 32, 10, places, spare);
-    gathering::gather(table, 54, 0, places, ids);
+    order::gathering::gather(table, 54, 0, places, ids);
     put_batches(table, places, ids, out, at, batch)
 }
 

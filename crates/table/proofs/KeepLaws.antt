@@ -16,8 +16,8 @@ use Rattle.fields.specs.Zero.{zeros}
 use Rattle.fields.proofs.OverwriteLaws.{length-overwritten, take-before, drop-after, overwritten-same}
 use Rattle.fields.proofs.EntriesLaws.{length-entries, entries-take, take-entries, drop-entries, entries-behind}
 use Rattle.fields.proofs.FilterLaws.{marked-end}
-use Rattle.moving.specs.Move.{moved}
-use Rattle.moving.proofs.MoveLaws.{length-part}
+use Rattle.spans.specs.Move.{moved}
+use Rattle.spans.proofs.MoveLaws.{length-part}
 use Rattle.table.specs.Keep.{Keeping}
 use Rattle.table.proofs.EditLaws.{bytes-from, cut-down}
 use Rattle.table.proofs.MarkLaws.{marked-ones, one-mark, not-marked}

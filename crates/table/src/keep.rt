@@ -17,7 +17,7 @@ pub fn move_entry(table: &mut [u8], width: usize, from: usize, to: usize)
     ensures { λ _. ⌜ now (table .exit) ≡ overwritten (to * width) (entry width from (now (table .entry))) (now (table .entry)) ⌝ }
 {
     if to < from {
-        moving::move_down(table, from * width, to * width, width);
+        spans::moving::move_down(table, from * width, to * width, width);
     }
 }
 
@@ -79,7 +79,7 @@ fn keep_eight(
     ensures { λ r. ⌜ ((count : ℕ) (d : List ℕ) → end ≤ count → Keeping width count (now (marks .entry)) d (now (table .entry)) kept from → Keeping width count (now (marks .entry)) d (now (table .exit)) r end) ⌝ }
 {
     if eight_kept(marks, from, end) {
-        moving::move_down(table, from * width, kept * width, 8 * width);
+        spans::moving::move_down(table, from * width, kept * width, 8 * width);
         return kept + 8;
     }
     keep_each(table, width, from, end, kept, marks)
@@ -113,6 +113,6 @@ pub fn keep(table: &mut [u8], width: usize, count: usize, marks: &[u8]) -> usize
         kept = keep_eight(table, width, i, end, kept, marks);
         i = end;
     }
-    moving::clear(table, kept * width, (count - kept) * width);
+    spans::moving::clear(table, kept * width, (count - kept) * width);
     kept
 }

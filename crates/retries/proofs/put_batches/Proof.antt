@@ -3,8 +3,8 @@ use native.Mathlib.Omega.{arith}
 use Prim.Native.Nat.{_+_, _-_, _*_, _<_}
 use mathlib.Core.Path.{refl}
 use lib.ListN.{length, take, drop, getD}
-use Rattle.batches.specs.Batches.{batchesIn}
-use Rattle.batches.specs.declared.Batch.{Batch}
+use Rattle.retries.specs.Batches.{batchesIn}
+use Rattle.retries.specs.declared.batches.Batch.{Batch}
 use Rattle.retries.proofs.WritingLaws.{Writing, Turn, writing-starts, writing-ends, turn}
 use Rattle.retries.proofs.put_batches.Statement.{statement}
 use Rattle.retries.proofs.put_batches.Tie as tie

@@ -5,7 +5,7 @@ use Prim.Native.Nat.{_<_}
 use mathlib.Core.Path.{sym, _∙_}
 use Rattle.fields.specs.Entries.{entries}
 use Rattle.fields.proofs.EntriesLaws.{length-entries}
-use Rattle.search.proofs.FindLaws.{at-inside}
+use Rattle.keys.proofs.FindLaws.{at-inside}
 use Rattle.delivery.proofs.ListedLaws.{unmarked-at, unmarked-nowhere}
 use Rattle.delivery.proofs.marks.unmark.Statement.{statement}
 use Rattle.delivery.proofs.marks.unmark.Tie as tie

@@ -7,7 +7,7 @@ use lib.ListN.{length, drop}
 use Rattle.fields.specs.Entries.{entries}
 use Rattle.fields.specs.Filter.{marked}
 use Rattle.model.specs.Lists.{idsIn}
-use Rattle.requests.proofs.RunLaws.{length-id}
+use Rattle.commands.proofs.RunLaws.{length-id}
 use Rattle.delivery.specs.Records.{unlisted}
 use Rattle.delivery.proofs.ListedLaws.{listed-turn, listed-end}
 use Rattle.delivery.proofs.marks.unmark_listed.Statement.{statement}
