@@ -26,7 +26,8 @@ unfolding moved
 moved-none from to s = overwritten-nil to s
 
 -- bytes read as a number and written again
-pub word-again : (from size word : ℕ) (s : List ℕ) → Bytes s → from + size ≤ length s → word ≡ fromBe (take size (drop from s)) → toBe size word ≡ take size (drop from s)
+pub word-again : (from size word : ℕ) (s : List ℕ) → Bytes s → from + size ≤ length s → word ≡ fromBe (take size (drop from s))
+    → toBe size word ≡ take size (drop from s)
 word-again from size word s b h e =
     let l : length (take size (drop from s)) ≡ size = length-part from size s h in
     rw e (rw l at (toBe-fromBe (take size (drop from s)) (bytes-take size (drop from s) (bytes-drop from s b))))
@@ -37,7 +38,7 @@ unfolding moved
 moved-word from to size word s b h e = rw (word-again from size word s b h e)
 
 -- the next n bytes, read before the move
-pub moved-next : (from to m n : ℕ) (s : List ℕ) → from + (m + n) ≤ length s → to + (m + n) ≤ length s
+moved-next : (from to m n : ℕ) (s : List ℕ) → from + (m + n) ≤ length s → to + (m + n) ≤ length s
     → overwritten (to + m) (take n (drop (from + m) s)) (moved from to m s) ≡ moved from to (m + n) s
 unfolding moved
 moved-next from to m n s h k =
@@ -51,8 +52,10 @@ word-next from to m word s t u b h k w e f = f ∙ rw (e, word-again (from + m) 
 
 -- four words, all read before the first is written
 pub moved-block : (from to a b c d : ℕ) (s t₁ t₂ t₃ t₄ : List ℕ) → Bytes s → from + 32 ≤ length s → to + 32 ≤ length s
-    → a ≡ fromBe (take 8 (drop from s)) → b ≡ fromBe (take 8 (drop (from + 8) s)) → c ≡ fromBe (take 8 (drop (from + 16) s)) → d ≡ fromBe (take 8 (drop (from + 24) s))
-    → t₁ ≡ overwritten to (toBe 8 a) s → t₂ ≡ overwritten (to + 8) (toBe 8 b) t₁ → t₃ ≡ overwritten (to + 16) (toBe 8 c) t₂ → t₄ ≡ overwritten (to + 24) (toBe 8 d) t₃
+    → a ≡ fromBe (take 8 (drop from s)) → b ≡ fromBe (take 8 (drop (from + 8) s))
+    → c ≡ fromBe (take 8 (drop (from + 16) s)) → d ≡ fromBe (take 8 (drop (from + 24) s))
+    → t₁ ≡ overwritten to (toBe 8 a) s → t₂ ≡ overwritten (to + 8) (toBe 8 b) t₁
+    → t₃ ≡ overwritten (to + 16) (toBe 8 c) t₂ → t₄ ≡ overwritten (to + 24) (toBe 8 d) t₃
     → t₄ ≡ moved from to 32 s
 moved-block from to a b c d s t₁ t₂ t₃ t₄ y h k ra rb rc rd e₁ e₂ e₃ e₄ =
     let m₁ : t₁ ≡ moved from to 8 s = e₁ ∙ moved-word from to 8 a s y (omega arith) ra in
@@ -72,7 +75,7 @@ moved-front from to m n s h k =
     rw (← part-add from m n s) (rw la at (overwritten-in-front to a b s (omega arith)))
 
 -- up, the last n bytes before the first m
-pub moved-up : (from to m n : ℕ) (s : List ℕ) → from ≤ to → to + (m + n) ≤ length s
+moved-up : (from to m n : ℕ) (s : List ℕ) → from ≤ to → to + (m + n) ≤ length s
     → moved from to m (moved (from + m) (to + m) n s) ≡ moved from to (m + n) s
 unfolding moved
 moved-up from to m n s o h =
@@ -82,12 +85,13 @@ moved-up from to m n s o h =
     rw p (moved-front from to m n s (omega arith) h)
 
 -- down, the first m bytes before the last n
-pub moved-down : (from to m n : ℕ) (s : List ℕ) → to ≤ from → from + (m + n) ≤ length s
+moved-down : (from to m n : ℕ) (s : List ℕ) → to ≤ from → from + (m + n) ≤ length s
     → moved (from + m) (to + m) n (moved from to m s) ≡ moved from to (m + n) s
 unfolding moved
 moved-down from to m n s o h =
     let la : length (take m (drop from s)) ≡ m = length-part from m s (omega arith) in
-    let d : drop (from + m) (overwritten to (take m (drop from s)) s) ≡ drop (from + m) s = drop-after to (take m (drop from s)) s (omega arith) (from + m) (omega arith) in
+    let d : drop (from + m) (overwritten to (take m (drop from s)) s) ≡ drop (from + m) s =
+    drop-after to (take m (drop from s)) s (omega arith) (from + m) (omega arith) in
     rw d (moved-next from to m n s h (omega arith))
 
 -- ---- a loop that moves `step` bytes a turn: s is what was, t the state, u the next one
@@ -108,7 +112,8 @@ module _ (from to size : ℕ) (s t u : List ℕ) where
 
 -- ---- a word read before the others moved, written over what they left
 
-covered : (at i : ℕ) (a b s : List ℕ) → at ≤ i → i + length a ≤ at + length b → i + length a ≤ length s → overwritten at b (overwritten i a s) ≡ overwritten at b s
+covered : (at i : ℕ) (a b s : List ℕ) → at ≤ i → i + length a ≤ at + length b → i + length a ≤ length s
+    → overwritten at b (overwritten i a s) ≡ overwritten at b s
 unfolding overwritten
 covered at i a b s h k l = rw (take-before i a s l at h, drop-after i a s l (at + length b) k)
 

@@ -40,8 +40,9 @@ returns-2 c =
     let moved : tie.After-move-words-down = search in
     let w : tie.After-write-u64 = search in
     let a = s .args in
-    last-word (a .from) (a .to) (a .size) (a .s .now) (omega arith) (omega arith) (r .read-u64 .result) (moved .move-words-down .last .0) (w .write-u64 .last .0)
-    (λ i. omega (arith, bytes .slice-known .given i)) (omega arith) (moved .move-words-down .result) (moved .move-words-down .ensures .0 .0) (moved .move-words-down .ensures .0 .1)
+    last-word (a .from) (a .to) (a .size) (a .s .now) (omega arith) (omega arith) (r .read-u64 .result)
+    (moved .move-words-down .last .0) (w .write-u64 .last .0) (λ i. omega (arith, bytes .slice-known .given i)) (omega arith)
+    (moved .move-words-down .result) (moved .move-words-down .ensures .0 .0) (moved .move-words-down .ensures .0 .1)
     (r .read-u64 .ensures) (moved .move-words-down .ensures .1) (w .write-u64 .ensures)
 
 pub move-down-spec : {M : Type 1} → statement M

@@ -34,8 +34,9 @@ returns-2 c =
     let moved : tie.After-move-words-up = search in
     let w : tie.After-write-u64 = search in
     let a = s .args in
-    first-word (a .from) (a .to) (a .size) (a .s .now) (omega arith) (omega arith) (r .read-u64 .result) (moved .move-words-up .last .0) (w .write-u64 .last .0)
-    (λ i. omega (arith, bytes .slice-known .given i)) (omega arith) (moved .move-words-up .result) (moved .move-words-up .ensures .0 .1)
+    first-word (a .from) (a .to) (a .size) (a .s .now) (omega arith) (omega arith) (r .read-u64 .result)
+    (moved .move-words-up .last .0) (w .write-u64 .last .0) (λ i. omega (arith, bytes .slice-known .given i)) (omega arith)
+    (moved .move-words-up .result) (moved .move-words-up .ensures .0 .1)
     (r .read-u64 .ensures) (moved .move-words-up .ensures .1) (w .write-u64 .ensures)
 
 pub move-up-spec : {M : Type 1} → statement M

@@ -99,7 +99,8 @@ loop2-again c =
       (
         omega arith,
         (λ d h e.
-            down-turn (a .from) (a .to) (a .size) d (l .loop2 .s) (u .move-eight .last .0) (l .loop2 .done) 8 o h k (l .loop2 .inv .1 .1 d h e) (u .move-eight .ensures)),
+            down-turn (a .from) (a .to) (a .size) d (l .loop2 .s) (u .move-eight .last .0) (l .loop2 .done) 8 o h k
+            (l .loop2 .inv .1 .1 d h e) (u .move-eight .ensures)),
       ),
     )
 

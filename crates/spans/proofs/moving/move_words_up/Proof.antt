@@ -97,7 +97,8 @@ loop2-again c =
       (
         omega arith,
         (λ d h e.
-            up-turn (a .from) (a .to) (a .size) d (l .loop2 .s) (u .move-eight .last .0) (l .loop2 .left) 8 o h k i (l .loop2 .inv .1 .1 d h e) (u .move-eight .ensures)),
+            up-turn (a .from) (a .to) (a .size) d (l .loop2 .s) (u .move-eight .last .0) (l .loop2 .left) 8 o h k i
+            (l .loop2 .inv .1 .1 d h e) (u .move-eight .ensures)),
       ),
     )
 
