@@ -18,7 +18,7 @@ use Rattle.fields.proofs.RisingLaws.{rising-ascending}
 use Rattle.table.proofs.EditLaws.{cut-down}
 use Rattle.model.specs.Settings.{Settings}
 use Rattle.model.specs.Delivery.{Request, Verdict, waiting, retried, abandoned, forgotten, verdict, judged, checkTimeouts}
-use Rattle.model.specs.Image.{recordSize, requestOf, requestBytes}
+use Rattle.model.specs.Image.{requestOf, requestBytes}
 use Rattle.model.specs.Check.{retryTarget}
 use Rattle.model.proofs.RecordLaws.{bytes-of-request, ids-rise}
 use Rattle.commands.specs.Pending.{requestsIn, holding}
@@ -28,6 +28,7 @@ use Rattle.check_timeouts.specs.declared.check.Checked.{Checked}
 use Rattle.check_timeouts.proofs.RetryLaws.{checkedTo, length-checked, pending-after}
 use Rattle.commands.proofs.RecordedLaws.{entry-bytes}
 use Rattle.check_timeouts.proofs.RecordLaws.{restarted-long}
+use Rattle.model.specs.Layout.{idSize, recordSize}
 
 abbrev pub none : Checked
 none = record { pending = 0; retried = 0; abandoned = 0; forgotten = 0 }
@@ -45,16 +46,16 @@ pub record Checking (settings : Settings) (clock : ℕ) (target : ℕ → ℕ) (
   pub forgotten-le : s .forgotten ≤ i
   pub long : length t ≡ length d
   pub places-long : length places ≡ length noted
-  pub kept : entries 54 (s .pending) t ++ map requestBytes (checkedTo settings clock target (map requestOf (drop i (entries 54 count d))))
+  pub kept : entries recordSize (s .pending) t ++ map requestBytes (checkedTo settings clock target (map requestOf (drop i (entries recordSize count d))))
       ≡ map requestBytes (checkedTo settings clock target (requestsIn count d))
-  pub listed : take (s .retried) places ++ retriedPlaces settings clock (map requestOf (drop i (entries 54 count d))) (s .pending)
+  pub listed : take (s .retried) places ++ retriedPlaces settings clock (map requestOf (drop i (entries recordSize count d))) (s .pending)
       ≡ retriedPlaces settings clock (requestsIn count d) 0
-  pub retried-counted : Counted settings clock retried (s .retried) (map requestOf (drop i (entries 54 count d))) (requestsIn count d)
-  pub abandoned-counted : Counted settings clock abandoned (s .abandoned) (map requestOf (drop i (entries 54 count d))) (requestsIn count d)
-  pub forgotten-counted : Counted settings clock forgotten (s .forgotten) (map requestOf (drop i (entries 54 count d))) (requestsIn count d)
-  pub rest : drop (i * 54) t ≡ drop (i * 54) d
-  pub stamps : All (λ (r : Request). r .stamp ≤ clock) (map requestOf (drop i (entries 54 count d)))
-  pub checks : All (λ (r : Request). r .checks + 1 < 2 ^ 32) (map requestOf (drop i (entries 54 count d)))
+  pub retried-counted : Counted settings clock retried (s .retried) (map requestOf (drop i (entries recordSize count d))) (requestsIn count d)
+  pub abandoned-counted : Counted settings clock abandoned (s .abandoned) (map requestOf (drop i (entries recordSize count d))) (requestsIn count d)
+  pub forgotten-counted : Counted settings clock forgotten (s .forgotten) (map requestOf (drop i (entries recordSize count d))) (requestsIn count d)
+  pub rest : drop (i * recordSize) t ≡ drop (i * recordSize) d
+  pub stamps : All (λ (r : Request). r .stamp ≤ clock) (map requestOf (drop i (entries recordSize count d)))
+  pub checks : All (λ (r : Request). r .checks + 1 < 2 ^ 32) (map requestOf (drop i (entries recordSize count d)))
 
 none-counted : (settings : Settings) (clock : ℕ) (v : Verdict) (n : ℕ) (whole : List Request) → Counted settings clock v n [] whole → n ≡ length (judged settings clock v whole)
 unfolding judged
@@ -83,18 +84,18 @@ starts settings clock target count d places a b =
     }
 
 module _ (settings : Settings) (clock : ℕ) (target : ℕ → ℕ) (count : ℕ) (d noted t places : List ℕ) (s : Checked) (i : ℕ)
-    (c : Checking settings clock target count d noted t places s i) (h : i < count) (l : count * 54 ≤ length d) where
-  in-d : i * 54 + 54 ≤ length d
-  in-d = omega (arith, mul-le-mul-right 54 h)
+    (c : Checking settings clock target count d noted t places s i) (h : i < count) (l : count * recordSize ≤ length d) where
+  in-d : i * recordSize + recordSize ≤ length d
+  in-d = omega (arith, mul-le-mul-right recordSize h)
 
-  pub in-table : i * 54 + 54 ≤ length t
+  pub in-table : i * recordSize + recordSize ≤ length t
   in-table = omega (arith, in-d, c .long)
 
-  pub here : drop i (entries 54 count d) ≡ entry recordSize i t ∷ drop (i + 1) (entries 54 count d)
+  pub here : drop i (entries recordSize count d) ≡ entry recordSize i t ∷ drop (i + 1) (entries recordSize count d)
   unfolding entry
   here =
-      let e : getD (entries 54 count d) i [] ≡ entry recordSize i t = entries-at 54 count i d h ∙ ap (take 54) (sym (c .rest)) in
-      drop-cons (entries 54 count d) i [] (rw length-entries h) ∙ rw (e, add-one)
+      let e : getD (entries recordSize count d) i [] ≡ entry recordSize i t = entries-at recordSize count i d h ∙ ap (take recordSize) (sym (c .rest)) in
+      drop-cons (entries recordSize count d) i [] (rw length-entries h) ∙ rw (e, add-one)
 
   pub stamp-here : requestOf (entry recordSize i t) .stamp ≤ clock
   stamp-here = (rw here at (c .stamps)) .0
@@ -102,26 +103,26 @@ module _ (settings : Settings) (clock : ℕ) (target : ℕ → ℕ) (count : ℕ
   pub checks-here : requestOf (entry recordSize i t) .checks + 1 < 2 ^ 32
   checks-here = (rw here at (c .checks)) .0
 
-  rest-next : drop ((i + 1) * 54) t ≡ drop ((i + 1) * 54) d
+  rest-next : drop ((i + 1) * recordSize) t ≡ drop ((i + 1) * recordSize) d
   rest-next =
-      let e : (i + 1) * 54 ≡ i * 54 + 54 = omega arith in
-      rw (e, ← drop-drop 54 (i * 54) t, ← drop-drop 54 (i * 54) d, c .rest)
+      let e : (i + 1) * recordSize ≡ i * recordSize + recordSize = omega arith in
+      rw (e, ← drop-drop recordSize (i * recordSize) t, ← drop-drop recordSize (i * recordSize) d, c .rest)
 
-  in-place : s .pending * 54 + 54 ≤ length t
-  in-place = omega (arith, mul-le-mul-right 54 (c .pending-le), in-table)
+  in-place : s .pending * recordSize + recordSize ≤ length t
+  in-place = omega (arith, mul-le-mul-right recordSize (c .pending-le), in-table)
 
   -- a record x behind those that stay
-  kept-next : (x : List ℕ) (more : List (List ℕ)) → length x ≡ 54
-      → entries 54 (s .pending) t ++ (x ∷ more) ≡ map requestBytes (checkedTo settings clock target (requestsIn count d))
-      → entries 54 (s .pending + 1) (overwritten (s .pending * 54) x t) ++ more ≡ map requestBytes (checkedTo settings clock target (requestsIn count d))
-  kept-next x more lx e = rw (entries-then 54 (s .pending) x t lx in-place) (append-snoc (entries 54 (s .pending) t) x more ∙ e)
+  kept-next : (x : List ℕ) (more : List (List ℕ)) → length x ≡ recordSize
+      → entries recordSize (s .pending) t ++ (x ∷ more) ≡ map requestBytes (checkedTo settings clock target (requestsIn count d))
+      → entries recordSize (s .pending + 1) (overwritten (s .pending * recordSize) x t) ++ more ≡ map requestBytes (checkedTo settings clock target (requestsIn count d))
+  kept-next x more lx e = rw (entries-then recordSize (s .pending) x t lx in-place) (append-snoc (entries recordSize (s .pending) t) x more ∙ e)
 
-  rest-kept : (x : List ℕ) → length x ≡ 54 → drop ((i + 1) * 54) (overwritten (s .pending * 54) x t) ≡ drop ((i + 1) * 54) d
+  rest-kept : (x : List ℕ) → length x ≡ recordSize → drop ((i + 1) * recordSize) (overwritten (s .pending * recordSize) x t) ≡ drop ((i + 1) * recordSize) d
   rest-kept x lx =
-      drop-after (s .pending * 54) x t (omega (arith, in-place)) ((i + 1) * 54) (omega (arith, mul-le-mul-right 54 (c .pending-le))) ∙ rest-next
+      drop-after (s .pending * recordSize) x t (omega (arith, in-place)) ((i + 1) * recordSize) (omega (arith, mul-le-mul-right recordSize (c .pending-le))) ∙ rest-next
 
-  counted-more : (n : ℕ) (v : Verdict) → n + suc (length (judged settings clock v (map requestOf (drop (i + 1) (entries 54 count d))))) ≡ length (judged settings clock v (requestsIn count d))
-      → Counted settings clock v (n + 1) (map requestOf (drop (i + 1) (entries 54 count d))) (requestsIn count d)
+  counted-more : (n : ℕ) (v : Verdict) → n + suc (length (judged settings clock v (map requestOf (drop (i + 1) (entries recordSize count d))))) ≡ length (judged settings clock v (requestsIn count d))
+      → Counted settings clock v (n + 1) (map requestOf (drop (i + 1) (entries recordSize count d))) (requestsIn count d)
   counted-more n v e = omega arith
 
   abbrev r : Request
@@ -130,23 +131,23 @@ module _ (settings : Settings) (clock : ℕ) (target : ℕ → ℕ) (count : ℕ
   module _ (lp : count ≤ length noted) (f : Bytes d) where
     e-bytes : requestBytes r ≡ entry recordSize i t
     unfolding entry
-    e-bytes = bytes-of-request (entry recordSize i t) (length-entry 54 i t in-table) (rw (← c .rest) at (entry-bytes 54 i d f))
+    e-bytes = bytes-of-request (entry recordSize i t) (length-entry recordSize i t in-table) (rw (← c .rest) at (entry-bytes recordSize i d f))
 
     pub turned : (v : Verdict) → verdict settings clock r ≡ v
         → Checking settings clock target count d noted (tableAfter clock target v i (s .pending) t) (placesAfter v (s .retried) (s .pending) places) (countsAfter v s) (i + 1)
     unfolding judged
     turned waiting e =
         let x : List ℕ = entry recordSize i t in
-        let lx : length x ≡ 54 = length-entry 54 i t in-table in
+        let lx : length x ≡ recordSize = length-entry recordSize i t in-table in
         record {
           i-le = omega arith;
           pending-le = omega (arith, c .pending-le);
           retried-le = omega (arith, c .retried-le);
           abandoned-le = omega (arith, c .abandoned-le);
           forgotten-le = omega (arith, c .forgotten-le);
-          long = length-overwritten (s .pending * 54) x t (omega (arith, in-place)) ∙ c .long;
+          long = length-overwritten (s .pending * recordSize) x t (omega (arith, in-place)) ∙ c .long;
           places-long = c .places-long;
-          kept = kept-next x (map requestBytes (checkedTo settings clock target (map requestOf (drop (i + 1) (entries 54 count d))))) lx (rw (here, e, e-bytes) at (c .kept));
+          kept = kept-next x (map requestBytes (checkedTo settings clock target (map requestOf (drop (i + 1) (entries recordSize count d))))) lx (rw (here, e, e-bytes) at (c .kept));
           listed = rw (add-one (s .pending)) (rw (here, e) at (c .listed));
           retried-counted = rw (here, e) at (c .retried-counted);
           abandoned-counted = rw (here, e) at (c .abandoned-counted);
@@ -157,9 +158,9 @@ module _ (settings : Settings) (clock : ℕ) (target : ℕ → ℕ) (count : ℕ
         }
     turned retried e =
         let x : List ℕ = requestBytes (restartedTo clock target r) in
-        let lx : length x ≡ 54 = restarted-long clock target (entry recordSize i t) (length-entry 54 i t in-table) in
+        let lx : length x ≡ recordSize = restarted-long clock target (entry recordSize i t) (length-entry recordSize i t in-table) in
         let m : s .retried < length places = omega (arith, c .retried-le, c .places-long) in
-        let n : take (s .retried) places ++ (s .pending ∷ retriedPlaces settings clock (map requestOf (drop (i + 1) (entries 54 count d))) (suc (s .pending)))
+        let n : take (s .retried) places ++ (s .pending ∷ retriedPlaces settings clock (map requestOf (drop (i + 1) (entries recordSize count d))) (suc (s .pending)))
         ≡ retriedPlaces settings clock (requestsIn count d) 0 = rw (here, e) at (c .listed) in
         record {
           i-le = omega arith;
@@ -167,11 +168,11 @@ module _ (settings : Settings) (clock : ℕ) (target : ℕ → ℕ) (count : ℕ
           retried-le = omega (arith, c .retried-le);
           abandoned-le = omega (arith, c .abandoned-le);
           forgotten-le = omega (arith, c .forgotten-le);
-          long = length-overwritten (s .pending * 54) x t (omega (arith, in-place)) ∙ c .long;
+          long = length-overwritten (s .pending * recordSize) x t (omega (arith, in-place)) ∙ c .long;
           places-long = length-set places (s .retried) (s .pending) ∙ c .places-long;
-          kept = kept-next x (map requestBytes (checkedTo settings clock target (map requestOf (drop (i + 1) (entries 54 count d))))) lx (rw (here, e) at (c .kept));
+          kept = kept-next x (map requestBytes (checkedTo settings clock target (map requestOf (drop (i + 1) (entries recordSize count d))))) lx (rw (here, e) at (c .kept));
           listed = rw (add-one (s .retried), add-one (s .pending), take-suc-set places (s .retried) (s .pending) m)
-              (append-snoc (take (s .retried) places) (s .pending) (retriedPlaces settings clock (map requestOf (drop (i + 1) (entries 54 count d))) (suc (s .pending))) ∙ n);
+              (append-snoc (take (s .retried) places) (s .pending) (retriedPlaces settings clock (map requestOf (drop (i + 1) (entries recordSize count d))) (suc (s .pending))) ∙ n);
           retried-counted = counted-more (s .retried) retried (rw (here, e) at (c .retried-counted));
           abandoned-counted = rw (here, e) at (c .abandoned-counted);
           forgotten-counted = rw (here, e) at (c .forgotten-counted);
@@ -220,9 +221,9 @@ module _ (settings : Settings) (clock : ℕ) (target : ℕ → ℕ) (count : ℕ
     turned-as made t′ places′ a b e = rw (a, b, e) (turned (verdict settings clock r) refl)
 
 pub ends : (settings : Settings) (clock : ℕ) (target : ℕ → ℕ) (count : ℕ) (d noted t y places : List ℕ) (s : Checked) (i : ℕ) (gate : Bool) (peers : List ℕ)
-    → Checking settings clock target count d noted t places s i → count ≤ i → count * 54 ≤ length d → rising 32 (entries 54 count d) ≡ true
+    → Checking settings clock target count d noted t places s i → count ≤ i → count * recordSize ≤ length d → rising idSize (entries recordSize count d) ≡ true
     → ((failed : ℕ) → target failed ≡ cond gate (retryTarget peers failed) failed)
-    → y ≡ overwritten (s .pending * 54) (zeros ((count - s .pending) * 54)) t
+    → y ≡ overwritten (s .pending * recordSize) (zeros ((count - s .pending) * recordSize)) t
     → (s ≡ checkedAs settings clock (requestsIn count d))
     × ((y ≡ holding count (pendingAfterCheck gate settings clock peers (requestsIn count d)) d)
     × (take (s .retried) places ≡ retriedPlaces settings clock (requestsIn count d) 0))
@@ -230,17 +231,17 @@ unfolding checkedAs holding
 ends settings clock target count d noted t y places s i gate peers c h l rise aims q =
     let rs : List Request = requestsIn count d in
     let e : i ≡ count = omega (arith, c .i-le) in
-    let z : drop i (entries 54 count d) ≡ [] = drop-of-length-le (entries 54 count d) {i = i} (rw length-entries h) in
+    let z : drop i (entries recordSize count d) ≡ [] = drop-of-length-le (entries recordSize count d) {i = i} (rw length-entries h) in
     let after : pendingAfterCheck gate settings clock peers rs ≡ checkedTo settings clock target rs =
-    pending-after settings clock gate peers target aims rs (ids-rise (entries 54 count d) (rising-ascending 32 (entries 54 count d) rise)) in
-    let k : entries 54 (s .pending) t ≡ map requestBytes (checkedTo settings clock target rs) = rw (z, append-nil) at (c .kept) in
-    let cut = cut-down 54 count (s .pending) (map requestBytes (checkedTo settings clock target rs)) d t y (omega (arith, c .pending-le)) (omega (arith, c .long)) k (rw e at (c .rest)) q in
+    pending-after settings clock gate peers target aims rs (ids-rise (entries recordSize count d) (rising-ascending 32 (entries recordSize count d) rise)) in
+    let k : entries recordSize (s .pending) t ≡ map requestBytes (checkedTo settings clock target rs) = rw (z, append-nil) at (c .kept) in
+    let cut = cut-down recordSize count (s .pending) (map requestBytes (checkedTo settings clock target rs)) d t y (omega (arith, c .pending-le)) (omega (arith, c .long)) k (rw e at (c .rest)) q in
     let p : s .pending ≡ length (checkTimeouts settings clock rs) = cut .0 ∙ length-map (checkedTo settings clock target rs) requestBytes ∙ length-checked settings clock target rs in
     let a : s .retried ≡ length (judged settings clock retried rs) = none-left retried (s .retried) z (c .retried-counted) in
     let b : s .abandoned ≡ length (judged settings clock abandoned rs) = none-left abandoned (s .abandoned) z (c .abandoned-counted) in
     let f : s .forgotten ≡ length (judged settings clock forgotten rs) = none-left forgotten (s .forgotten) z (c .forgotten-counted) in
     (rw (← p, ← a, ← b, ← f), (rw after (cut .1), rw (z, append-nil) at (c .listed)))
   where
-    none-left : (v : Verdict) (n : ℕ) → drop i (entries 54 count d) ≡ [] → Counted settings clock v n (map requestOf (drop i (entries 54 count d))) (requestsIn count d)
+    none-left : (v : Verdict) (n : ℕ) → drop i (entries recordSize count d) ≡ [] → Counted settings clock v n (map requestOf (drop i (entries recordSize count d))) (requestsIn count d)
         → n ≡ length (judged settings clock v (requestsIn count d))
     none-left v n z g = none-counted settings clock v n (requestsIn count d) (rw z at g)

@@ -16,13 +16,14 @@ use Rattle.fields.proofs.EntriesLaws.{Wide, length-entries, length-entry, entri
 use Rattle.fields.proofs.RisingLaws.{rising-ascending}
 use Rattle.model.specs.Protocol.{Id}
 use Rattle.model.specs.Delivery.{Request, idsOf, withPeer, markRetried}
-use Rattle.model.specs.Image.{recordSize, requestOf, requestBytes}
+use Rattle.model.specs.Image.{requestOf, requestBytes}
 use Rattle.model.proofs.RecordLaws.{length-request, ids-rise}
 use Rattle.model.proofs.Well.{RisingIds}
 use Rattle.commands.specs.Pending.{requestsIn}
 use Rattle.commands.proofs.RecordedLaws.{entry-bytes}
 use Rattle.check_timeouts.proofs.RetryLaws.{mark-none, not-among-later}
 use Rattle.check_timeouts.proofs.RecordLaws.{id-long, asked-back}
+use Rattle.model.specs.Layout.{idSize, recordSize}
 
 -- the one request of that id is the i-th
 mark-retried-one : (peer : ℕ) (rs : List Request) (i : ℕ) (d : Request) → RisingIds (idsOf rs) → i < length rs
@@ -40,23 +41,23 @@ map-set (y ∷ ys) zero x = refl
 map-set (y ∷ ys) (suc i) x = ap (λ (rs : List Request). requestOf y ∷ rs) (map-set ys i x)
 
 -- the requests of a table after an entry of it was written over
-requests-set : (count i : ℕ) (x t o : List ℕ) → i < count → count * 54 ≤ length t → length x ≡ 54 → o ≡ overwritten (i * 54) x t
+requests-set : (count i : ℕ) (x t o : List ℕ) → i < count → count * recordSize ≤ length t → length x ≡ recordSize → o ≡ overwritten (i * recordSize) x t
     → requestsIn count o ≡ set (requestsIn count t) i (requestOf x)
 requests-set count i x t o h l lx e =
-    let new : List (List ℕ) = set (entries 54 count t) i x in
-    let n : length new ≡ count = length-set (entries 54 count t) i x ∙ length-entries 54 count t in
-    let w : Wide 54 new = all-set (λ (y : List ℕ). length y ≡ 54) (entries 54 count t) i x lx (entries-wide 54 count t l) in
-    ap (λ (y : List ℕ). requestsIn count y) (e ∙ replaced-set 54 count i t h x lx) ∙ rw (rw n at (entries-replaced 54 count new t w)) (map-set (entries 54 count t) i x)
+    let new : List (List ℕ) = set (entries recordSize count t) i x in
+    let n : length new ≡ count = length-set (entries recordSize count t) i x ∙ length-entries recordSize count t in
+    let w : Wide recordSize new = all-set (λ (y : List ℕ). length y ≡ recordSize) (entries recordSize count t) i x lx (entries-wide recordSize count t l) in
+    ap (λ (y : List ℕ). requestsIn count y) (e ∙ replaced-set recordSize count i t h x lx) ∙ rw (rw n at (entries-replaced recordSize count new t w)) (map-set (entries recordSize count t) i x)
 
-pub marked-as : (i peer : ℕ) (t o : List ℕ) → Bytes t → peer < 2 ^ 64 → o ≡ overwritten (i * 54) (requestBytes (withPeer peer (requestOf (entry recordSize i t)))) t
-    → (count : ℕ) → i < count → count * 54 ≤ length t → rising 32 (entries 54 count t) ≡ true
+pub marked-as : (i peer : ℕ) (t o : List ℕ) → Bytes t → peer < 2 ^ 64 → o ≡ overwritten (i * recordSize) (requestBytes (withPeer peer (requestOf (entry recordSize i t)))) t
+    → (count : ℕ) → i < count → count * recordSize ≤ length t → rising idSize (entries recordSize count t) ≡ true
     → requestsIn count o ≡ markRetried peer (requestOf (entry recordSize i t) .id) (requestsIn count t)
 marked-as i peer t o f p e count h l rise =
     let x : List ℕ = entry recordSize i t in
-    let lx : length x ≡ 54 = length-entry 54 i t (omega (arith, mul-le-mul-right 54 h)) in
-    let at : getD (requestsIn count t) i (requestOf []) ≡ requestOf x = List·getD-map requestOf (entries 54 count t) i [] ∙ ap requestOf (entries-at 54 count i t h) in
-    let n : i < length (requestsIn count t) = rw (length-map (entries 54 count t) requestOf, length-entries) h in
+    let lx : length x ≡ recordSize = length-entry recordSize i t (omega (arith, mul-le-mul-right recordSize h)) in
+    let at : getD (requestsIn count t) i (requestOf []) ≡ requestOf x = List·getD-map requestOf (entries recordSize count t) i [] ∙ ap requestOf (entries-at recordSize count i t h) in
+    let n : i < length (requestsIn count t) = rw (length-map (entries recordSize count t) requestOf, length-entries) h in
     let m : set (requestsIn count t) i (withPeer peer (requestOf x)) ≡ markRetried peer (requestOf x .id) (requestsIn count t) =
-    rw at at (mark-retried-one peer (requestsIn count t) i (requestOf []) (ids-rise (entries 54 count t) (rising-ascending 32 (entries 54 count t) rise)) n) in
+    rw at at (mark-retried-one peer (requestsIn count t) i (requestOf []) (ids-rise (entries recordSize count t) (rising-ascending 32 (entries recordSize count t) rise)) n) in
     requests-set count i (requestBytes (withPeer peer (requestOf x))) t o h l (length-request (withPeer peer (requestOf x)) (id-long x lx)) e
-    ∙ rw (asked-back x lx (entry-bytes 54 i t f) peer p) m
+    ∙ rw (asked-back x lx (entry-bytes recordSize i t f) peer p) m

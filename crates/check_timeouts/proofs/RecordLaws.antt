@@ -19,26 +19,27 @@ use Rattle.fields.proofs.PartLaws.{part-below}
 use Rattle.model.specs.Protocol.{isTransaction}
 use Rattle.model.specs.Settings.{Settings, expired, givenUp}
 use Rattle.model.specs.Delivery.{Request, waiting, retried, abandoned, forgotten, verdict, withPeer, restarted}
-use Rattle.model.specs.Image.{recordSize, requestOf, requestBytes}
+use Rattle.model.specs.Image.{requestOf, requestBytes}
 use Rattle.model.proofs.RecordLaws.{bytes-of-request, length-request, request-of-bytes}
 use Rattle.commands.proofs.RecordedLaws.{entry-bytes, peer-read, type-read}
 use Rattle.check_timeouts.specs.Turn.{restartedTo}
+use Rattle.model.specs.Layout.{idSize, recordSize}
 
 -- ---- what is read
 
 module _ (i : ℕ) (t : List ℕ) where
-  pub stamp-read : fromBe (take 8 (drop (i * 54 + 42) t)) ≡ requestOf (entry recordSize i t) .stamp
+  pub stamp-read : fromBe (take 8 (drop (i * recordSize + 42) t)) ≡ requestOf (entry recordSize i t) .stamp
   unfolding requestOf
-  stamp-read = ap fromBe (sym (entry-field 54 i 42 8 t (omega arith)))
+  stamp-read = ap fromBe (sym (entry-field recordSize i 42 8 t (omega arith)))
 
-  pub checks-read : fromBe (take 4 (drop (i * 54 + 50) t)) ≡ requestOf (entry recordSize i t) .checks
+  pub checks-read : fromBe (take 4 (drop (i * recordSize + 50) t)) ≡ requestOf (entry recordSize i t) .checks
   unfolding requestOf
-  checks-read = ap fromBe (sym (entry-field 54 i 50 4 t (omega arith)))
+  checks-read = ap fromBe (sym (entry-field recordSize i 50 4 t (omega arith)))
 
 -- ---- the verdict, test by test, of what was read
 
-module _ (settings : Settings) (clock i : ℕ) (t : List ℕ) (st ty ck : ℕ) (es : st ≡ fromBe (take 8 (drop (i * 54 + 42) t)))
-    (et : ty ≡ fromBe (take 2 (drop (i * 54 + 40) t))) (ec : ck ≡ fromBe (take 4 (drop (i * 54 + 50) t))) (x : Bool) (ex : x ≡ expired settings clock ty ck st) where
+module _ (settings : Settings) (clock i : ℕ) (t : List ℕ) (st ty ck : ℕ) (es : st ≡ fromBe (take 8 (drop (i * recordSize + 42) t)))
+    (et : ty ≡ fromBe (take 2 (drop (i * recordSize + 40) t))) (ec : ck ≡ fromBe (take 4 (drop (i * recordSize + 50) t))) (x : Bool) (ex : x ≡ expired settings clock ty ck st) where
   type-is : requestOf (entry recordSize i t) .typeId ≡ ty
   type-is = sym (et ∙ type-read i t)
 
@@ -72,7 +73,7 @@ entry-part : (width i : ℕ) (s : List ℕ) → entry width i s ≡ take width (
 unfolding entry
 entry-part width i s = refl
 
-pub id-long : (e : List ℕ) → length e ≡ 54 → length (requestOf e .id) ≡ 32
+pub id-long : (e : List ℕ) → length e ≡ recordSize → length (requestOf e .id) ≡ idSize
 unfolding requestOf
 id-long e l = length-take-le 32 e (omega arith)
 
@@ -85,7 +86,7 @@ over-part at a b c new h l =
     rw (take-at a (b ++ c) at h, d)
 
 -- stamp and checks of a record written over
-fields-over : (id p ty st su ck cl : List ℕ) → length id ≡ 32 → length p ≡ 8 → length ty ≡ 2 → length st ≡ 8 → length su ≡ 8 → length ck ≡ 4 → length cl ≡ 4
+fields-over : (id p ty st su ck cl : List ℕ) → length id ≡ idSize → length p ≡ 8 → length ty ≡ 2 → length st ≡ 8 → length su ≡ 8 → length ck ≡ 4 → length cl ≡ 4
     → overwritten 50 cl (overwritten 42 su (id ++ (p ++ (ty ++ (st ++ ck))))) ≡ id ++ (p ++ (ty ++ (su ++ cl)))
 fields-over id p ty st su ck cl hi hp ht hs hu hc hl =
     let la : length (id ++ (p ++ ty)) ≡ 42 = simp length-append (omega arith) in
@@ -99,7 +100,7 @@ fields-over id p ty st su ck cl hi hp ht hs hu hc hl =
     ∙ over-part 50 (id ++ (p ++ (ty ++ su))) ck [] cl lb (omega arith) ∙ ap (λ (tail : List ℕ). (id ++ (p ++ (ty ++ su))) ++ tail) (append-nil cl) ∙ sym (gb cl) in
     ap (overwritten 50 cl) a ∙ b
 
-module _ (e : List ℕ) (l : length e ≡ 54) (f : Bytes e) where
+module _ (e : List ℕ) (l : length e ≡ recordSize) (f : Bytes e) where
   abbrev r : Request
   r = requestOf e
 
@@ -150,68 +151,68 @@ two-fields width i a b x y t o₁ o₂ hx hy l e₁ e₂ =
     e₂ ∙ field-again width i b y one t o₁ s₁ l₁ hy l
 
 -- what `restart` writes
-pub restarts : (i clock : ℕ) (t o₁ o₂ : List ℕ) (checks : ℕ) → i * 54 + 54 ≤ length t → Bytes t → checks ≡ fromBe (take 4 (drop (i * 54 + 50) t))
-    → o₁ ≡ overwritten (i * 54 + 42) (toBe 8 clock) t → o₂ ≡ overwritten (i * 54 + 50) (toBe 4 (checks + 1)) o₁
-    → o₂ ≡ overwritten (i * 54) (requestBytes (restarted clock (requestOf (entry recordSize i t)))) t
+pub restarts : (i clock : ℕ) (t o₁ o₂ : List ℕ) (checks : ℕ) → i * recordSize + recordSize ≤ length t → Bytes t → checks ≡ fromBe (take 4 (drop (i * recordSize + 50) t))
+    → o₁ ≡ overwritten (i * recordSize + 42) (toBe 8 clock) t → o₂ ≡ overwritten (i * recordSize + 50) (toBe 4 (checks + 1)) o₁
+    → o₂ ≡ overwritten (i * recordSize) (requestBytes (restarted clock (requestOf (entry recordSize i t)))) t
 restarts i clock t o₁ o₂ checks l f ec e₁ e₂ =
     let e : List ℕ = entry recordSize i t in
     let k : checks + 1 ≡ suc (requestOf e .checks) = add-one checks ∙ ap suc (ec ∙ checks-read i t) in
-    let b : o₂ ≡ overwritten (i * 54 + 50) (toBe 4 (suc (requestOf e .checks))) o₁ = e₂ ∙ ap (λ (n : ℕ). overwritten (i * 54 + 50) (toBe 4 n) o₁) k in
-    two-fields 54 i 42 50 (toBe 8 clock) (toBe 4 (suc (requestOf e .checks))) t o₁ o₂ (omega arith) (omega arith) l e₁ b
-    ∙ ap (λ (x : List ℕ). overwritten (i * 54) x t) (record-restarted e (length-entry 54 i t l) (entry-bytes 54 i t f) clock)
+    let b : o₂ ≡ overwritten (i * recordSize + 50) (toBe 4 (suc (requestOf e .checks))) o₁ = e₂ ∙ ap (λ (n : ℕ). overwritten (i * recordSize + 50) (toBe 4 n) o₁) k in
+    two-fields recordSize i 42 50 (toBe 8 clock) (toBe 4 (suc (requestOf e .checks))) t o₁ o₂ (omega arith) (omega arith) l e₁ b
+    ∙ ap (λ (x : List ℕ). overwritten (i * recordSize) x t) (record-restarted e (length-entry recordSize i t l) (entry-bytes recordSize i t f) clock)
 
 -- what `mark_retried` writes
-pub marks : (i peer : ℕ) (t o : List ℕ) → i * 54 + 54 ≤ length t → Bytes t → o ≡ overwritten (i * 54 + 32) (toBe 8 peer) t
-    → o ≡ overwritten (i * 54) (requestBytes (withPeer peer (requestOf (entry recordSize i t)))) t
+pub marks : (i peer : ℕ) (t o : List ℕ) → i * recordSize + recordSize ≤ length t → Bytes t → o ≡ overwritten (i * recordSize + idSize) (toBe 8 peer) t
+    → o ≡ overwritten (i * recordSize) (requestBytes (withPeer peer (requestOf (entry recordSize i t)))) t
 unfolding entry
 marks i peer t o l f e =
-    e ∙ overwritten-within (i * 54) 54 32 (toBe 8 peer) t (omega arith) l
-    ∙ ap (λ (x : List ℕ). overwritten (i * 54) x t) (record-asked (entry recordSize i t) (length-entry 54 i t l) (entry-bytes 54 i t f) peer)
+    e ∙ overwritten-within (i * recordSize) recordSize 32 (toBe 8 peer) t (omega arith) l
+    ∙ ap (λ (x : List ℕ). overwritten (i * recordSize) x t) (record-asked (entry recordSize i t) (length-entry recordSize i t l) (entry-bytes recordSize i t f) peer)
 
-entry-written : (i : ℕ) (x t u : List ℕ) → length x ≡ 54 → i * 54 + 54 ≤ length t → u ≡ overwritten (i * 54) x t → entry recordSize i u ≡ x
+entry-written : (i : ℕ) (x t u : List ℕ) → length x ≡ recordSize → i * recordSize + recordSize ≤ length t → u ≡ overwritten (i * recordSize) x t → entry recordSize i u ≡ x
 entry-written i x t u l h e =
-    entry-part 54 i u ∙ rw e (ap (λ (n : ℕ). take n (drop (i * 54) (overwritten (i * 54) x t))) (sym l) ∙ read-back (i * 54) x t (omega arith))
+    entry-part recordSize i u ∙ rw e (ap (λ (n : ℕ). take n (drop (i * recordSize) (overwritten (i * recordSize) x t))) (sym l) ∙ read-back (i * recordSize) x t (omega arith))
 
-pub restarted-long : (clock : ℕ) (target : ℕ → ℕ) (e : List ℕ) → length e ≡ 54 → length (requestBytes (restartedTo clock target (requestOf e))) ≡ 54
+pub restarted-long : (clock : ℕ) (target : ℕ → ℕ) (e : List ℕ) → length e ≡ recordSize → length (requestBytes (restartedTo clock target (requestOf e))) ≡ recordSize
 unfolding restartedTo restarted requestOf
 restarted-long clock target e l = length-request (restartedTo clock target (requestOf e)) (id-long e l)
 
 -- what `retry` writes
-pub retries-as : (i clock : ℕ) (target : ℕ → ℕ) (t u v : List ℕ) (failed asked : ℕ) → i * 54 + 54 ≤ length t → Bytes t → clock < 2 ^ 64
-    → requestOf (entry recordSize i t) .checks + 1 < 2 ^ 32 → u ≡ overwritten (i * 54) (requestBytes (restarted clock (requestOf (entry recordSize i t)))) t
-    → failed ≡ fromBe (take 8 (drop (i * 54 + 32) u)) → asked ≡ target failed
-    → v ≡ overwritten (i * 54) (requestBytes (withPeer asked (requestOf (entry recordSize i u)))) u
-    → v ≡ overwritten (i * 54) (requestBytes (restartedTo clock target (requestOf (entry recordSize i t)))) t
+pub retries-as : (i clock : ℕ) (target : ℕ → ℕ) (t u v : List ℕ) (failed asked : ℕ) → i * recordSize + recordSize ≤ length t → Bytes t → clock < 2 ^ 64
+    → requestOf (entry recordSize i t) .checks + 1 < 2 ^ 32 → u ≡ overwritten (i * recordSize) (requestBytes (restarted clock (requestOf (entry recordSize i t)))) t
+    → failed ≡ fromBe (take 8 (drop (i * recordSize + idSize) u)) → asked ≡ target failed
+    → v ≡ overwritten (i * recordSize) (requestBytes (withPeer asked (requestOf (entry recordSize i u)))) u
+    → v ≡ overwritten (i * recordSize) (requestBytes (restartedTo clock target (requestOf (entry recordSize i t)))) t
 unfolding restartedTo restarted
 retries-as i clock target t u v failed asked l f c k eu ef ea ev =
     let e : List ℕ = entry recordSize i t in
-    let le : length e ≡ 54 = length-entry 54 i t l in
+    let le : length e ≡ recordSize = length-entry recordSize i t l in
     let one : List ℕ = requestBytes (restarted clock (requestOf e)) in
     let two : List ℕ = requestBytes (restartedTo clock target (requestOf e)) in
-    let l₁ : length one ≡ 54 = length-request (restarted clock (requestOf e)) (id-long e le) in
-    let l₂ : length two ≡ 54 = restarted-long clock target e le in
-    let s : requestOf (entry recordSize i u) ≡ restarted clock (requestOf e) = ap requestOf (entry-written i one t u l₁ l eu) ∙ restarted-back e le (entry-bytes 54 i t f) clock c k in
+    let l₁ : length one ≡ recordSize = length-request (restarted clock (requestOf e)) (id-long e le) in
+    let l₂ : length two ≡ recordSize = restarted-long clock target e le in
+    let s : requestOf (entry recordSize i u) ≡ restarted clock (requestOf e) = ap requestOf (entry-written i one t u l₁ l eu) ∙ restarted-back e le (entry-bytes recordSize i t f) clock c k in
     let p : asked ≡ target (requestOf e .peer) = ea ∙ ap target (ef ∙ peer-read i u ∙ ap (λ (r : Request). r .peer) s) in
-    ev ∙ rw (s, p, eu) (overwritten-again (i * 54) one two t (omega arith) (omega arith))
+    ev ∙ rw (s, p, eu) (overwritten-again (i * recordSize) one two t (omega arith) (omega arith))
 
 -- ---- a record moved down, then retried there
 
-module _ (i place : ℕ) (t u : List ℕ) (h : place ≤ i) (l : i * 54 + 54 ≤ length t) (e : u ≡ overwritten (place * 54) (entry 54 i t) t) where
-  fits : place * 54 + 54 ≤ length t
-  fits = omega (arith, mul-le-mul-right 54 h)
+module _ (i place : ℕ) (t u : List ℕ) (h : place ≤ i) (l : i * recordSize + recordSize ≤ length t) (e : u ≡ overwritten (place * recordSize) (entry recordSize i t) t) where
+  fits : place * recordSize + recordSize ≤ length t
+  fits = omega (arith, mul-le-mul-right recordSize h)
 
-  long : length (entry 54 i t) ≡ 54
-  long = length-entry 54 i t l
+  long : length (entry recordSize i t) ≡ recordSize
+  long = length-entry recordSize i t l
 
   pub entry-moved : entry recordSize place u ≡ entry recordSize i t
-  entry-moved = entry-written place (entry 54 i t) t u long fits e
+  entry-moved = entry-written place (entry recordSize i t) t u long fits e
 
   pub moved-length : length u ≡ length t
-  moved-length = ap length e ∙ length-overwritten (place * 54) (entry 54 i t) t (omega (arith, fits, long))
+  moved-length = ap length e ∙ length-overwritten (place * recordSize) (entry recordSize i t) t (omega (arith, fits, long))
 
-  pub moved-retried : (clock : ℕ) (target : ℕ → ℕ) (v : List ℕ) → v ≡ overwritten (place * 54) (requestBytes (restartedTo clock target (requestOf (entry recordSize place u)))) u
-      → v ≡ overwritten (place * 54) (requestBytes (restartedTo clock target (requestOf (entry recordSize i t)))) t
+  pub moved-retried : (clock : ℕ) (target : ℕ → ℕ) (v : List ℕ) → v ≡ overwritten (place * recordSize) (requestBytes (restartedTo clock target (requestOf (entry recordSize place u)))) u
+      → v ≡ overwritten (place * recordSize) (requestBytes (restartedTo clock target (requestOf (entry recordSize i t)))) t
   moved-retried clock target v q =
       let new : List ℕ = requestBytes (restartedTo clock target (requestOf (entry recordSize i t))) in
-      let n : length new ≡ 54 = restarted-long clock target (entry recordSize i t) long in
-      q ∙ rw (entry-moved, e) (overwritten-again (place * 54) (entry 54 i t) new t (omega (arith, long)) (omega (arith, fits, long)))
+      let n : length new ≡ recordSize = restarted-long clock target (entry recordSize i t) long in
+      q ∙ rw (entry-moved, e) (overwritten-again (place * recordSize) (entry recordSize i t) new t (omega (arith, long)) (omega (arith, fits, long)))

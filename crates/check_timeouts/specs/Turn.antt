@@ -6,10 +6,11 @@ use Rattle.fields.specs.Entries.{entry}
 use Rattle.fields.specs.Overwrite.{overwritten}
 use Rattle.model.specs.Delivery.{Request, withPeer, restarted}
 use Rattle.model.specs.Delivery as delivery
-use Rattle.model.specs.Image.{recordSize, requestOf, requestBytes}
+use Rattle.model.specs.Image.{requestOf, requestBytes}
 use Rattle.check_timeouts.specs.declared.check.Checked.{Checked}
 use Rattle.check_timeouts.specs.declared.check.Verdict.{Verdict}
 use Rattle.check_timeouts.specs.declared.check.Verdict.the-variants.{Waiting, Retried, Abandoned, Forgotten}
+use Rattle.model.specs.Layout.{recordSize}
 
 abbrev pub verdictOf : Verdict → delivery.Verdict
 verdictOf Waiting = delivery.waiting

@@ -7,13 +7,17 @@ ghost use Rattle.fields.specs.Facts.{All};
 ghost use Rattle.fields.specs.Entries.{entries, entry, rising};
 ghost use Rattle.fields.specs.Overwrite.{overwritten};
 ghost use Rattle.model.specs.Check.{retryTarget};
-ghost use Rattle.model.specs.Image.{recordSize, requestOf, requestBytes};
+ghost use Rattle.model.specs.Image.{requestOf, requestBytes};
 ghost use Rattle.model.specs.Lists.{peersIn};
 ghost use Rattle.model.specs.Delivery.{Request, verdict, restarted, withPeer, markRetried};
 ghost use Rattle.settings.specs.Values.{settingsOf};
 ghost use Rattle.commands.specs.Pending.{requestsIn, holding};
 ghost use Rattle.check_timeouts.specs.Checked.{aimedAt, pendingAfterCheck, checkedAs, retriedPlaces};
 ghost use Rattle.check_timeouts.specs.Turn.{verdictOf, restartedTo, tableAfter, placesAfter, countsAfter};
+ghost use Rattle.model.specs.Layout.{idSize, recordSize};
+ghost use Rattle.model.specs.Protocol.{trackedLimit};
+use model::layout::ID_SIZE;
+use model::layout::RECORD_SIZE;
 use peers::Listed;
 use settings::Settings;
 
@@ -67,11 +71,11 @@ fn target(aim: Aim, failed: u64) -> u64
 
 // The stamp decides for most requests.
 fn verdict_at(table: &[u8], i: usize, settings: Settings, clock: u64) -> Verdict
-    requires { ⌜ i * 54 + 54 ≤ length (now table) ⌝ }
+    requires { ⌜ i * recordSize + recordSize ≤ length (now table) ⌝ }
     requires { ⌜ (requestOf (entry recordSize i (now table)) .stamp ≤ clock) × (requestOf (entry recordSize i (now table)) .checks + 1 < 2 ^ 32) ⌝ }
     ensures { λ r. ⌜ verdictOf r ≡ verdict (settingsOf settings) clock (requestOf (entry recordSize i (now (table .entry)))) ⌝ }
 {
-    let at = i * 54;
+    let at = i * RECORD_SIZE;
     let stamp = fields::read_u64(table, at + 42);
     let typeid = fields::read_u16(table, at + 40);
     let checks = fields::read_u32(table, at + 50);
@@ -89,10 +93,10 @@ fn verdict_at(table: &[u8], i: usize, settings: Settings, clock: u64) -> Verdict
 
 // The stamp and the checks of request i written anew.
 fn restart(table: &mut [u8], i: usize, clock: u64)
-    requires { ⌜ (i * 54 + 54 ≤ length (now table)) × (requestOf (entry recordSize i (now table)) .checks + 1 < 2 ^ 32) ⌝ }
-    ensures { λ _. ⌜ now (table .exit) ≡ overwritten (i * 54) (requestBytes (restarted clock (requestOf (entry recordSize i (now (table .entry)))))) (now (table .entry)) ⌝ }
+    requires { ⌜ (i * recordSize + recordSize ≤ length (now table)) × (requestOf (entry recordSize i (now table)) .checks + 1 < 2 ^ 32) ⌝ }
+    ensures { λ _. ⌜ now (table .exit) ≡ overwritten (i * recordSize) (requestBytes (restarted clock (requestOf (entry recordSize i (now (table .entry)))))) (now (table .entry)) ⌝ }
 {
-    let at = i * 54;
+    let at = i * RECORD_SIZE;
     let checks = fields::read_u32(table, at + 50);
     fields::write_u64(table, at + 42, clock);
     fields::write_u32(table, at + 50, checks + 1);
@@ -100,20 +104,20 @@ fn restart(table: &mut [u8], i: usize, clock: u64)
 
 // The peer of request i becomes the one now asked. Where ids rise this is the model's markRetried of its id.
 pub fn mark_retried(table: &mut [u8], i: usize, peer: u64)
-    requires { ⌜ i * 54 + 54 ≤ length (now table) ⌝ }
-    ensures { λ _. ⌜ now (table .exit) ≡ overwritten (i * 54) (requestBytes (withPeer peer (requestOf (entry recordSize i (now (table .entry)))))) (now (table .entry)) ⌝ }
-    ensures { λ _. ⌜ ((count : ℕ) → i < count → count * 54 ≤ length (now (table .entry)) → rising 32 (entries 54 count (now (table .entry))) ≡ true → requestsIn count (now (table .exit)) ≡ markRetried peer (requestOf (entry recordSize i (now (table .entry))) .id) (requestsIn count (now (table .entry)))) ⌝ }
+    requires { ⌜ i * recordSize + recordSize ≤ length (now table) ⌝ }
+    ensures { λ _. ⌜ now (table .exit) ≡ overwritten (i * recordSize) (requestBytes (withPeer peer (requestOf (entry recordSize i (now (table .entry)))))) (now (table .entry)) ⌝ }
+    ensures { λ _. ⌜ ((count : ℕ) → i < count → count * recordSize ≤ length (now (table .entry)) → rising idSize (entries recordSize count (now (table .entry))) ≡ true → requestsIn count (now (table .exit)) ≡ markRetried peer (requestOf (entry recordSize i (now (table .entry))) .id) (requestsIn count (now (table .entry)))) ⌝ }
 {
-    fields::write_u64(table, i * 54 + 32, peer);
+    fields::write_u64(table, i * RECORD_SIZE + ID_SIZE, peer);
 }
 
 // Request i is asked again, of its target.
 fn retry(table: &mut [u8], i: usize, clock: u64, aim: Aim)
-    requires { ⌜ (i * 54 + 54 ≤ length (now table)) × (requestOf (entry recordSize i (now table)) .checks + 1 < 2 ^ 32) ⌝ }
-    ensures { λ _. ⌜ now (table .exit) ≡ overwritten (i * 54) (requestBytes (restartedTo clock (aimedAt aim) (requestOf (entry recordSize i (now (table .entry)))))) (now (table .entry)) ⌝ }
+    requires { ⌜ (i * recordSize + recordSize ≤ length (now table)) × (requestOf (entry recordSize i (now table)) .checks + 1 < 2 ^ 32) ⌝ }
+    ensures { λ _. ⌜ now (table .exit) ≡ overwritten (i * recordSize) (requestBytes (restartedTo clock (aimedAt aim) (requestOf (entry recordSize i (now (table .entry)))))) (now (table .entry)) ⌝ }
 {
     restart(table, i, clock);
-    let failed = fields::read_u64(table, i * 54 + 32);
+    let failed = fields::read_u64(table, i * RECORD_SIZE + ID_SIZE);
     mark_retried(table, i, target(aim, failed));
 }
 
@@ -128,7 +132,7 @@ fn turn(
     places: &mut [u16],
     counts: Checked,
 ) -> Checked
-    requires { ⌜ (i * 54 + 54 ≤ length (now table)) × ((i < length (now places)) × (i < 1024)) ⌝ }
+    requires { ⌜ (i * recordSize + recordSize ≤ length (now table)) × ((i < length (now places)) × (i < trackedLimit)) ⌝ }
     requires { ⌜ (counts .pending ≤ i) × ((counts .retried ≤ i) × ((counts .abandoned ≤ i) × (counts .forgotten ≤ i))) ⌝ }
     requires { ⌜ (requestOf (entry recordSize i (now table)) .stamp ≤ clock) × (requestOf (entry recordSize i (now table)) .checks + 1 < 2 ^ 32) ⌝ }
     ensures { λ r. ⌜ r ≡ countsAfter (verdict (settingsOf settings) clock (requestOf (entry recordSize i (now (table .entry))))) counts ⌝ }
@@ -141,7 +145,7 @@ fn turn(
     let forgotten = counts.forgotten;
     match verdict_at(table, i, settings, clock) {
         Verdict::Waiting => {
-            table::keep::move_entry(table, 54, i, place);
+            table::keep::move_entry(table, RECORD_SIZE, i, place);
             Checked {
                 pending: place + 1,
                 retried,
@@ -150,7 +154,7 @@ fn turn(
             }
         }
         Verdict::Retried => {
-            table::keep::move_entry(table, 54, i, place);
+            table::keep::move_entry(table, RECORD_SIZE, i, place);
             retry(table, place, clock, aim);
             places[retried] = place as u16;
             Checked {
@@ -185,8 +189,8 @@ pub fn check_timeouts(
     peers: &[u8],
     places: &mut [u16],
 ) -> Checked
-    requires { ⌜ (count ≤ 1024) × ((count * 54 ≤ length (now table)) × (count ≤ length (now places))) ⌝ }
-    requires { ⌜ rising 32 (entries 54 count (now table)) ≡ true ⌝ }
+    requires { ⌜ (count ≤ trackedLimit) × ((count * recordSize ≤ length (now table)) × (count ≤ length (now places))) ⌝ }
+    requires { ⌜ rising idSize (entries recordSize count (now table)) ≡ true ⌝ }
     requires { ⌜ All (λ (r : Request). r .stamp ≤ clock) (requestsIn count (now table)) ⌝ }
     requires { ⌜ All (λ (r : Request). r .checks + 1 < 2 ^ 32) (requestsIn count (now table)) ⌝ }
     ensures { λ r. ⌜ r ≡ checkedAs (settingsOf settings) clock (requestsIn count (now (table .entry))) ⌝ }
@@ -206,6 +210,6 @@ pub fn check_timeouts(
         i += 1;
     }
     let left = counts.pending;
-    spans::moving::clear(table, left * 54, (count - left) * 54);
+    spans::moving::clear(table, left * RECORD_SIZE, (count - left) * RECORD_SIZE);
     counts
 }

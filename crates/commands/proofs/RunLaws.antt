@@ -14,6 +14,7 @@ use Rattle.model.specs.Requests.{request, runs, runsWithin, commandsOf}
 use Rattle.model.specs.Lists.{idsIn}
 use Rattle.model.specs.Commands.{commandBytes, allCommandBytes}
 use Rattle.commands.proofs.WriteLaws.{length-ids, commandFor, length-command}
+use Rattle.model.specs.Layout.{chunkSize, idSize}
 
 -- ---- runs of ids
 
@@ -38,61 +39,61 @@ runs-turn (id ∷ ids) h =
 
 -- ---- the first m ids and the others, by their bytes
 
-module _ (m : ℕ) (bytes : List ℕ) (whole : length bytes % 32 ≡ 0) where
-  pub take-ids : take m (idsIn bytes) ≡ idsIn (take (m * 32) bytes)
+module _ (m : ℕ) (bytes : List ℕ) (whole : length bytes % idSize ≡ 0) where
+  pub take-ids : take m (idsIn bytes) ≡ idsIn (take (m * idSize) bytes)
   unfolding idsIn
-  take-ids = go (length bytes / 32 - m) refl
+  take-ids = go (length bytes / idSize - m) refl
     where
-      go : (k : ℕ) → length bytes / 32 - m ≡ k → take m (entries 32 (length bytes / 32) bytes) ≡ entries 32 (length (take (m * 32) bytes) / 32) (take (m * 32) bytes)
+      go : (k : ℕ) → length bytes / idSize - m ≡ k → take m (entries idSize (length bytes / idSize) bytes) ≡ entries idSize (length (take (m * idSize) bytes) / idSize) (take (m * idSize) bytes)
       go zero e =
-          let b : take (m * 32) bytes ≡ bytes = take-all (m * 32) bytes (omega arith) in
-          let l : length (entries 32 (length bytes / 32) bytes) ≡ length bytes / 32 = length-entries 32 (length bytes / 32) bytes in
-          take-all m (entries 32 (length bytes / 32) bytes) (omega arith) ∙ rw b
+          let b : take (m * idSize) bytes ≡ bytes = take-all (m * idSize) bytes (omega arith) in
+          let l : length (entries idSize (length bytes / idSize) bytes) ≡ length bytes / idSize = length-entries idSize (length bytes / idSize) bytes in
+          take-all m (entries idSize (length bytes / idSize) bytes) (omega arith) ∙ rw b
       go (suc k) e =
-          let s : m + (length bytes / 32 - m) ≡ length bytes / 32 = omega arith in
-          let l : length (take (m * 32) bytes) ≡ m * 32 = length-take-le (m * 32) bytes (omega arith) in
-          let n : length (take (m * 32) bytes) / 32 ≡ m = omega arith in
-          let t : take m (entries 32 (length bytes / 32) bytes) ≡ entries 32 m bytes = rw s at (take-entries 32 m (length bytes / 32 - m) bytes) in
-          t ∙ rw n (sym (entries-take 32 m (m * 32) bytes (omega arith) (omega arith)))
+          let s : m + (length bytes / idSize - m) ≡ length bytes / idSize = omega arith in
+          let l : length (take (m * idSize) bytes) ≡ m * idSize = length-take-le (m * idSize) bytes (omega arith) in
+          let n : length (take (m * idSize) bytes) / idSize ≡ m = omega arith in
+          let t : take m (entries idSize (length bytes / idSize) bytes) ≡ entries idSize m bytes = rw s at (take-entries idSize m (length bytes / idSize - m) bytes) in
+          t ∙ rw n (sym (entries-take idSize m (m * idSize) bytes (omega arith) (omega arith)))
 
-  pub drop-ids : drop m (idsIn bytes) ≡ idsIn (drop (m * 32) bytes)
+  pub drop-ids : drop m (idsIn bytes) ≡ idsIn (drop (m * idSize) bytes)
   unfolding idsIn
-  drop-ids = go (length bytes / 32 - m) refl
+  drop-ids = go (length bytes / idSize - m) refl
     where
-      go : (k : ℕ) → length bytes / 32 - m ≡ k → drop m (entries 32 (length bytes / 32) bytes) ≡ entries 32 (length (drop (m * 32) bytes) / 32) (drop (m * 32) bytes)
+      go : (k : ℕ) → length bytes / idSize - m ≡ k → drop m (entries idSize (length bytes / idSize) bytes) ≡ entries idSize (length (drop (m * idSize) bytes) / idSize) (drop (m * idSize) bytes)
       go zero e =
-          let l : length (entries 32 (length bytes / 32) bytes) ≡ length bytes / 32 = length-entries 32 (length bytes / 32) bytes in
-          rw (drop-of-length-le (entries 32 (length bytes / 32) bytes) {i = m} (omega arith), drop-of-length-le bytes {i = m * 32} (omega arith))
+          let l : length (entries idSize (length bytes / idSize) bytes) ≡ length bytes / idSize = length-entries idSize (length bytes / idSize) bytes in
+          rw (drop-of-length-le (entries idSize (length bytes / idSize) bytes) {i = m} (omega arith), drop-of-length-le bytes {i = m * idSize} (omega arith))
       go (suc k) e =
-          let s : m + (length bytes / 32 - m) ≡ length bytes / 32 = omega arith in
-          let l : length (drop (m * 32) bytes) ≡ length bytes - m * 32 = length-drop (m * 32) bytes in
-          let n : length (drop (m * 32) bytes) / 32 ≡ length bytes / 32 - m = omega arith in
-          let t : drop m (entries 32 (length bytes / 32) bytes) ≡ entries 32 (length bytes / 32 - m) (drop (m * 32) bytes) = rw s at (drop-entries 32 m (length bytes / 32 - m) bytes) in
+          let s : m + (length bytes / idSize - m) ≡ length bytes / idSize = omega arith in
+          let l : length (drop (m * idSize) bytes) ≡ length bytes - m * idSize = length-drop (m * idSize) bytes in
+          let n : length (drop (m * idSize) bytes) / idSize ≡ length bytes / idSize - m = omega arith in
+          let t : drop m (entries idSize (length bytes / idSize) bytes) ≡ entries idSize (length bytes / idSize - m) (drop (m * idSize) bytes) = rw s at (drop-entries idSize m (length bytes / idSize - m) bytes) in
           t ∙ rw n
 
 -- ---- one id after another
 
-ids-next : (bytes : List ℕ) → length bytes % 32 ≡ 0 → 0 < length bytes → idsIn bytes ≡ take 32 bytes ∷ idsIn (drop 32 bytes)
+ids-next : (bytes : List ℕ) → length bytes % idSize ≡ 0 → 0 < length bytes → idsIn bytes ≡ take idSize bytes ∷ idsIn (drop idSize bytes)
 unfolding idsIn
 ids-next bytes h l =
-    let d : length (drop 32 bytes) ≡ length bytes - 32 = length-drop 32 bytes in
-    let q : length bytes / 32 ≡ suc (length (drop 32 bytes) / 32) = rw d (omega arith) in
+    let d : length (drop idSize bytes) ≡ length bytes - 32 = length-drop idSize bytes in
+    let q : length bytes / idSize ≡ suc (length (drop idSize bytes) / idSize) = rw d (omega arith) in
     rw q
 
 pub ids-none : idsIn [] ≡ []
 unfolding idsIn
 ids-none = refl
 
-pub ids-from : (at : ℕ) (bytes : List ℕ) → length bytes % 32 ≡ 0 → at % 32 ≡ 0 → at < length bytes
-    → idsIn (drop at bytes) ≡ take (at + 32 - at) (drop at bytes) ∷ idsIn (drop (at + 32) bytes)
+pub ids-from : (at : ℕ) (bytes : List ℕ) → length bytes % idSize ≡ 0 → at % idSize ≡ 0 → at < length bytes
+    → idsIn (drop at bytes) ≡ take (at + idSize - at) (drop at bytes) ∷ idsIn (drop (at + idSize) bytes)
 ids-from at bytes h a o =
-    let k : at + 32 - at ≡ 32 = omega arith in
+    let k : at + idSize - at ≡ idSize = omega arith in
     let d : length (drop at bytes) ≡ length bytes - at = length-drop at bytes in
     ids-next (drop at bytes) (rw d (omega arith)) (rw d (omega arith)) ∙ rw (k, drop-drop)
 
-pub length-id : (at : ℕ) (bytes : List ℕ) → at + 32 ≤ length bytes → length (take (at + 32 - at) (drop at bytes)) ≡ 32
+pub length-id : (at : ℕ) (bytes : List ℕ) → at + idSize ≤ length bytes → length (take (at + idSize - at) (drop at bytes)) ≡ idSize
 length-id at bytes h =
-    let k : at + 32 - at ≡ 32 = omega arith in
+    let k : at + idSize - at ≡ idSize = omega arith in
     rw k (length-take-le 32 (drop at bytes) (rw (length-drop at bytes) (omega arith)))
 
 -- ---- the commands of a list
@@ -105,22 +106,22 @@ module _ (typeId batch peer : ℕ) where
   unfolding runs idsIn
   requests-nil = refl
 
-  requests-turn : (bytes : List ℕ) → length bytes % 32 ≡ 0 → 0 < length bytes
-      → requestsFor typeId batch peer bytes ≡ commandBytes (commandFor 1 typeId batch peer (take 12800 bytes)) ++ requestsFor typeId batch peer (drop 12800 bytes)
+  requests-turn : (bytes : List ℕ) → length bytes % idSize ≡ 0 → 0 < length bytes
+      → requestsFor typeId batch peer bytes ≡ commandBytes (commandFor 1 typeId batch peer (take chunkSize bytes)) ++ requestsFor typeId batch peer (drop chunkSize bytes)
   requests-turn bytes h l =
       let n : 0 < length (idsIn bytes) = rw (length-ids bytes) (omega arith) in
       rw (runs-turn (idsIn bytes) n, take-ids 400 bytes h, drop-ids 400 bytes h)
 
-pub chunk-length : (bytes run : List ℕ) (done : ℕ) → length bytes % 32 ≡ 0 → done % 32 ≡ 0 → done < length bytes → run ≡ take 12800 (drop done bytes)
-    → ((0 < length run) × (done + length run ≤ length bytes)) × ((length run % 32 ≡ 0) × (length run ≤ 12800))
+pub chunk-length : (bytes run : List ℕ) (done : ℕ) → length bytes % idSize ≡ 0 → done % idSize ≡ 0 → done < length bytes → run ≡ take chunkSize (drop done bytes)
+    → ((0 < length run) × (done + length run ≤ length bytes)) × ((length run % idSize ≡ 0) × (length run ≤ chunkSize))
 chunk-length bytes run done w v h e =
-    let l : length run ≡ min 12800 (length bytes - done) = ap length e ∙ length-take 12800 (drop done bytes) ∙ rw length-drop in
+    let l : length run ≡ min chunkSize (length bytes - done) = ap length e ∙ length-take chunkSize (drop done bytes) ∙ rw length-drop in
     rw l (omega arith)
 
 -- What is left, written at `place`, gives the whole.
 pub record Putting (typeId batch peer at : ℕ) (bytes d out : List ℕ) (place done : ℕ) : Type 0 where
   pub done-le : done ≤ length bytes
-  pub whole : done % 32 ≡ 0
+  pub whole : done % idSize ≡ 0
   pub long : length out ≡ length d
   pub to : place + length (requestsFor typeId batch peer (drop done bytes)) ≡ at + length (requestsFor typeId batch peer bytes)
   pub rest : overwritten place (requestsFor typeId batch peer (drop done bytes)) out ≡ overwritten at (requestsFor typeId batch peer bytes) d
@@ -128,55 +129,55 @@ pub record Putting (typeId batch peer at : ℕ) (bytes d out : List ℕ) (place 
 pub put-starts : (typeId batch peer at : ℕ) (bytes d : List ℕ) → Putting typeId batch peer at bytes d d at 0
 put-starts typeId batch peer at bytes d = record { done-le = omega arith; whole = refl; long = refl; to = refl; rest = refl }
 
-module _ (typeId batch peer at : ℕ) (bytes d out : List ℕ) (place done : ℕ) (s : Putting typeId batch peer at bytes d out place done) (w : length bytes % 32 ≡ 0) where
-  module _ (room : at + length (requestsFor typeId batch peer bytes) ≤ length d) (h : done < length bytes) (run : List ℕ) (e : run ≡ take 12800 (drop done bytes)) where
-    left-whole : length (drop done bytes) % 32 ≡ 0
+module _ (typeId batch peer at : ℕ) (bytes d out : List ℕ) (place done : ℕ) (s : Putting typeId batch peer at bytes d out place done) (w : length bytes % idSize ≡ 0) where
+  module _ (room : at + length (requestsFor typeId batch peer bytes) ≤ length d) (h : done < length bytes) (run : List ℕ) (e : run ≡ take chunkSize (drop done bytes)) where
+    left-whole : length (drop done bytes) % idSize ≡ 0
     left-whole = rw (length-drop done bytes) (omega (arith, s .whole))
 
     left-some : 0 < length (drop done bytes)
     left-some = rw (length-drop done bytes) (omega arith)
 
     others : List ℕ
-    others = requestsFor typeId batch peer (drop 12800 (drop done bytes))
+    others = requestsFor typeId batch peer (drop chunkSize (drop done bytes))
 
-    this : requestsFor typeId batch peer (drop done bytes) ≡ commandBytes (commandFor 1 typeId batch peer run) ++ requestsFor typeId batch peer (drop 12800 (drop done bytes))
+    this : requestsFor typeId batch peer (drop done bytes) ≡ commandBytes (commandFor 1 typeId batch peer run) ++ requestsFor typeId batch peer (drop chunkSize (drop done bytes))
     this = requests-turn typeId batch peer (drop done bytes) left-whole left-some ∙ rw (← e)
 
     long-run : length (commandBytes (commandFor 1 typeId batch peer run)) ≡ 16 + length run
     long-run = length-command 1 typeId batch peer run (chunk-length bytes run done w (s .whole) h e .1 .0)
 
-    long-this : length (requestsFor typeId batch peer (drop done bytes)) ≡ 16 + length run + length (requestsFor typeId batch peer (drop 12800 (drop done bytes)))
-    long-this = ap length this ∙ length-append (commandBytes (commandFor 1 typeId batch peer run)) (requestsFor typeId batch peer (drop 12800 (drop done bytes))) ∙ rw long-run
+    long-this : length (requestsFor typeId batch peer (drop done bytes)) ≡ 16 + length run + length (requestsFor typeId batch peer (drop chunkSize (drop done bytes)))
+    long-this = ap length this ∙ length-append (commandBytes (commandFor 1 typeId batch peer run)) (requestsFor typeId batch peer (drop chunkSize (drop done bytes))) ∙ rw long-run
 
     pub put-room : place + 16 + length run ≤ length out
     put-room = omega (arith, s .to, s .long, long-this)
 
-    behind : drop (done + length run) bytes ≡ drop 12800 (drop done bytes)
-    behind = go (length bytes - done - 12800) refl
+    behind : drop (done + length run) bytes ≡ drop chunkSize (drop done bytes)
+    behind = go (length bytes - done - chunkSize) refl
       where
         left : length (drop done bytes) ≡ length bytes - done
         left = length-drop done bytes
 
-        go : (n : ℕ) → length bytes - done - 12800 ≡ n → drop (done + length run) bytes ≡ drop 12800 (drop done bytes)
+        go : (n : ℕ) → length bytes - done - chunkSize ≡ n → drop (done + length run) bytes ≡ drop chunkSize (drop done bytes)
         go zero q =
-            let f : run ≡ drop done bytes = e ∙ take-all 12800 (drop done bytes) (omega (arith, left)) in
+            let f : run ≡ drop done bytes = e ∙ take-all chunkSize (drop done bytes) (omega (arith, left)) in
             let g : length run ≡ length bytes - done = ap length f ∙ left in
-            drop-of-length-le bytes {i = done + length run} (omega (arith, s .done-le)) ∙ sym (drop-of-length-le (drop done bytes) {i = 12800} (omega (arith, left)))
+            drop-of-length-le bytes {i = done + length run} (omega (arith, s .done-le)) ∙ sym (drop-of-length-le (drop done bytes) {i = chunkSize} (omega (arith, left)))
         go (suc n) q =
-            let f : length run ≡ 12800 = ap length e ∙ length-take-le 12800 (drop done bytes) (omega (arith, left)) in
+            let f : length run ≡ chunkSize = ap length e ∙ length-take-le chunkSize (drop done bytes) (omega (arith, left)) in
             rw (f, drop-drop)
 
     pub put-turn : (o : List ℕ) (place′ : ℕ) → o ≡ overwritten place (commandBytes (commandFor 1 typeId batch peer run)) out → place′ ≡ place + 16 + length run
         → Putting typeId batch peer at bytes d o place′ (done + length run)
     put-turn o place′ eo ep =
         let c : List ℕ = commandBytes (commandFor 1 typeId batch peer run) in
-        let more : List ℕ = requestsFor typeId batch peer (drop 12800 (drop done bytes)) in
+        let more : List ℕ = requestsFor typeId batch peer (drop chunkSize (drop done bytes)) in
         let k = chunk-length bytes run done w (s .whole) h e in
         let r : place + length c + length more ≤ length out = omega (arith, s .to, s .long, long-this, long-run) in
         let p : place′ ≡ place + length c = omega (arith, long-run) in
         record {
           done-le = k .0 .1;
-          whole = let a : length run % 32 ≡ 0 = k .1 .0 in omega (arith, s .whole);
+          whole = let a : length run % idSize ≡ 0 = k .1 .0 in omega (arith, s .whole);
           long = rw eo (length-overwritten place c out (omega arith)) ∙ s .long;
           to = rw behind (omega (arith, s .to, long-this));
           rest = rw (behind, eo, p) (overwritten-next place c more out r ∙ rw (← this) (s .rest));

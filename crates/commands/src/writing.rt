@@ -7,6 +7,8 @@ ghost use Rattle.fields.specs.Overwrite.{overwritten};
 ghost use Rattle.model.specs.Requests.{commandsOf, request};
 ghost use Rattle.model.specs.Commands.{commandBytes, allCommandBytes};
 ghost use Rattle.model.specs.Lists.{idsIn};
+ghost use Rattle.model.specs.Layout.{idListSize, idSize};
+use model::layout::ID_SIZE;
 
 fn put_kind(out: &mut [u8], at: usize, kind: u8, typeid: u8)
     requires { ⌜ at + 2 ≤ length (now out) ⌝ }
@@ -26,14 +28,14 @@ pub fn put_command(
     peer: u64,
     ids: &[u8],
 ) -> usize
-    requires { ⌜ (length (now ids) % 32 ≡ 0) × ((length (now ids) ≤ 32768) × (at + 16 + length (now ids) ≤ length (now out))) ⌝ }
+    requires { ⌜ (length (now ids) % idSize ≡ 0) × ((length (now ids) ≤ idListSize) × (at + 16 + length (now ids) ≤ length (now out))) ⌝ }
     ensures { λ _. ⌜ now (out .exit) ≡ overwritten at (commandBytes (record { kind = kind; typeId = typeid; batch = batch; peer = peer; ids = idsIn (now (ids .entry)) })) (now (out .entry)) ⌝ }
     ensures { λ r. ⌜ r ≡ at + 16 + length (now (ids .entry)) ⌝ }
 {
     put_kind(out, at, kind, typeid);
     fields::write_u16(out, at + 2, batch);
     fields::write_u64(out, at + 4, peer);
-    let number = ids.len() / 32;
+    let number = ids.len() / ID_SIZE;
     fields::write_u32(out, at + 12, number as u32);
     spans::moving::overwrite(out, at + 16, ids);
     at + 16 + ids.len()
@@ -48,7 +50,7 @@ pub fn put_requests(
     peer: u64,
     ids: &[u8],
 ) -> usize
-    requires { ⌜ (length (now ids) % 32 ≡ 0) × ((length (now ids) ≤ 32768) × (at + length (allCommandBytes (commandsOf batch (request typeid peer (idsIn (now ids))))) ≤ length (now out))) ⌝ }
+    requires { ⌜ (length (now ids) % idSize ≡ 0) × ((length (now ids) ≤ idListSize) × (at + length (allCommandBytes (commandsOf batch (request typeid peer (idsIn (now ids))))) ≤ length (now out))) ⌝ }
     ensures { λ _. ⌜ now (out .exit) ≡ overwritten at (allCommandBytes (commandsOf batch (request typeid peer (idsIn (now (ids .entry)))))) (now (out .entry)) ⌝ }
     ensures { λ r. ⌜ r ≡ at + length (allCommandBytes (commandsOf batch (request typeid peer (idsIn (now (ids .entry)))))) ⌝ }
 {

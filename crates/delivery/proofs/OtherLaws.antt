@@ -18,11 +18,12 @@ use Rattle.fields.proofs.ZeroLaws.{length-zeros}
 use Rattle.fields.proofs.OverwriteLaws.{turn-up}
 use Rattle.fields.proofs.EntriesLaws.{length-entries, entries-at, replaced-fewer}
 use Rattle.model.specs.Delivery.{Request, purgePeer, purgeAll}
-use Rattle.model.specs.Image.{recordSize, requestOf}
+use Rattle.model.specs.Image.{requestOf}
 use Rattle.commands.specs.Pending.{requestsIn, holding}
 use Rattle.commands.proofs.RecordedLaws.{peer-read}
 use Rattle.delivery.proofs.HeldLaws.{length-filtered, filtered}
 use Rattle.delivery.specs.Others.{ofOther}
+use Rattle.model.specs.Layout.{idSize, recordSize}
 
 getD-map {ℓ κ} : {A : Type ℓ} {B : Type κ} (f : A → B) (xs : List A) (i : ℕ) (a : A) (b : B) → i < length xs → getD (map f xs) i b ≡ f (getD xs i a)
 getD-map f [] i a b h = absurd (not-suc-le-zero h)
@@ -32,7 +33,7 @@ getD-map f (x ∷ xs) (suc i) a b h = getD-map f xs i a b (le-of-suc-le-suc h)
 -- ---- whose a record is
 
 module _ (i : ℕ) (table : List ℕ) where
-  pub other-mark : (asked peer : ℕ) (t : Bool) → asked ≡ fromBe (take 8 (drop (i * recordSize + 32) table)) → eqb asked peer ≡ t
+  pub other-mark : (asked peer : ℕ) (t : Bool) → asked ≡ fromBe (take 8 (drop (i * recordSize + idSize) table)) → eqb asked peer ≡ t
       → _≡_ {A = ℕ} (cond t 0 1) (cond (ofOther peer (entry recordSize i table)) 1 0)
   unfolding ofOther
   other-mark asked peer t a e =

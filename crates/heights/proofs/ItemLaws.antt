@@ -20,6 +20,7 @@ use Rattle.model.proofs.Well.{WellId}
 use Rattle.model.proofs.ArgumentLaws.{view-well}
 use Rattle.heights.specs.Window.{itemPair}
 use Rattle.heights.proofs.MissingLaws.{WellPairBytes, window-pairs, pairs-well, pairs-wide, window-most}
+use Rattle.model.specs.Layout.{pairSize}
 
 -- a type of one byte, an id of 32
 pub record WellRequested (i : Item) : Type 0 where
@@ -29,7 +30,7 @@ pub record WellRequested (i : Item) : Type 0 where
 item-well : (i : Item) → WellPairBytes (itemPair i) → WellRequested i
 unfolding itemPair
 item-well i w =
-    let l : suc (length (i .id)) ≡ 33 = w .0 in
+    let l : suc (length (i .id)) ≡ pairSize = w .0 in
     record { typeId = w .1 0; id = record { long = omega arith; bytes = bytes-tail (i .typeId) (i .id) (w .1) } }
 
 module _ (bytes : List ℕ) (b : Bytes bytes) (fits : viewFits bytes ≡ true) (peer : ℕ) where
@@ -43,13 +44,13 @@ module _ (bytes : List ℕ) (b : Bytes bytes) (fits : viewFits bytes ≡ true) (
   items-most chain downloaded = window-most (viewOf bytes) chain downloaded peer (view-well bytes b fits)
 
   pub pairs-read-back : (n height : ℕ) (pairs : List ℕ)
-      → entries 33 (length (windowWithin n (viewOf bytes) peer height .items)) (overwritten 0 (joined (map itemPair (windowWithin n (viewOf bytes) peer height .items))) pairs)
+      → entries pairSize (length (windowWithin n (viewOf bytes) peer height .items)) (overwritten 0 (joined (map itemPair (windowWithin n (viewOf bytes) peer height .items))) pairs)
       ≡ map itemPair (windowWithin n (viewOf bytes) peer height .items)
   unfolding overwritten
   pairs-read-back n height pairs =
       let items : List Item = windowWithin n (viewOf bytes) peer height .items in
-      let w : Wide 33 (map itemPair items) = rw (window-pairs n (viewOf bytes) peer height) (pairs-wide n (viewOf bytes) height (view-well bytes b fits)) in
-      rw (length-map items itemPair) at (entries-joined 33 (map itemPair items) (drop (0 + length (joined (map itemPair items))) pairs) w)
+      let w : Wide pairSize (map itemPair items) = rw (window-pairs n (viewOf bytes) peer height) (pairs-wide n (viewOf bytes) height (view-well bytes b fits)) in
+      rw (length-map items itemPair) at (entries-joined pairSize (map itemPair items) (drop (0 + length (joined (map itemPair items))) pairs) w)
 
 -- ---- all are asked of one peer
 

@@ -18,7 +18,7 @@ use Rattle.fields.proofs.EntriesLaws.{Wide, length-entries}
 use Rattle.model.specs.Protocol.{windowSize}
 use Rattle.model.specs.Sections.{Section, Header, absent, present, View, Window, missing, widen, windowWithin}
 use Rattle.model.specs.Calls.{pairBytes}
-use Rattle.model.specs.Lists.{placeSize, sectionOf, headerOf, firstHeight, rowCount, viewOf}
+use Rattle.model.specs.Lists.{sectionOf, headerOf, firstHeight, rowCount, viewOf}
 use Rattle.model.proofs.Widths.{IfSome, WellSection, WellHeader, WellView}
 use Rattle.model.proofs.SectionLaws.{window-few}
 use Rattle.heights.specs.Rows.{rowAt, isAbsent, sectionsOf}
@@ -27,6 +27,7 @@ use Rattle.heights.specs.Window.{itemPair}
 use Rattle.heights.proofs.RowLaws.{view-none, view-row, present-row}
 use Rattle.heights.proofs.PlaceLaws.{missing-all}
 use Rattle.heights.proofs.WritingLaws.{Writing, writing-room, writing-next, writing-ends}
+use Rattle.model.specs.Layout.{pairSize, placeSize, windowPairsSize}
 
 -- ---- the window's pairs, whoever is asked
 
@@ -75,7 +76,7 @@ length-pairs n view peer height = rw (← window-pairs n view peer height) (leng
 
 -- a pair is a type below 256 and 32 bytes of an id
 abbrev pub WellPairBytes : List ℕ → Type 0
-WellPairBytes pair = (length pair ≡ 33) × Bytes pair
+WellPairBytes pair = (length pair ≡ pairSize) × Bytes pair
 
 section-pair : (s : Section) → WellSection s → WellPairBytes (pairBytes (s .typeId) (s .id))
 section-pair s w = (ap suc (w .id .long), bytes-cons (s .typeId) (s .id) (w .typeId) (w .id .bytes))
@@ -90,8 +91,8 @@ pub pairs-well : (n : ℕ) (view : View) (height : ℕ) → WellView view → Al
 pairs-well zero view height w = tt
 pairs-well (suc n) view height w = further-well (view (suc height)) (pairsWithin n view (suc height)) (w (suc height)) (pairs-well n view (suc height) w)
 
-pub pairs-wide : (n : ℕ) (view : View) (height : ℕ) → WellView view → Wide 33 (pairsWithin n view height)
-pairs-wide n view height w = all-weaker WellPairBytes (λ (pair : List ℕ). length pair ≡ 33) (λ pair p. p .0) (pairsWithin n view height) (pairs-well n view height w)
+pub pairs-wide : (n : ℕ) (view : View) (height : ℕ) → WellView view → Wide pairSize (pairsWithin n view height)
+pairs-wide n view height w = all-weaker WellPairBytes (λ (pair : List ℕ). length pair ≡ pairSize) (λ pair p. p .0) (pairsWithin n view height) (pairs-well n view height w)
 
 -- 192 heights of three places
 pub window-most : (view : View) (chain downloaded peer : ℕ) → WellView view → length (windowWithin (min (downloaded + windowSize) chain - downloaded) view peer downloaded .items) ≤ 576
@@ -101,7 +102,7 @@ window-most view chain downloaded peer w =
     let l : n ≤ 192 = omega arith in
     omega arith
 
-pub window-room : (view : View) (chain downloaded : ℕ) (pairs : List ℕ) → WellView view → 19008 ≤ length pairs → (0 + length (pairsWithin (min (downloaded + windowSize) chain - downloaded) view downloaded)) * 33 ≤ length pairs
+pub window-room : (view : View) (chain downloaded : ℕ) (pairs : List ℕ) → WellView view → windowPairsSize ≤ length pairs → (0 + length (pairsWithin (min (downloaded + windowSize) chain - downloaded) view downloaded)) * pairSize ≤ length pairs
 window-room view chain downloaded pairs w h =
     let few = window-most view chain downloaded 0 w in
     rw (length-pairs (min (downloaded + windowSize) chain - downloaded) view 0 downloaded) (omega (arith, few, h))
@@ -148,36 +149,36 @@ module _ (bytes : List ℕ) (end first count height : ℕ) (f : first ≡ firstH
         rw (length-map places sectionOf, length-entries placeSize (getD row 0 0) (drop 1 row)) at (p .1)
 
     -- the pass over the window, at a height whose header is present
-    module _ (whole : List (List ℕ)) (pairs₀ pairs : List ℕ) (found : ℕ) (w : Writing 33 0 whole (pairsWithin (end - height) (viewOf bytes) height) pairs₀ pairs found)
-        (well : WellView (viewOf bytes)) (room : (0 + length whole) * 33 ≤ length pairs₀) (t : without ≡ false) where
+    module _ (whole : List (List ℕ)) (pairs₀ pairs : List ℕ) (found : ℕ) (w : Writing pairSize 0 whole (pairsWithin (end - height) (viewOf bytes) height) pairs₀ pairs found)
+        (well : WellView (viewOf bytes)) (room : (0 + length whole) * pairSize ≤ length pairs₀) (t : without ≡ false) where
       abbrev new : List (List ℕ)
       new = rowPairs (height + 1 - first) bytes
 
       abbrev rest : List (List ℕ)
       rest = pairsWithin (end - (height + 1)) (viewOf bytes) (height + 1)
 
-      left : Writing 33 0 whole (new ++ rest) pairs₀ pairs found
+      left : Writing pairSize 0 whole (new ++ rest) pairs₀ pairs found
       left = rw (pairs-next t) at w
 
-      wide : Wide 33 (new ++ rest)
+      wide : Wide pairSize (new ++ rest)
       wide = rw (pairs-next t) at (pairs-wide (end - height) (viewOf bytes) height well)
 
-      pub height-room : (found + length (rowPairs (height + 1 - first) bytes)) * 33 ≤ length pairs
-      height-room = writing-room 33 0 whole new rest pairs₀ pairs found left room
+      pub height-room : (found + length (rowPairs (height + 1 - first) bytes)) * pairSize ≤ length pairs
+      height-room = writing-room pairSize 0 whole new rest pairs₀ pairs found left room
 
       pub height-turn : (pairs′ : List ℕ) (found′ : ℕ) → found′ ≡ found + length (rowPairs (height + 1 - first) bytes)
-          → pairs′ ≡ overwritten (found * 33) (joined (rowPairs (height + 1 - first) bytes)) pairs
-          → Writing 33 0 whole (pairsWithin (end - (height + 1)) (viewOf bytes) (height + 1)) pairs₀ pairs′ found′
+          → pairs′ ≡ overwritten (found * pairSize) (joined (rowPairs (height + 1 - first) bytes)) pairs
+          → Writing pairSize 0 whole (pairsWithin (end - (height + 1)) (viewOf bytes) (height + 1)) pairs₀ pairs′ found′
       height-turn pairs′ found′ m p =
-          writing-next 33 0 whole new rest pairs₀ pairs found left room (all-front (λ (e : List ℕ). length e ≡ 33) new rest wide) (all-back (λ (e : List ℕ). length e ≡ 33) new rest wide) pairs′ found′ p m
+          writing-next pairSize 0 whole new rest pairs₀ pairs found left room (all-front (λ (e : List ℕ). length e ≡ pairSize) new rest wide) (all-back (λ (e : List ℕ). length e ≡ pairSize) new rest wide) pairs′ found′ p m
 
 -- ---- all of it
 
-pub missing-written : (view : View) (n height : ℕ) (rest : List (List ℕ)) (pairs₀ pairs : List ℕ) (found : ℕ) → Writing 33 0 (pairsWithin n view height) rest pairs₀ pairs found → rest ≡ []
+pub missing-written : (view : View) (n height : ℕ) (rest : List (List ℕ)) (pairs₀ pairs : List ℕ) (found : ℕ) → Writing pairSize 0 (pairsWithin n view height) rest pairs₀ pairs found → rest ≡ []
     → ((peer : ℕ) → pairs ≡ overwritten 0 (joined (map itemPair (windowWithin n view peer height .items))) pairs₀) × ((peer : ℕ) → found ≡ length (windowWithin n view peer height .items))
 missing-written view n height rest pairs₀ pairs found w e =
-    let w′ : Writing 33 0 (pairsWithin n view height) [] pairs₀ pairs found = rw e at w in
-    let d = writing-ends 33 0 (pairsWithin n view height) pairs₀ pairs found w′ in (
+    let w′ : Writing pairSize 0 (pairsWithin n view height) [] pairs₀ pairs found = rw e at w in
+    let d = writing-ends pairSize 0 (pairsWithin n view height) pairs₀ pairs found w′ in (
       (λ peer. rw (window-pairs n view peer height) (d .1)),
       (λ peer. let l = length-pairs n view peer height in omega (arith, d .0)),
     )

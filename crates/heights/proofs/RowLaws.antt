@@ -17,8 +17,9 @@ use Rattle.fields.specs.Entries.{entries, entry}
 use Rattle.fields.proofs.OrderLaws.{and-left, and-right}
 use Rattle.fields.proofs.EntriesLaws.{length-entry, entry-field}
 use Rattle.model.specs.Sections.{Section, absent, present}
-use Rattle.model.specs.Lists.{rowSize, placeSize, sectionOf, headerOf, firstHeight, rowCount, viewFits, viewOf, rowsFit}
+use Rattle.model.specs.Lists.{sectionOf, headerOf, firstHeight, rowCount, viewFits, viewOf, rowsFit}
 use Rattle.heights.specs.Rows.{rowAt, sectionsOf, isAbsent, isComplete}
+use Rattle.model.specs.Layout.{pairSize, placeSize, rowSize}
 
 -- ---- bytes
 
@@ -26,24 +27,24 @@ pub byte-fits : (view : List ℕ) → Bytes view → (at : ℕ) → Fits w64 (ge
 byte-fits view bytes at = fits-under w64 (getD view at 0) 256 (bytes at) tt
 
 module _ (i : ℕ) (view : List ℕ) where
-  pub row-byte : (j : ℕ) → j < rowSize → getD (rowAt i view) j 0 ≡ getD view (i * 103 + 4 + j) 0
+  pub row-byte : (j : ℕ) → j < rowSize → getD (rowAt i view) j 0 ≡ getD view (i * rowSize + 4 + j) 0
   unfolding rowAt entry
   row-byte j h =
-      let e : 4 + (i * 103 + j) ≡ i * 103 + 4 + j = omega arith in
-      getD-take rowSize (drop (i * rowSize) (drop 4 view)) j 0 h ∙ getD-drop (i * rowSize) (drop 4 view) j 0 ∙ getD-drop 4 view (i * 103 + j) 0 ∙ rw e
+      let e : 4 + (i * rowSize + j) ≡ i * rowSize + 4 + j = omega arith in
+      getD-take rowSize (drop (i * rowSize) (drop 4 view)) j 0 h ∙ getD-drop (i * rowSize) (drop 4 view) j 0 ∙ getD-drop 4 view (i * rowSize + j) 0 ∙ rw e
 
-  pub row-first : getD (rowAt i view) 0 0 ≡ getD view (i * 103 + 4) 0
+  pub row-first : getD (rowAt i view) 0 0 ≡ getD view (i * rowSize + 4) 0
   row-first =
-      let e : i * 103 + 4 + 0 ≡ i * 103 + 4 = omega arith in
+      let e : i * rowSize + 4 + 0 ≡ i * rowSize + 4 = omega arith in
       row-byte 0 (omega arith) ∙ rw e
 
-  pub row-part : (j size : ℕ) → j + size ≤ rowSize → take size (drop j (rowAt i view)) ≡ take size (drop (i * 103 + 4 + j) view)
+  pub row-part : (j size : ℕ) → j + size ≤ rowSize → take size (drop j (rowAt i view)) ≡ take size (drop (i * rowSize + 4 + j) view)
   unfolding rowAt
   row-part j size h =
-      let e : 4 + (i * 103 + j) ≡ i * 103 + 4 + j = omega arith in
-      entry-field rowSize i j size (drop 4 view) h ∙ rw (drop-drop (i * 103 + j) 4 view, e)
+      let e : 4 + (i * rowSize + j) ≡ i * rowSize + 4 + j = omega arith in
+      entry-field rowSize i j size (drop 4 view) h ∙ rw (drop-drop (i * rowSize + j) 4 view, e)
 
-  pub length-row : i * 103 + 107 ≤ length view → length (rowAt i view) ≡ rowSize
+  pub length-row : i * rowSize + 107 ≤ length view → length (rowAt i view) ≡ rowSize
   unfolding rowAt
   length-row h = length-entry rowSize i (drop 4 view) (simp length-drop (omega arith))
 
@@ -57,7 +58,7 @@ absent-row row = go (eqb (getD row 0 0) 255)
     go true = refl
     go false = refl
 
-pub absent-byte : (i : ℕ) (view : List ℕ) → eqb (getD view (i * 103 + 4) 0) 255 ≡ isAbsent (headerOf (rowAt i view))
+pub absent-byte : (i : ℕ) (view : List ℕ) → eqb (getD view (i * rowSize + 4) 0) 255 ≡ isAbsent (headerOf (rowAt i view))
 absent-byte i view = rw (← row-first i view) (absent-row (rowAt i view))
 
 pub present-row : (row : List ℕ) → isAbsent (headerOf row) ≡ false → headerOf row ≡ present (sectionsOf row)
@@ -80,8 +81,8 @@ and-end true = refl
 and-end false = refl
 
 module _ (row : List ℕ) where
-  flag : (at : ℕ) → getD (take placeSize (drop at row)) 33 0 ≡ getD row (at + 33) 0
-  flag at = getD-take placeSize (drop at row) 33 0 (omega arith) ∙ getD-drop at row 33 0
+  flag : (at : ℕ) → getD (take placeSize (drop at row)) pairSize 0 ≡ getD row (at + pairSize) 0
+  flag at = getD-take placeSize (drop at row) pairSize 0 (omega arith) ∙ getD-drop at row pairSize 0
 
   second-place : drop placeSize (drop 1 row) ≡ drop 35 row
   second-place = drop-drop placeSize 1 row
@@ -90,11 +91,11 @@ module _ (row : List ℕ) where
   third-place = rw second-place (drop-drop placeSize 35 row)
 
   fourth-place : length row ≡ rowSize → drop placeSize (drop placeSize (drop placeSize (drop 1 row))) ≡ []
-  fourth-place l = rw third-place (drop-drop placeSize 69 row ∙ drop-of-length-le row {i = 103} (omega arith))
+  fourth-place l = rw third-place (drop-drop placeSize 69 row ∙ drop-of-length-le row {i = rowSize} (omega arith))
 
 -- Three places at most are read: a fourth would stand behind the row, where nothing is stored.
 complete-by : (row : List ℕ) → length row ≡ rowSize → (count : ℕ)
-    → ltb count 4 && ((ltb count 1 || eqb (getD row 34 0) 1) && ((ltb count 2 || eqb (getD row 68 0) 1) && (ltb count 3 || eqb (getD row 102 0) 1)))
+    → ltb count 4 && ((ltb count 1 || eqb (getD row placeSize 0) 1) && ((ltb count 2 || eqb (getD row 68 0) 1) && (ltb count 3 || eqb (getD row 102 0) 1)))
     ≡ isComplete (cond (eqb count 255) absent (present (map sectionOf (entries placeSize count (drop 1 row)))))
 unfolding sectionOf
 complete-by row l zero = refl
@@ -107,7 +108,7 @@ complete-by row l (suc (suc (suc (suc n)))) =
     (sectionOf (take placeSize (drop placeSize (drop placeSize (drop 1 row))))) (sectionOf []) (map sectionOf (entries placeSize n [])) refl)
 
 module _ (row : List ℕ) (l : length row ≡ rowSize) where
-  pub complete-row : (count first second third : ℕ) → count ≡ getD row 0 0 → first ≡ getD row 34 0 → second ≡ getD row 68 0 → third ≡ getD row 102 0
+  pub complete-row : (count first second third : ℕ) → count ≡ getD row 0 0 → first ≡ getD row placeSize 0 → second ≡ getD row 68 0 → third ≡ getD row 102 0
       → ltb count 4 && ((ltb count 1 || eqb first 1) && ((ltb count 2 || eqb second 1) && (ltb count 3 || eqb third 1))) ≡ isComplete (headerOf row)
   unfolding headerOf
   complete-row count first second third c a b d = rw (c, a, b, d) (complete-by row l (getD row 0 0))
@@ -142,10 +143,10 @@ module _ (view : List ℕ) (first count height : ℕ) (f : first ≡ firstHeight
     pub row-below : height - first < count
     row-below = ltb-true (height - first) count (and-right (leb first height) (ltb (height - first) count) (sym e ∙ h))
 
-    pub row-within : 4 ≤ length view → (height - first) * 103 + 107 ≤ length view
+    pub row-within : 4 ≤ length view → (height - first) * rowSize + 107 ≤ length view
     unfolding rowCount
     row-within l =
-        let b : height - first < (length view - 4) / 103 = rw n at row-below in
+        let b : height - first < (length view - 4) / rowSize = rw n at row-below in
         omega arith
 
     pub view-row : viewOf view height ≡ some (headerOf (rowAt (height - first) view))

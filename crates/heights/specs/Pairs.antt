@@ -5,9 +5,10 @@ use mathlib.Core.List.{List, [], _∷_, map}
 use lib.ListN.{take, drop}
 use Rattle.fields.specs.Filter.{kept}
 use Rattle.model.specs.Sections.{Section}
-use Rattle.model.specs.Lists.{placeSize, sectionOf}
+use Rattle.model.specs.Lists.{sectionOf}
 use Rattle.model.specs.Calls.{pairBytes}
 use Rattle.heights.specs.Rows.{rowAt, sectionsOf}
+use Rattle.model.specs.Layout.{placeSize}
 
 -- type and id of each section that is not stored
 unfoldable pub missingPairs : List Section → List (List ℕ)

@@ -5,7 +5,8 @@ use mathlib.Core.List.{List, map}
 use lib.ListN.{drop, getD}
 use Rattle.fields.specs.Entries.{entries, entry}
 use Rattle.model.specs.Sections.{Section, Header, absent, present, allStored}
-use Rattle.model.specs.Lists.{rowSize, placeSize, sectionOf}
+use Rattle.model.specs.Lists.{sectionOf}
+use Rattle.model.specs.Layout.{placeSize, rowSize}
 
 -- row i of a view
 unfoldable pub rowAt : ℕ → List ℕ → List ℕ

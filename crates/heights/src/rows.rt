@@ -8,6 +8,9 @@ ghost use lib.Dec.{leb, ltb};
 ghost use lib.ListN.{length, getD};
 ghost use Rattle.model.specs.Lists.{firstHeight, rowCount, headerOf};
 ghost use Rattle.heights.specs.Rows.{rowAt, isAbsent, isComplete};
+ghost use Rattle.model.specs.Layout.{rowSize};
+use model::layout::PLACE_SIZE;
+use model::layout::ROW_SIZE;
 
 pub fn first_height(view: &[u8]) -> u32
     requires { ⌜ 4 ≤ length (now view) ⌝ }
@@ -20,7 +23,7 @@ pub fn row_count(view: &[u8]) -> usize
     requires { ⌜ 4 ≤ length (now view) ⌝ }
     ensures { λ r. ⌜ r ≡ rowCount (now (view .entry)) ⌝ }
 {
-    (view.len() - 4) / 103
+    (view.len() - 4) / ROW_SIZE
 }
 
 // Whether a height is one of the `count` from `first` on.
@@ -35,27 +38,27 @@ pub fn has_row(first: u32, count: usize, height: u32) -> bool
 
 // How many places of row i are used, or 255.
 pub fn count_at(view: &[u8], i: usize) -> usize
-    requires { ⌜ i * 103 + 107 ≤ length (now view) ⌝ }
+    requires { ⌜ i * rowSize + 107 ≤ length (now view) ⌝ }
     ensures { λ r. ⌜ r ≡ getD (rowAt i (now (view .entry))) 0 0 ⌝ }
 {
-    view[i * 103 + 4] as usize
+    view[i * ROW_SIZE + 4] as usize
 }
 
 pub fn is_absent(view: &[u8], i: usize) -> bool
-    requires { ⌜ i * 103 + 107 ≤ length (now view) ⌝ }
+    requires { ⌜ i * rowSize + 107 ≤ length (now view) ⌝ }
     ensures { λ r. ⌜ r ≡ isAbsent (headerOf (rowAt i (now (view .entry)))) ⌝ }
 {
-    view[i * 103 + 4] == 255
+    view[i * ROW_SIZE + 4] == 255
 }
 
 // The header is present, and each place is unused or stored by its own flag.
 pub fn is_complete(view: &[u8], i: usize) -> bool
-    requires { ⌜ i * 103 + 107 ≤ length (now view) ⌝ }
+    requires { ⌜ i * rowSize + 107 ≤ length (now view) ⌝ }
     ensures { λ r. ⌜ r ≡ isComplete (headerOf (rowAt i (now (view .entry)))) ⌝ }
 {
-    let at = i * 103 + 4;
+    let at = i * ROW_SIZE + 4;
     let count = view[at];
-    let first = (count < 1) | (view[at + 34] == 1);
+    let first = (count < 1) | (view[at + PLACE_SIZE] == 1);
     let second = (count < 2) | (view[at + 68] == 1);
     let third = (count < 3) | (view[at + 102] == 1);
     (count < 4) & (first & (second & third))

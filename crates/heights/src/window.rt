@@ -12,6 +12,10 @@ ghost use Rattle.model.specs.Lists.{viewOf, viewFits};
 ghost use Rattle.heights.specs.Rows.{rowAt};
 ghost use Rattle.heights.specs.Pairs.{rowPairs, placePairs};
 ghost use Rattle.heights.specs.Window.{itemPair};
+ghost use Rattle.model.specs.Layout.{pairSize, placeSize, rowSize, windowPairsSize};
+use model::layout::PAIR_SIZE;
+use model::layout::PLACE_SIZE;
+use model::layout::ROW_SIZE;
 
 // By differences: downloaded + 192 may be above 2^32 - 1.
 fn window_end(chain: u32, downloaded: u32) -> u32
@@ -51,31 +55,31 @@ pub fn window_seen(view: &[u8], chain: u32, downloaded: u32) -> bool
 // A place's type and id, which stand side by side, at index `to` of the pairs, unless the place is stored. Answers the
 // index behind them.
 fn put_place(view: &[u8], at: usize, pairs: &mut [u8], to: usize) -> usize
-    requires { ⌜ at + 34 ≤ length (now view) ⌝ }
-    requires { ⌜ (to + length (placePairs at (now view))) * 33 ≤ length (now pairs) ⌝ }
+    requires { ⌜ at + placeSize ≤ length (now view) ⌝ }
+    requires { ⌜ (to + length (placePairs at (now view))) * pairSize ≤ length (now pairs) ⌝ }
     ensures { λ r. ⌜ r ≡ to + length (placePairs at (now (view .entry))) ⌝ }
-    ensures { λ _. ⌜ now (pairs .exit) ≡ overwritten (to * 33) (joined (placePairs at (now (view .entry)))) (now (pairs .entry)) ⌝ }
+    ensures { λ _. ⌜ now (pairs .exit) ≡ overwritten (to * pairSize) (joined (placePairs at (now (view .entry)))) (now (pairs .entry)) ⌝ }
 {
-    let end = at + 33;
+    let end = at + PAIR_SIZE;
     if view[end] == 1 {
         return to;
     }
-    spans::moving::overwrite(pairs, to * 33, &view[at..end]);
+    spans::moving::overwrite(pairs, to * PAIR_SIZE, &view[at..end]);
     to + 1
 }
 
 // The pairs of row i from index `to` on. Answers the index behind them.
 fn put_row(view: &[u8], i: usize, pairs: &mut [u8], to: usize) -> usize
-    requires { ⌜ (i * 103 + 107 ≤ length (now view)) × (getD (rowAt i (now view)) 0 0 ≤ 3) ⌝ }
-    requires { ⌜ (to + length (rowPairs i (now view))) * 33 ≤ length (now pairs) ⌝ }
+    requires { ⌜ (i * rowSize + 107 ≤ length (now view)) × (getD (rowAt i (now view)) 0 0 ≤ 3) ⌝ }
+    requires { ⌜ (to + length (rowPairs i (now view))) * pairSize ≤ length (now pairs) ⌝ }
     ensures { λ r. ⌜ r ≡ to + length (rowPairs i (now (view .entry))) ⌝ }
-    ensures { λ _. ⌜ now (pairs .exit) ≡ overwritten (to * 33) (joined (rowPairs i (now (view .entry)))) (now (pairs .entry)) ⌝ }
+    ensures { λ _. ⌜ now (pairs .exit) ≡ overwritten (to * pairSize) (joined (rowPairs i (now (view .entry)))) (now (pairs .entry)) ⌝ }
 {
     let count = crate::rows::count_at(view, i);
     let mut found = to;
     let mut k = 0;
     while k < count {
-        found = put_place(view, i * 103 + 5 + k * 34, pairs, found);
+        found = put_place(view, i * ROW_SIZE + 5 + k * PLACE_SIZE, pairs, found);
         k += 1;
     }
     found
@@ -84,7 +88,7 @@ fn put_row(view: &[u8], i: usize, pairs: &mut [u8], to: usize) -> usize
 // The window's sections that are not stored by their own flag, as pairs of type and id at the front of `pairs`, heights
 // rising. Answers how many.
 pub fn missing(view: &[u8], chain: u32, downloaded: u32, pairs: &mut [u8]) -> usize
-    requires { ⌜ (viewFits (now view) ≡ true) × (19008 ≤ length (now pairs)) ⌝ }
+    requires { ⌜ (viewFits (now view) ≡ true) × (windowPairsSize ≤ length (now pairs)) ⌝ }
     ensures { λ _. ⌜ ((peer : ℕ) → now (pairs .exit) ≡ overwritten 0 (joined (map itemPair (windowWithin (min (downloaded + windowSize) chain - downloaded) (viewOf (now (view .entry))) peer downloaded .items))) (now (pairs .entry))) ⌝ }
     ensures { λ r. ⌜ ((peer : ℕ) → r ≡ length (windowWithin (min (downloaded + windowSize) chain - downloaded) (viewOf (now (view .entry))) peer downloaded .items)) ⌝ }
 {

@@ -9,10 +9,11 @@ use Rattle.fields.specs.Overwrite.{overwritten}
 use Rattle.fields.proofs.ZeroLaws.{zeros-append, drop-zeros}
 use Rattle.model.specs.Settings.{Settings}
 use Rattle.model.specs.State.{State, opened}
-use Rattle.model.specs.Image.{areaSize, encode}
+use Rattle.model.specs.Image.{encode}
 use Rattle.model.proofs.ImageLaws.{Sized, take-header, drop-header}
 use Rattle.image.specs.Heads.{headBytes, headOf}
 use Rattle.image.proofs.HeadLaws.{head-of, length-head}
+use Rattle.model.specs.Layout.{areaSize, regionSize}
 
 -- an area that has all but the header of an encoding
 pub header-encode : (st : State) (area : List ℕ) → Sized st → drop 74 area ≡ drop 74 (encode st) → overwritten 0 (headBytes (headOf st)) area ≡ encode st
@@ -32,7 +33,7 @@ module _ (settings : Settings) (clock height : ℕ) where
   opened-rest : (n : ℕ) → n ≡ areaSize → drop 74 (zeros n) ≡ drop 74 (encode (opened settings clock height))
   unfolding opened
   opened-rest n h =
-      drop-zeros n 74 ∙ sym (zeros-joined 438 2048 62976 (n - 74) (omega arith)) ∙ sym (drop-header (opened settings clock height) (opened-sized settings clock height))
+      drop-zeros n 74 ∙ sym (zeros-joined 438 2048 regionSize (n - 74) (omega arith)) ∙ sym (drop-header (opened settings clock height) (opened-sized settings clock height))
 
   -- its header written over zeros
   pub opened-written : (n : ℕ) → n ≡ areaSize → overwritten 0 (headBytes (headOf (opened settings clock height))) (zeros n) ≡ encode (opened settings clock height)

@@ -4,13 +4,14 @@ ghost use lib.ListN.{length};
 ghost use Rattle.model.specs.State.{opened};
 ghost use Rattle.model.specs.Image.{encode};
 ghost use Rattle.settings.specs.Values.{settingsOf};
+ghost use Rattle.model.specs.Layout.{areaSize};
 use crate::head::Head;
 use settings::SendClock;
 use settings::Settings;
 
 // The image of a fresh core; nothing of the old bytes survives.
 pub fn open(area: &mut [u8], settings: Settings, clock: u64, height: u32)
-    requires { ⌜ length (now area) ≡ 65536 ⌝ }
+    requires { ⌜ length (now area) ≡ areaSize ⌝ }
     ensures { λ _. ⌜ now (area .exit) ≡ encode (opened (settingsOf settings) clock height) ⌝ }
 {
     spans::copying::fill_zero(area);

@@ -13,6 +13,7 @@ use Rattle.fields.proofs.OrderLaws.{and-left, and-right}
 use Rattle.model.specs.State.{syncing, isMode, hasSyncPeer}
 use Rattle.model.specs.Image.{field, modeOf, modeByte, marksFit, countsFit, clocksFit, pendingCount, stalledCount, evictedCount}
 use Rattle.image_test.specs.Head.{headFits}
+use Rattle.model.specs.Protocol.{trackedLimit}
 
 -- ---- bytes
 
@@ -71,15 +72,15 @@ module _ (area : List ℕ) where
       rw (e₁, e₂, e₃, e₄, e₅) (together (same (take 3 area) (69 ∷ 68 ∷ 84 ∷ [])) (eqb (field 3 2 area) 1) (leb (modeByte area) 4) (marksFit area)
       (countsFit area && (clocksFit area && (hasSyncPeer (modeOf (modeByte area)) || eqb (field 48 8 area) 0))))
 
-  counts-few : countsFit area ≡ true → (stalledCount area ≤ 256) × (pendingCount area + evictedCount area ≤ 1024)
+  counts-few : countsFit area ≡ true → (stalledCount area ≤ 256) × (pendingCount area + evictedCount area ≤ trackedLimit)
   unfolding countsFit
   counts-few h = (
-    leb-true (stalledCount area) 256 (and-left (leb (stalledCount area) 256) (leb (pendingCount area + evictedCount area) 1024) h),
-    leb-true (pendingCount area + evictedCount area) 1024 (and-right (leb (stalledCount area) 256) (leb (pendingCount area + evictedCount area) 1024) h),
+    leb-true (stalledCount area) 256 (and-left (leb (stalledCount area) 256) (leb (pendingCount area + evictedCount area) trackedLimit) h),
+    leb-true (pendingCount area + evictedCount area) trackedLimit (and-right (leb (stalledCount area) 256) (leb (pendingCount area + evictedCount area) trackedLimit) h),
   )
 
   -- behind a header that fits the tables lie within the area
-  pub head-few : headFits area ≡ true → (stalledCount area ≤ 256) × (pendingCount area + evictedCount area ≤ 1024)
+  pub head-few : headFits area ≡ true → (stalledCount area ≤ 256) × (pendingCount area + evictedCount area ≤ trackedLimit)
   unfolding headFits
   head-few h =
       let last : Bool = clocksFit area && (hasSyncPeer (modeOf (modeByte area)) || eqb (field 48 8 area) 0) in

@@ -19,6 +19,7 @@ use Rattle.peers.specs.Stalled.{elements, stalledPeers}
 use Rattle.peers.specs.declared.stalled.Stalled.{Stalled}
 use Rattle.peers.proofs.StalledLaws.{elements-next, elements-end}
 use Rattle.image_test.specs.Flags.{Flagged}
+use Rattle.model.specs.Layout.{regionAt}
 
 -- ---- those from an index on
 
@@ -109,7 +110,7 @@ module _ (area : List ℕ) (n : ℕ) (e : n ≡ stalledCount area) where
       go (suc zero) l q = rw (sym q)
       go (suc (suc m)) l q = absurd (lt-irrefl 0 (omega arith))
 
-  pub stalled-read : (stalled : Stalled) → n ≤ 256 → 2560 ≤ length area
+  pub stalled-read : (stalled : Stalled) → n ≤ 256 → regionAt ≤ length area
       → stalledPeers stalled ≡ map fromBe (entries 8 n (take 2048 (drop 512 area))) → stalled .count ≡ n
       → noneTwice (elements n 0 (stalled .peers)) ≡ noneTwice (stalledOf area)
   unfolding stalledPeers stalledOf

@@ -14,24 +14,29 @@ ghost use Rattle.fields.specs.Entries.{entries, entry, rising};
 ghost use Rattle.model.specs.Image as image;
 ghost use Rattle.model.specs.Image.{requestOf, requestFits, allFit, typesNarrow, wellFormed};
 ghost use Rattle.settings.specs.Values.{settingsOf};
+ghost use Rattle.model.specs.Layout.{areaSize, idSize, recordSize, regionAt, regionSize};
+ghost use Rattle.model.specs.Protocol.{trackedLimit};
+use model::layout::ID_SIZE;
+use model::layout::RECORD_SIZE;
+use model::layout::REGION_AT;
 use settings::Settings;
 
 fn ids_rise(area: &[u8]) -> bool
-    requires { ⌜ length (now area) ≡ 65536 ⌝ }
-    requires { ⌜ image.pendingCount (now area) ≤ 1024 ⌝ }
-    ensures { λ r. ⌜ r ≡ rising 32 (entries 54 (image.pendingCount (now (area .entry))) (drop 2560 (now (area .entry)))) ⌝ }
+    requires { ⌜ length (now area) ≡ areaSize ⌝ }
+    requires { ⌜ image.pendingCount (now area) ≤ trackedLimit ⌝ }
+    ensures { λ r. ⌜ r ≡ rising idSize (entries recordSize (image.pendingCount (now (area .entry))) (drop regionAt (now (area .entry)))) ⌝ }
 {
     let pending = image::head::count_at(area, 70);
-    keys::rising::is_rising(&area[2560..], 54, pending, 32)
+    keys::rising::is_rising(&area[2560..], RECORD_SIZE, pending, 32)
 }
 
 // Stamp and checks of record i, and the high byte of its type. In branches, since they nearly always go the same way: 16
 // instructions a record.
 fn record_fits(region: &[u8], i: usize, settings: Settings, clock: u64) -> bool
-    requires { ⌜ i * 54 + 54 ≤ length (now region) ⌝ }
-    ensures { λ r. ⌜ r ≡ requestFits (settingsOf settings) clock (requestOf (entry 54 i (now (region .entry)))) && eqb (getD (entry 54 i (now (region .entry))) 40 0) 0 ⌝ }
+    requires { ⌜ i * recordSize + recordSize ≤ length (now region) ⌝ }
+    ensures { λ r. ⌜ r ≡ requestFits (settingsOf settings) clock (requestOf (entry recordSize i (now (region .entry)))) && eqb (getD (entry recordSize i (now (region .entry))) 40 0) 0 ⌝ }
 {
-    let at = i * 54;
+    let at = i * RECORD_SIZE;
     if region[at + 40] != 0 {
         return false;
     }
@@ -46,8 +51,8 @@ fn record_fits(region: &[u8], i: usize, settings: Settings, clock: u64) -> bool
 
 // All records, in one pass.
 fn records_fit(region: &[u8], count: usize, settings: Settings, clock: u64) -> bool
-    requires { ⌜ count * 54 ≤ length (now region) ⌝ }
-    ensures { λ r. ⌜ r ≡ allFit (settingsOf settings) clock (map requestOf (entries 54 count (now (region .entry)))) && typesNarrow (entries 54 count (now (region .entry))) ⌝ }
+    requires { ⌜ count * recordSize ≤ length (now region) ⌝ }
+    ensures { λ r. ⌜ r ≡ allFit (settingsOf settings) clock (map requestOf (entries recordSize count (now (region .entry)))) && typesNarrow (entries recordSize count (now (region .entry))) ⌝ }
 {
     let mut i = 0;
     while i < count {
@@ -60,9 +65,9 @@ fn records_fit(region: &[u8], count: usize, settings: Settings, clock: u64) -> b
 }
 
 fn pending_fits(area: &[u8]) -> bool
-    requires { ⌜ length (now area) ≡ 65536 ⌝ }
-    requires { ⌜ image.pendingCount (now area) ≤ 1024 ⌝ }
-    ensures { λ r. ⌜ r ≡ allFit (image.settingsOf (now (area .entry))) (image.lastClockOf (now (area .entry))) (image.pendingOf (now (area .entry))) && typesNarrow (entries 54 (image.pendingCount (now (area .entry))) (drop 2560 (now (area .entry)))) ⌝ }
+    requires { ⌜ length (now area) ≡ areaSize ⌝ }
+    requires { ⌜ image.pendingCount (now area) ≤ trackedLimit ⌝ }
+    ensures { λ r. ⌜ r ≡ allFit (image.settingsOf (now (area .entry))) (image.lastClockOf (now (area .entry))) (image.pendingOf (now (area .entry))) && typesNarrow (entries recordSize (image.pendingCount (now (area .entry))) (drop regionAt (now (area .entry)))) ⌝ }
 {
     let clock = fields::read_u64(area, 8);
     let pending = image::head::count_at(area, 70);
@@ -72,14 +77,14 @@ fn pending_fits(area: &[u8]) -> bool
 
 // The room of version 1, the stalled places beyond the count, the region between pending and evicted.
 fn room_is_zero(area: &[u8]) -> bool
-    requires { ⌜ length (now area) ≡ 65536 ⌝ }
+    requires { ⌜ length (now area) ≡ areaSize ⌝ }
     requires { ⌜ image.stalledCount (now area) ≤ 256 ⌝ }
-    requires { ⌜ image.pendingCount (now area) + image.evictedCount (now area) ≤ 1024 ⌝ }
-    ensures { λ r. ⌜ r ≡ allZero (take 438 (drop 74 (now (area .entry)))) && (allZero (take ((256 - image.stalledCount (now (area .entry))) * 8) (drop (512 + image.stalledCount (now (area .entry)) * 8) (now (area .entry)))) && allZero (take (62976 - image.pendingCount (now (area .entry)) * 54 - image.evictedCount (now (area .entry)) * 32) (drop (2560 + image.pendingCount (now (area .entry)) * 54) (now (area .entry))))) ⌝ }
+    requires { ⌜ image.pendingCount (now area) + image.evictedCount (now area) ≤ trackedLimit ⌝ }
+    ensures { λ r. ⌜ r ≡ allZero (take 438 (drop 74 (now (area .entry)))) && (allZero (take ((256 - image.stalledCount (now (area .entry))) * 8) (drop (512 + image.stalledCount (now (area .entry)) * 8) (now (area .entry)))) && allZero (take (regionSize - image.pendingCount (now (area .entry)) * recordSize - image.evictedCount (now (area .entry)) * idSize) (drop (regionAt + image.pendingCount (now (area .entry)) * recordSize) (now (area .entry))))) ⌝ }
 {
     let stalled = 512 + image::head::count_at(area, 68) * 8;
-    let pending = 2560 + image::head::count_at(area, 70) * 54;
-    let evicted = 65536 - image::head::count_at(area, 72) * 32;
+    let pending = REGION_AT + image::head::count_at(area, 70) * RECORD_SIZE;
+    let evicted = 65536 - image::head::count_at(area, 72) * ID_SIZE;
     let header = spans::copying::is_zero(&area[74..512]);
     let places = spans::copying::is_zero(&area[stalled..2560]);
     let between = spans::copying::is_zero(&area[pending..evicted]);
@@ -88,7 +93,7 @@ fn room_is_zero(area: &[u8]) -> bool
 
 // Whether an area is a well formed image.
 pub fn is_well_formed(area: &[u8]) -> bool
-    requires { ⌜ length (now area) ≡ 65536 ⌝ }
+    requires { ⌜ length (now area) ≡ areaSize ⌝ }
     ensures { λ r. ⌜ r ≡ wellFormed (now (area .entry)) ⌝ }
 {
     // Behind this the counts fit, so that the tables lie within the area.

@@ -12,6 +12,7 @@ ghost use Rattle.model.specs.Image as image;
 ghost use Rattle.model.specs.Image.{noneTwice};
 ghost use Rattle.peers.specs.Stalled.{elements};
 ghost use Rattle.image_test.specs.Flags.{Flagged};
+ghost use Rattle.model.specs.Layout.{areaSize};
 
 // Whether a peer is among those from `from` on. No early exit: many are compared at a time.
 fn is_listed_from(peers: &[u64; 256], from: usize, count: usize, peer: u64) -> bool
@@ -58,7 +59,7 @@ fn is_none_twice(peers: &[u64; 256], count: usize) -> bool
 
 // Whether each peer of the area's stalled set is there once.
 pub fn stalled_once(area: &[u8]) -> bool
-    requires { ⌜ length (now area) ≡ 65536 ⌝ }
+    requires { ⌜ length (now area) ≡ areaSize ⌝ }
     requires { ⌜ image.stalledCount (now area) ≤ 256 ⌝ }
     ensures { λ r. ⌜ r ≡ noneTwice (image.stalledOf (now (area .entry))) ⌝ }
 {

@@ -9,7 +9,6 @@ ghost use Rattle.keeper_lines.specs.Line.{nextLine, lineOf, settingsOf, 
 ghost use Rattle.keeper_lines.specs.Reading.{fieldsBehind};
 use crate::field::Field;
 
-
 pub enum Line {
     // timeout, limit
     Settings(u32, u32),

@@ -24,6 +24,7 @@ use Rattle.model.proofs.PendingLaws.{most-positive, most-lasting, retried-means
 use Rattle.model.proofs.RecordLaws.{Recorded, well-recorded}
 use Rattle.keeper_text.specs.Keeping.{idOf}
 use Rattle.keeper_text.specs.Kept.{Fits}
+use Rattle.model.specs.Layout.{idSize}
 
 -- ---- ids of one byte
 
@@ -52,7 +53,7 @@ pub id-one : (byte : ℕ) → byte < 256 → OneByte (idOf byte)
 unfolding idOf
 id-one byte h = (refl, h)
 
-pub id-long : (byte : ℕ) → length (idOf byte) ≡ 32
+pub id-long : (byte : ℕ) → length (idOf byte) ≡ idSize
 unfolding idOf
 id-long byte = refl
 

@@ -20,10 +20,11 @@ use Rattle.keeper_text.specs.Keeping.{Keeping}
 use Rattle.keeper_text.specs.Kept.{keepingIn, Fits, Kept, keeperOf}
 use Rattle.keeper_text.specs.declared.keeping.Keeper.{Keeper}
 use Rattle.keeper_text.proofs.FitLaws.{fits-recorded, fits-few}
+use Rattle.model.specs.Layout.{idSize, recordSize}
 
 module _ (keeper : Keeper) (table : List ℕ) (k : Kept keeper table) where
   pub kept-rise : RisingIds (idsOf (requestsIn (keeper .count) table))
-  kept-rise = ids-rise (entries 54 (keeper .count) table) (rising-ascending 32 (entries 54 (keeper .count) table) (k .order))
+  kept-rise = ids-rise (entries recordSize (keeper .count) table) (rising-ascending 32 (entries recordSize (keeper .count) table) (k .order))
 
   pub kept-few : keeper .count ≤ 256
   kept-few =
@@ -39,15 +40,15 @@ module _ (keeper : Keeper) (table : List ℕ) (k : Kept keeper table) where
     recorded : All Recorded (next .pending)
     recorded = fits-recorded (next .settings) (next .clock) m c (next .pending) fit
 
-    wide : Wide 54 (map requestBytes (next .pending))
+    wide : Wide recordSize (map requestBytes (next .pending))
     wide = records-wide (next .pending) recorded
 
     module _ (table′ : List ℕ) (e : table′ ≡ holding (keeper .count) (next .pending) table) where
-      entries-are : entries 54 (length (next .pending)) table′ ≡ map requestBytes (next .pending)
+      entries-are : entries recordSize (length (next .pending)) table′ ≡ map requestBytes (next .pending)
       unfolding holding
       entries-are =
           let lp : length (map requestBytes (next .pending)) ≡ length (next .pending) = length-map (next .pending) requestBytes in
-          rw (e, ← lp) (entries-replaced 54 (keeper .count) (map requestBytes (next .pending)) table wide)
+          rw (e, ← lp) (entries-replaced recordSize (keeper .count) (map requestBytes (next .pending)) table wide)
 
       requests-are : requestsIn (length (next .pending)) table′ ≡ next .pending
       requests-are = ap (map requestOf) entries-are ∙ requests-of-records (next .pending) recorded
@@ -56,7 +57,7 @@ module _ (keeper : Keeper) (table : List ℕ) (k : Kept keeper table) where
       unfolding holding
       as-long =
           let lp : length (map requestBytes (next .pending)) ≡ length (next .pending) = length-map (next .pending) requestBytes in
-          ap length e ∙ length-replaced 54 (keeper .count) (map requestBytes (next .pending)) table wide (omega (arith, kept-few, next-few, k .room))
+          ap length e ∙ length-replaced recordSize (keeper .count) (map requestBytes (next .pending)) table wide (omega (arith, kept-few, next-few, k .room))
 
       pub holds-next : Kept (keeperOf next) table′ × (keepingIn (keeperOf next) table′ ≡ next)
       unfolding keepingIn settingsOf
@@ -64,7 +65,7 @@ module _ (keeper : Keeper) (table : List ℕ) (k : Kept keeper table) where
         record {
           room = omega (arith, as-long, k .room);
           none = λ n. absurd (false≢true (sym n ∙ begun));
-          order = rw entries-are (ascending-rising 32 (map requestBytes (next .pending)) (records-rise (next .pending) recorded rise));
+          order = rw entries-are (ascending-rising idSize (map requestBytes (next .pending)) (records-rise (next .pending) recorded rise));
           requests = rw requests-are fit;
         },
         ap (λ (rs : List Request). record { begun = next .begun; settings = next .settings; clock = next .clock; pending = rs }) requests-are,

@@ -42,6 +42,7 @@ use Rattle.keeper_text.specs.declared.keeping.Answer.{Answer}
 use Rattle.keeper_text.specs.declared.keeping.Answer.the-variants as answer
 use Rattle.keeper_text.proofs.FitLaws.{id-one, fits-later, fits-checked, fits-wanted}
 use Rattle.keeper_text.proofs.KeptLaws.{kept-rise, next-few, holds-next}
+use Rattle.model.specs.Protocol.{trackedLimit}
 
 -- The answer and the table are what a step says.
 abbrev pub Says : Step → ℕ → ℕ → List ℕ → Answer → List ℕ → Type 0
@@ -186,27 +187,27 @@ module _ (keeper : Keeper) (table : List ℕ) (clock at : ℕ) where
       unfolding next afterRequest
       next-clock = hc
 
-      done-few : leb (length (done .pending)) 1024 ≡ true
+      done-few : leb (length (done .pending)) trackedLimit ≡ true
       unfolding done next afterRequest pendingAfterRequest keepingIn
-      done-few = le-leb (length (done .pending)) 1024 (omega (arith, next-few keeper table k next next-fits next-rises next-begun next-limit next-clock))
+      done-few = le-leb (length (done .pending)) trackedLimit (omega (arith, next-few keeper table k next next-fits next-rises next-begun next-limit next-clock))
 
       module _ (stored ids : List ℕ) (hs : stored ≡ []) (hi : ids ≡ idOf byte) where
         as-done : perform true clock (ask typeId peer (pairsIn stored) (idsIn ids)) (requestsIn (keeper .count) table) ≡ done
         unfolding done pairsIn idsIn idOf
         as-done = rw (hs, hi)
 
-        pub never-full : (got : Requested) → got ≡ Full → got ≡ requestedAs 1024 0 0 (perform true clock (ask typeId peer (pairsIn stored) (idsIn ids)) (requestsIn (keeper .count) table)) → ⊥
-        never-full got g h = false≢true (sym (requested-full 1024 0 0 done (sym g ∙ h ∙ ap (requestedAs 1024 0 0) as-done)) ∙ done-few)
+        pub never-full : (got : Requested) → got ≡ Full → got ≡ requestedAs trackedLimit 0 0 (perform true clock (ask typeId peer (pairsIn stored) (idsIn ids)) (requestsIn (keeper .count) table)) → ⊥
+        never-full got g h = false≢true (sym (requested-full trackedLimit 0 0 done (sym g ∙ h ∙ ap (requestedAs trackedLimit 0 0) as-done)) ∙ done-few)
 
-        pub requests : (got : Requested) (w : Written) (table′ : List ℕ) → got ≡ Done w → got ≡ requestedAs 1024 0 0 (perform true clock (ask typeId peer (pairsIn stored) (idsIn ids)) (requestsIn (keeper .count) table))
-            → table′ ≡ heldWithin 1024 (keeper .count) (perform true clock (ask typeId peer (pairsIn stored) (idsIn ids)) (requestsIn (keeper .count) table) .pending) table
+        pub requests : (got : Requested) (w : Written) (table′ : List ℕ) → got ≡ Done w → got ≡ requestedAs trackedLimit 0 0 (perform true clock (ask typeId peer (pairsIn stored) (idsIn ids)) (requestsIn (keeper .count) table))
+            → table′ ≡ heldWithin trackedLimit (keeper .count) (perform true clock (ask typeId peer (pairsIn stored) (idsIn ids)) (requestsIn (keeper .count) table) .pending) table
             → Says (answered (keepingIn keeper table) (line.Request clock peer typeId byte)) at (keeper .count) table
             (answer.Next (record { begun = true; settings = keeper .settings; clock = clock; count = w .count }) at) table′
         unfolding next afterRequest pendingAfterRequest keepingIn settingsOf done
         requests got w table′ g h e =
-            let d = requested-done 1024 0 0 done w (sym g ∙ h ∙ ap (requestedAs 1024 0 0) as-done) in
+            let d = requested-done trackedLimit 0 0 done w (sym g ∙ h ∙ ap (requestedAs trackedLimit 0 0) as-done) in
             let held : table′ ≡ holding (keeper .count) (next .pending) table =
-            e ∙ ap (λ (x : model.Done). heldWithin 1024 (keeper .count) (x .pending) table) as-done ∙ few-held 1024 (keeper .count) (done .pending) table done-few in
+            e ∙ ap (λ (x : model.Done). heldWithin trackedLimit (keeper .count) (x .pending) table) as-done ∙ few-held trackedLimit (keeper .count) (done .pending) table done-few in
             says-goes _ next [] at (keeper .count) table _ at table′ (request-goes (keepingIn keeper table) clock peer typeId byte (in-order ok))
             (ap (λ (b : Bool). record { begun = b; settings = keeper .settings; clock = clock; count = w .count }) (sym begun)
             ∙ ap (λ (n : ℕ). record { begun = keeper .begun; settings = keeper .settings; clock = clock; count = n }) (d .1 .0))

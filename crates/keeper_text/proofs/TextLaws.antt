@@ -27,6 +27,7 @@ use Rattle.keeper_text.specs.declared.keeping.Answer.{Answer}
 use Rattle.keeper_text.specs.declared.keeping.Answer.the-variants as answer
 use Rattle.settings.specs.Values.{settingsOf}
 use Rattle.keeper_lines.proofs.RowLaws.{row-few}
+use Rattle.model.specs.Layout.{tableSize}
 
 -- ---- lines of a text
 
@@ -268,7 +269,7 @@ first-is : (table : List ℕ) → keepingIn (keeperOf atFirst) table ≡ atFirst
 unfolding keepingIn atFirst timed settingsOf
 first-is table = refl
 
-pub first-kept : (keeper : Keeper) (table : List ℕ) → keeper ≡ keeperOf atFirst → 55296 ≤ length table → Kept keeper table
+pub first-kept : (keeper : Keeper) (table : List ℕ) → keeper ≡ keeperOf atFirst → tableSize ≤ length table → Kept keeper table
 unfolding atFirst rising
 first-kept keeper table e h = rw e (record { room = h; none = λ b. refl; order = refl; requests = tt })
 

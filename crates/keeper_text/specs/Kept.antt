@@ -15,6 +15,7 @@ use Rattle.keeper_text.specs.Keeping.{Keeping, Step, ended, goes, idOf}
 use Rattle.keeper_text.specs.declared.keeping.Keeper.{Keeper}
 use Rattle.keeper_text.specs.declared.keeping.Answer.{Answer}
 use Rattle.keeper_text.specs.declared.keeping.Answer.the-variants as answer
+use Rattle.model.specs.Layout.{idSize, recordSize, tableSize}
 
 -- what a keeper and its table stand for
 unfoldable pub keepingIn : Keeper → List ℕ → Keeping
@@ -33,9 +34,9 @@ pub record Fits (settings : Settings) (clock : ℕ) (r : Request) : Type 0 where
   pub checks : r .checks < mostRequests settings (r .typeId)
 
 pub record Kept (keeper : Keeper) (table : List ℕ) : Type 0 where
-  pub room : 55296 ≤ length table
+  pub room : tableSize ≤ length table
   pub none : keeper .begun ≡ false → keeper .count ≡ 0
-  pub order : rising 32 (entries 54 (keeper .count) table) ≡ true
+  pub order : rising idSize (entries recordSize (keeper .count) table) ≡ true
   pub requests : All (Fits (settingsOf (keeper .settings)) (keeper .clock)) (requestsIn (keeper .count) table)
 
 -- ---- what a line answers and leaves

@@ -12,8 +12,9 @@ ghost use Rattle.keeper_lines.specs.Line.{lineOf};
 ghost use Rattle.keeper_lines.specs.declared.lines.Line.the-variants as line;
 ghost use Rattle.keeper_text.specs.Keeping.{timed, atFirst, answered};
 ghost use Rattle.keeper_text.specs.Kept.{keepingIn, valuesOf, keeperOf, Kept, answerAs, bytesOf, tableAfter, Holds};
-use request_announced::request::Requested;
 use keeper_lines::lines::Line;
+use model::layout::TRACKED_LIMIT;
+use request_announced::request::Requested;
 use settings::Settings;
 
 // What is kept from line to line, beside the table of pending requests.
@@ -150,7 +151,7 @@ fn check(table: &mut [u8], keeper: Keeper, clock: u64, out: &mut [u8], at: usize
     }
     let count = keeper.count;
     let settings = keeper.settings;
-    let mut places = [0u16; 1024];
+    let mut places = [0u16; TRACKED_LIMIT];
     let made = check_timeouts::check::check_timeouts(
         table,
         count,

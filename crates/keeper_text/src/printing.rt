@@ -10,6 +10,7 @@ ghost use Rattle.keeper_text.specs.Kept.{keepingIn, Kept};
 ghost use Rattle.keeper_lines.specs.Line.{nextLine};
 ghost use Rattle.keeper_text.specs.Printed.{linesOf, printedFrom, printed};
 ghost use Rattle.keeper_text.specs.Progress.{Prints};
+ghost use Rattle.model.specs.Layout.{tableSize};
 use crate::keeping::Answer;
 use crate::keeping::Keeper;
 
@@ -31,8 +32,13 @@ pub fn answer_lines(table: &mut [u8], keeper: Keeper, text: &[u8], out: &mut [u8
     let mut at = 0;
     let mut end = keeper_lines::lines::line_end(text, from);
     while end < text.len() {
-        let Answer::Next(next, place) = crate::keeping::answer_line(table, now, &text[from..end], out, at)
-        else {
+        let Answer::Next(next, place) = crate::keeping::answer_line(
+            table,
+            now,
+            &text[from..end],
+            out,
+            at,
+        ) else {
             return Progress {
                 keeper: now,
                 used: from,
@@ -69,7 +75,8 @@ pub fn answer_last(
     if text.len() < 1 {
         return at;
     }
-    let Answer::Next(_next, place) = crate::keeping::answer_line(table, keeper, text, out, at) else {
+    let Answer::Next(_next, place) = crate::keeping::answer_line(table, keeper, text, out, at)
+    else {
         return at;
     };
     place
@@ -77,7 +84,7 @@ pub fn answer_last(
 
 // What the program prints, its whole input at hand.
 pub fn print_all(table: &mut [u8], text: &[u8], out: &mut [u8]) -> usize
-    requires { ⌜ (55296 ≤ length (now table)) × (length (now text) * 42 + 126 ≤ length (now out)) ⌝ }
+    requires { ⌜ (tableSize ≤ length (now table)) × (length (now text) * 42 + 126 ≤ length (now out)) ⌝ }
     ensures { λ _. ⌜ now (out .exit) ≡ overwritten 0 (printed (now (text .entry))) (now (out .entry)) ⌝ }
     ensures { λ r. ⌜ (r ≡ length (printed (now (text .entry)))) × (r ≤ length (now (out .exit))) ⌝ }
 {

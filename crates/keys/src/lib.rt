@@ -12,8 +12,6 @@ ghost use Prim.Native.Nat.{_+_, _≤_};
 ghost use lib.ListN.{length, take, drop};
 ghost use Rattle.fields.specs.Order.{before, same};
 ghost use Rattle.keys.specs.Decide.{Decides};
-
-
 use unlike::Words;
 
 // Where the `size` bytes of s from p on first differ from those of t from q on.

@@ -23,18 +23,19 @@ use Rattle.model.specs.Image.{requestOf}
 use Rattle.mark_requested.specs.Choices.{Listed, idsAt, repeats, chosen, choiceFor, choiceAt}
 use Rattle.mark_requested.specs.declared.choosing.Choice.{Choice}
 use Rattle.mark_requested.specs.declared.choosing.Choice.the-variants.{Keep, Skip, Enter}
+use Rattle.model.specs.Layout.{idSize, recordSize}
 
 -- ---- by the first words, or in full
 
-module _ (s t : List ℕ) (f : Bytes s) (g : Bytes t) (p q a b : ℕ) (h : p + 32 ≤ length s) (k : q + 32 ≤ length t)
+module _ (s t : List ℕ) (f : Bytes s) (g : Bytes t) (p q a b : ℕ) (h : p + idSize ≤ length s) (k : q + idSize ≤ length t)
     (ea : a ≡ fromBe (take 8 (drop p s))) (eb : b ≡ fromBe (take 8 (drop q t))) where
-  pub word-keeps : a < b → Keep ≡ chosen (take 32 (drop p s)) (take 32 (drop q t))
+  pub word-keeps : a < b → Keep ≡ chosen (take idSize (drop p s)) (take idSize (drop q t))
   word-keeps l = rw (← first-less s t f g p q 32 a b (omega arith) h k ea eb l)
 
-  pub word-differs : (a ≡ b → ⊥) → false ≡ same (take 32 (drop p s)) (take 32 (drop q t))
+  pub word-differs : (a ≡ b → ⊥) → false ≡ same (take idSize (drop p s)) (take idSize (drop q t))
   word-differs n = sym (ne-eqb a b n) ∙ first-decides s t f g p q 32 a b (omega arith) h k ea eb n .equality
 
-  pub word-enters : b < a → Enter ≡ chosen (take 32 (drop p s)) (take 32 (drop q t))
+  pub word-enters : b < a → Enter ≡ chosen (take idSize (drop p s)) (take idSize (drop q t))
   word-enters l = rw (← first-more s t f g p q 32 a b (omega arith) h k ea eb l, ← word-differs (λ e. lt-irrefl a (omega arith)))
 
 module _ (x y : List ℕ) (b : Bool) (eb : b ≡ before x y) where
@@ -57,53 +58,53 @@ module _ (x y : List ℕ) (b : Bool) (eb : b ≡ before x y) where
 -- ---- the ids that are left
 
 module _ (ids places : List ℕ) (j : ℕ) (h : j < length places) where
-  pub place-listed : All (Listed ids) places → (p : ℕ) → p ≡ getD places j 0 → p * 32 + 32 ≤ length ids
+  pub place-listed : All (Listed ids) places → (p : ℕ) → p ≡ getD places j 0 → p * idSize + idSize ≤ length ids
   place-listed f p e = rw e (all-at (Listed ids) places j 0 h f)
 
-  pub next-id : idsAt ids (drop j places) ≡ entry 32 (getD places j 0) ids ∷ idsAt ids (drop (j + 1) places)
+  pub next-id : idsAt ids (drop j places) ≡ entry idSize (getD places j 0) ids ∷ idsAt ids (drop (j + 1) places)
   next-id = rw (add-one, drop-cons places j 0 h)
 
   pub last-alone : length places ≤ j + 1 → false ≡ repeats (idsAt ids (drop j places))
   last-alone l = rw (next-id, drop-of-length-le places {i = j + 1} l)
 
   pub next-compared : j + 1 < length places → (p q : ℕ) (r : Bool) → p ≡ getD places j 0 → q ≡ getD places (j + 1) 0
-      → r ≡ same (take 32 (drop (p * 32) ids)) (take 32 (drop (q * 32) ids)) → r ≡ repeats (idsAt ids (drop j places))
+      → r ≡ same (take idSize (drop (p * idSize) ids)) (take idSize (drop (q * idSize) ids)) → r ≡ repeats (idsAt ids (drop j places))
   unfolding entry
   next-compared l p q r ep eq e = e ∙ rw (next-id, drop-cons places (j + 1) 0 l, ep, eq)
 
   module _ (rs : List Request) (again : Bool) (ea : again ≡ repeats (idsAt ids (drop j places))) where
     pub again-choice : again ≡ true → Skip ≡ choiceAt (idsAt ids (drop j places)) rs
     again-choice t =
-        let s : repeats (entry 32 (getD places j 0) ids ∷ idsAt ids (drop (j + 1) places)) ≡ true = rw next-id at (sym ea ∙ t) in
+        let s : repeats (entry idSize (getD places j 0) ids ∷ idsAt ids (drop (j + 1) places)) ≡ true = rw next-id at (sym ea ∙ t) in
         rw (next-id, s)
 
-    pub fresh-choice : again ≡ false → (p : ℕ) (choice : Choice) → p ≡ getD places j 0 → choice ≡ choiceFor (entry 32 p ids) rs → choice ≡ choiceAt (idsAt ids (drop j places)) rs
+    pub fresh-choice : again ≡ false → (p : ℕ) (choice : Choice) → p ≡ getD places j 0 → choice ≡ choiceFor (entry idSize p ids) rs → choice ≡ choiceAt (idsAt ids (drop j places)) rs
     fresh-choice t p choice ep e =
-        let s : repeats (entry 32 (getD places j 0) ids ∷ idsAt ids (drop (j + 1) places)) ≡ false = rw next-id at (sym ea ∙ t) in
+        let s : repeats (entry idSize (getD places j 0) ids ∷ idsAt ids (drop (j + 1) places)) ≡ false = rw next-id at (sym ea ∙ t) in
         e ∙ rw (next-id, s, ep)
 
 -- ---- the records that are left
 
 module _ (count i : ℕ) (t : List ℕ) where
-  none-left : count ≤ i → drop i (entries 54 count t) ≡ []
-  none-left h = drop-of-length-le (entries 54 count t) {i = i} (rw length-entries h)
+  none-left : count ≤ i → drop i (entries recordSize count t) ≡ []
+  none-left h = drop-of-length-le (entries recordSize count t) {i = i} (rw length-entries h)
 
-  pub next-record : i < count → drop i (entries 54 count t) ≡ entry 54 i t ∷ drop (i + 1) (entries 54 count t)
-  next-record h = drop-cons (entries 54 count t) i [] (rw length-entries h) ∙ rw (entries-at 54 count i t h, add-one)
+  pub next-record : i < count → drop i (entries recordSize count t) ≡ entry recordSize i t ∷ drop (i + 1) (entries recordSize count t)
+  next-record h = drop-cons (entries recordSize count t) i [] (rw length-entries h) ∙ rw (entries-at recordSize count i t h, add-one)
 
   module _ (ids : List ℕ) (place : ℕ) where
-    pub none-choice : count ≤ i → Enter ≡ choiceFor (entry 32 place ids) (map requestOf (drop i (entries 54 count t)))
+    pub none-choice : count ≤ i → Enter ≡ choiceFor (entry idSize place ids) (map requestOf (drop i (entries recordSize count t)))
     none-choice h = rw (none-left h)
 
-    pub some-choice : i < count → (choice : Choice) → choice ≡ chosen (take 32 (drop (i * 54) t)) (take 32 (drop (place * 32) ids))
-        → choice ≡ choiceFor (entry 32 place ids) (map requestOf (drop i (entries 54 count t)))
+    pub some-choice : i < count → (choice : Choice) → choice ≡ chosen (take idSize (drop (i * recordSize) t)) (take idSize (drop (place * idSize) ids))
+        → choice ≡ choiceFor (entry idSize place ids) (map requestOf (drop i (entries recordSize count t)))
     unfolding entry requestOf
     some-choice h choice e =
-        let k : take 32 (take 54 (drop (i * 54) t)) ≡ take 32 (drop (i * 54) t) = entry-front 54 i 32 t (omega arith) in
+        let k : take idSize (take recordSize (drop (i * recordSize) t)) ≡ take idSize (drop (i * recordSize) t) = entry-front recordSize i 32 t (omega arith) in
         e ∙ rw (next-record h, k)
 
   -- a record is kept only where one is left
-  pub keep-inside : (xs : List Id) (choice : Choice) → choice ≡ choiceAt xs (map requestOf (drop i (entries 54 count t))) → choice ≡ Keep → i < count
+  pub keep-inside : (xs : List Id) (choice : Choice) → choice ≡ choiceAt xs (map requestOf (drop i (entries recordSize count t))) → choice ≡ Keep → i < count
   keep-inside xs choice e k = go (ltb i count) refl
     where
       no : (ys : List Id) → choiceAt ys [] ≡ Keep → ⊥
@@ -117,5 +118,5 @@ module _ (count i : ℕ) (t : List ℕ) where
       go : (b : Bool) → ltb i count ≡ b → i < count
       go true f = ltb-true i count f
       go false f =
-          let n : drop i (entries 54 count t) ≡ [] = none-left (ltb-false i count f) in
+          let n : drop i (entries recordSize count t) ≡ [] = none-left (ltb-false i count f) in
           absurd (no xs (rw n at (sym e ∙ k)))

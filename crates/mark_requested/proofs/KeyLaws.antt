@@ -8,8 +8,9 @@ use Rattle.model.specs.Protocol.{isAmong}
 use Rattle.model.specs.Delivery.{isPending}
 use Rattle.model.specs.Image.{requestOf}
 use Rattle.keys.specs.Keys.{hasKey}
+use Rattle.model.specs.Layout.{idSize}
 
-pub pending-key : (id : List ℕ) (es : List (List ℕ)) → length id ≡ 32 → isPending id (map requestOf es) ≡ hasKey id es
+pub pending-key : (id : List ℕ) (es : List (List ℕ)) → length id ≡ idSize → isPending id (map requestOf es) ≡ hasKey id es
 unfolding isPending isAmong requestOf
 pending-key id [] l = refl
-pending-key id (e ∷ es) l = rw (l, same-sym id (take 32 e), pending-key id es l)
+pending-key id (e ∷ es) l = rw (l, same-sym id (take idSize e), pending-key id es l)

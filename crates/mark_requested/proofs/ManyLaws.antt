@@ -28,9 +28,10 @@ use Rattle.mark_requested.proofs.AnswerLaws.{marked-pending, marked-ful
 use Rattle.mark_requested.proofs.MarkedLaws.{marked-length}
 use Rattle.mark_requested.specs.Choices.{idsAt}
 use Rattle.mark_requested.proofs.EnterLaws.{marked-sorted}
+use Rattle.model.specs.Layout.{idSize, recordSize}
 
 -- few ids, all of which have room
-pub few-ids : (clock typeId peer most count : ℕ) (ids t t′ : List ℕ) (held : ℕ) → count + length ids / 32 ≤ most
+pub few-ids : (clock typeId peer most count : ℕ) (ids t t′ : List ℕ) (held : ℕ) → count + length ids / idSize ≤ most
     → (held ≡ length (markRequested clock typeId peer (idsIn ids) (requestsIn count t))) × (t′ ≡ holding count (markRequested clock typeId peer (idsIn ids) (requestsIn count t)) t)
     → (Pending held ≡ markedAs most (markRequested clock typeId peer (idsIn ids) (requestsIn count t))) × (t′ ≡ heldWithin most count (markRequested clock typeId peer (idsIn ids) (requestsIn count t)) t)
 few-ids clock typeId peer most count ids t t′ held room e =
@@ -41,12 +42,12 @@ few-ids clock typeId peer most count ids t t′ held room e =
 pub still-sorted : (ids places : List ℕ) → idsAt ids places ≡ sorted before (idsIn ids) → sorted before (idsAt ids places) ≡ idsAt ids places
 still-sorted ids places e = rw e (sorted-twice before before-order (idsIn ids))
 
-module _ (clock typeId peer most count : ℕ) (ids places t : List ℕ) (e : idsAt ids places ≡ sorted before (idsIn ids)) (r : rising 32 (entries 54 count t) ≡ true) where
+module _ (clock typeId peer most count : ℕ) (ids places t : List ℕ) (e : idsAt ids places ≡ sorted before (idsIn ids)) (r : rising idSize (entries recordSize count t) ≡ true) where
   abbrev all : List Request
   all = markRequested clock typeId peer (idsIn ids) (requestsIn count t)
 
   as-given : markRequested clock typeId peer (idsAt ids places) (requestsIn count t) ≡ all
-  as-given = rw e (marked-sorted clock typeId peer (idsIn ids) (requestsIn count t) (ids-rise (entries 54 count t) (rising-ascending 32 (entries 54 count t) r)))
+  as-given = rw e (marked-sorted clock typeId peer (idsIn ids) (requestsIn count t) (ids-rise (entries recordSize count t) (rising-ascending 32 (entries recordSize count t) r)))
 
   pub too-many : (answer : Marked) → answer ≡ Full → answer ≡ markedAs most (markRequested clock typeId peer (idsAt ids places) (requestsIn count t))
       → (Full ≡ markedAs most all) × (t ≡ heldWithin most count all t)
@@ -66,14 +67,14 @@ module _ (clock typeId peer most count : ℕ) (ids places t : List ℕ) (e : ids
 
     pub copied-back : (room t′ : List ℕ)
         → (leb (length (markRequested clock typeId peer (idsAt ids places) (requestsIn count t))) most ≡ true
-        → entries 54 (length (markRequested clock typeId peer (idsAt ids places) (requestsIn count t))) room ≡ map requestBytes (markRequested clock typeId peer (idsAt ids places) (requestsIn count t)))
-        → t′ ≡ take (held * 54) room ++ drop (held * 54) t → (Pending held ≡ markedAs most all) × (t′ ≡ heldWithin most count all t)
+        → entries recordSize (length (markRequested clock typeId peer (idsAt ids places) (requestsIn count t))) room ≡ map requestBytes (markRequested clock typeId peer (idsAt ids places) (requestsIn count t)))
+        → t′ ≡ take (held * recordSize) room ++ drop (held * recordSize) t → (Pending held ≡ markedAs most all) × (t′ ≡ heldWithin most count all t)
     unfolding holding
     copied-back room t′ w et =
         let new : List (List ℕ) = map requestBytes all in
         let ln : length new ≡ length all = length-map all requestBytes in
         let more : count ≤ length new = omega (arith, marked-length clock typeId peer (idsIn ids) (requestsIn count t), length-requests count t) in
-        let es : entries 54 (length all) room ≡ new = rw as-given at (w (rw as-given (says .0))) in
-        let j : take (length all * 54) room ≡ joined new = sym (joined-entries 54 (length all) room) ∙ ap joined es in
-        let c : t′ ≡ joined new ++ drop (length new * 54) t = et ∙ rw (says .1, j, ln) in
-        (told, c ∙ sym (few-held most count all t (says .0) ∙ replaced-more 54 count new t more))
+        let es : entries recordSize (length all) room ≡ new = rw as-given at (w (rw as-given (says .0))) in
+        let j : take (length all * recordSize) room ≡ joined new = sym (joined-entries recordSize (length all) room) ∙ ap joined es in
+        let c : t′ ≡ joined new ++ drop (length new * recordSize) t = et ∙ rw (says .1, j, ln) in
+        (told, c ∙ sym (few-held most count all t (says .0) ∙ replaced-more recordSize count new t more))

@@ -30,6 +30,7 @@ use Rattle.mark_requested.specs.declared.choosing.Choice.{Choice}
 use Rattle.mark_requested.specs.declared.choosing.Choice.the-variants.{Keep, Skip, Enter}
 use Rattle.mark_requested.proofs.EnterLaws.{enter, enterAll, enter-twice, entered-behind, below-rest, below-unlike}
 use Rattle.mark_requested.proofs.ChoiceLaws.{next-id, next-record, place-listed, keep-inside}
+use Rattle.model.specs.Layout.{idSize, recordSize}
 
 -- ---- one turn, as lists
 
@@ -79,39 +80,39 @@ module _ (clock typeId peer : ℕ) (x : Id) (xs : List Id) (rise : Rising before
       go false h (r ∷ ss) = fresh h r ss (before (r .id) x) (same (r .id) x) refl refl
 
 -- all new records share what follows the id
-new-split : (clock typeId peer : ℕ) (id blank : List ℕ) → blank ≡ requestBytes (newRequest clock typeId peer (zeros 32)) → requestBytes (newRequest clock typeId peer id) ≡ id ++ drop 32 blank
+new-split : (clock typeId peer : ℕ) (id blank : List ℕ) → blank ≡ requestBytes (newRequest clock typeId peer (zeros idSize)) → requestBytes (newRequest clock typeId peer id) ≡ id ++ drop idSize blank
 unfolding requestBytes
 new-split clock typeId peer id blank e = rw e
 
-pub blank-long : (clock typeId peer : ℕ) (blank : List ℕ) → blank ≡ requestBytes (newRequest clock typeId peer (zeros 32)) → length blank ≡ 54
-blank-long clock typeId peer blank e = ap length e ∙ length-request (newRequest clock typeId peer (zeros 32)) refl
+pub blank-long : (clock typeId peer : ℕ) (blank : List ℕ) → blank ≡ requestBytes (newRequest clock typeId peer (zeros idSize)) → length blank ≡ recordSize
+blank-long clock typeId peer blank e = ap length e ∙ length-request (newRequest clock typeId peer (zeros idSize)) refl
 
-entry-bytes : (i : ℕ) (t : List ℕ) → Bytes t → Bytes (entry 54 i t)
+entry-bytes : (i : ℕ) (t : List ℕ) → Bytes t → Bytes (entry recordSize i t)
 unfolding entry
-entry-bytes i t f = bytes-take 54 (drop (i * 54) t) (bytes-drop (i * 54) t f)
+entry-bytes i t f = bytes-take recordSize (drop (i * recordSize) t) (bytes-drop (i * recordSize) t f)
 
 -- ---- the pass
 
 module _ (clock typeId peer : ℕ) (t ids places : List ℕ) (count : ℕ) where
   -- what the ids from j on and the records from i on give
   abbrev pub left-over : ℕ → ℕ → List (List ℕ)
-  left-over j i = map requestBytes (enterAll clock typeId peer (idsAt ids (drop j places)) (map requestOf (drop i (entries 54 count t))))
+  left-over j i = map requestBytes (enterAll clock typeId peer (idsAt ids (drop j places)) (map requestOf (drop i (entries recordSize count t))))
 
 pub record Merging (clock typeId peer most count : ℕ) (t ids places first room : List ℕ) (front : Front) : Type 0 where
   pub records-le : front .records ≤ count
   pub ids-le : front .ids ≤ length places
   pub held-le : front .held ≤ suc most
   pub long : length room ≡ length first
-  pub done : entries 54 (front .held) room ++ left-over clock typeId peer t ids places count (front .ids) (front .records) ≡ left-over clock typeId peer t ids places count 0 0
+  pub done : entries recordSize (front .held) room ++ left-over clock typeId peer t ids places count (front .ids) (front .records) ≡ left-over clock typeId peer t ids places count 0 0
 
 module _ (clock typeId peer most count : ℕ) (t ids places first : List ℕ) where
   pub merge-starts : Merging clock typeId peer most count t ids places first first (record { records = 0; ids = 0; held = 0 })
   merge-starts = record { records-le = omega arith; ids-le = omega arith; held-le = omega arith; long = refl; done = refl }
 
   module _ (room : List ℕ) (front : Front) (s : Merging clock typeId peer most count t ids places first room front) where
-    module _ (fits : most * 54 + 54 ≤ length first) (held : front .held ≤ most) where
-      pub in-room : front .held * 54 + 54 ≤ length room
-      in-room = omega (arith, mul-le-mul-right 54 held, s .long)
+    module _ (fits : most * recordSize + recordSize ≤ length first) (held : front .held ≤ most) where
+      pub in-room : front .held * recordSize + recordSize ≤ length room
+      in-room = omega (arith, mul-le-mul-right recordSize held, s .long)
 
       skipped : (j : ℕ) → j ≤ length places → left-over clock typeId peer t ids places count (front .ids) (front .records) ≡ left-over clock typeId peer t ids places count j (front .records)
           → Merging clock typeId peer most count t ids places first room (record { records = front .records; ids = j; held = front .held })
@@ -120,27 +121,27 @@ module _ (clock typeId peer most count : ℕ) (t ids places first : List ℕ) wh
         ids-le = lj;
         held-le = s .held-le;
         long = s .long;
-        done = ap (λ (l : List (List ℕ)). entries 54 (front .held) room ++ l) (sym e) ∙ s .done;
+        done = ap (λ (l : List (List ℕ)). entries recordSize (front .held) room ++ l) (sym e) ∙ s .done;
       }
 
-      written : (i j : ℕ) (e : List ℕ) → i ≤ count → j ≤ length places → length e ≡ 54
+      written : (i j : ℕ) (e : List ℕ) → i ≤ count → j ≤ length places → length e ≡ recordSize
           → left-over clock typeId peer t ids places count (front .ids) (front .records) ≡ e ∷ left-over clock typeId peer t ids places count j i
-          → Merging clock typeId peer most count t ids places first (overwritten (front .held * 54) e room) (record { records = i; ids = j; held = front .held + 1 })
+          → Merging clock typeId peer most count t ids places first (overwritten (front .held * recordSize) e room) (record { records = i; ids = j; held = front .held + 1 })
       written i j e li lj le q = record {
         records-le = li;
         ids-le = lj;
         held-le = omega arith;
-        long = length-overwritten (front .held * 54) e room (omega (arith, in-room)) ∙ s .long;
+        long = length-overwritten (front .held * recordSize) e room (omega (arith, in-room)) ∙ s .long;
         done =
-            rw (entries-then 54 (front .held) e room le in-room)
-            (append-snoc (entries 54 (front .held) room) e (left-over clock typeId peer t ids places count j i)
-            ∙ ap (λ (l : List (List ℕ)). entries 54 (front .held) room ++ l) (sym q)
+            rw (entries-then recordSize (front .held) e room le in-room)
+            (append-snoc (entries recordSize (front .held) room) e (left-over clock typeId peer t ids places count j i)
+            ∙ ap (λ (l : List (List ℕ)). entries recordSize (front .held) room ++ l) (sym q)
             ∙ s .done);
       }
 
-      module _ (lt : count * 54 ≤ length t) (f : Bytes t) (listed : All (Listed ids) places) (order : sorted before (idsAt ids places) ≡ idsAt ids places) (inside : front .ids < length places) where
+      module _ (lt : count * recordSize ≤ length t) (f : Bytes t) (listed : All (Listed ids) places) (order : sorted before (idsAt ids places) ≡ idsAt ids places) (inside : front .ids < length places) where
         abbrev x : Id
-        x = entry 32 (getD places (front .ids) 0) ids
+        x = entry idSize (getD places (front .ids) 0) ids
 
         abbrev xs : List Id
         xs = idsAt ids (drop (front .ids + 1) places)
@@ -151,41 +152,41 @@ module _ (clock typeId peer most count : ℕ) (t ids places first : List ℕ) wh
         this-rises : Rising before (x ∷ xs)
         this-rises = rw these at (rising-from ids (front .ids) places (rw order at (sorted-rises before before-order (idsAt ids places))))
 
-        long-id : length x ≡ 32
-        long-id = length-entry 32 (getD places (front .ids) 0) ids (place-listed ids places (front .ids) inside listed (getD places (front .ids) 0) refl)
+        long-id : length x ≡ idSize
+        long-id = length-entry idSize (getD places (front .ids) 0) ids (place-listed ids places (front .ids) inside listed (getD places (front .ids) 0) refl)
 
-        turned : enterAll clock typeId peer (x ∷ xs) (map requestOf (drop (front .records) (entries 54 count t)))
-            ≡ after clock typeId peer x xs this-rises (choiceAt (x ∷ xs) (map requestOf (drop (front .records) (entries 54 count t)))) (map requestOf (drop (front .records) (entries 54 count t)))
-        turned = one-turn clock typeId peer x xs this-rises (map requestOf (drop (front .records) (entries 54 count t)))
+        turned : enterAll clock typeId peer (x ∷ xs) (map requestOf (drop (front .records) (entries recordSize count t)))
+            ≡ after clock typeId peer x xs this-rises (choiceAt (x ∷ xs) (map requestOf (drop (front .records) (entries recordSize count t)))) (map requestOf (drop (front .records) (entries recordSize count t)))
+        turned = one-turn clock typeId peer x xs this-rises (map requestOf (drop (front .records) (entries recordSize count t)))
 
-        by-choice : (choice : Choice) → choiceAt (x ∷ xs) (map requestOf (drop (front .records) (entries 54 count t))) ≡ choice
-            → Merging clock typeId peer most count t ids places first (roomAfter choice (entry 54 (front .records) t) (requestBytes (newRequest clock typeId peer x)) (front .held) room) (frontAfter choice front)
+        by-choice : (choice : Choice) → choiceAt (x ∷ xs) (map requestOf (drop (front .records) (entries recordSize count t))) ≡ choice
+            → Merging clock typeId peer most count t ids places first (roomAfter choice (entry recordSize (front .records) t) (requestBytes (newRequest clock typeId peer x)) (front .held) room) (frontAfter choice front)
         by-choice Keep e =
             let h : front .records < count = keep-inside count (front .records) t (x ∷ xs) Keep (sym e) refl in
-            let k : front .records * 54 + 54 ≤ length t = omega (arith, mul-le-mul-right 54 h) in
-            let le : length (entry 54 (front .records) t) ≡ 54 = length-entry 54 (front .records) t k in
-            let n : drop (front .records) (entries 54 count t) ≡ entry 54 (front .records) t ∷ drop (front .records + 1) (entries 54 count t) = next-record count (front .records) t h in
-            let b : requestBytes (requestOf (entry 54 (front .records) t)) ≡ entry 54 (front .records) t = bytes-of-request (entry 54 (front .records) t) le (entry-bytes (front .records) t f) in
-            written (front .records + 1) (front .ids) (entry 54 (front .records) t) (omega arith) (s .ids-le) le
+            let k : front .records * recordSize + recordSize ≤ length t = omega (arith, mul-le-mul-right recordSize h) in
+            let le : length (entry recordSize (front .records) t) ≡ recordSize = length-entry recordSize (front .records) t k in
+            let n : drop (front .records) (entries recordSize count t) ≡ entry recordSize (front .records) t ∷ drop (front .records + 1) (entries recordSize count t) = next-record count (front .records) t h in
+            let b : requestBytes (requestOf (entry recordSize (front .records) t)) ≡ entry recordSize (front .records) t = bytes-of-request (entry recordSize (front .records) t) le (entry-bytes (front .records) t f) in
+            written (front .records + 1) (front .ids) (entry recordSize (front .records) t) (omega arith) (s .ids-le) le
             (rw (these, n) (ap (map requestBytes) (rw n at (rw e at turned)) ∙ rw b))
         by-choice Skip e = skipped (front .ids + 1) (omega arith) (rw these (ap (map requestBytes) (rw e at turned)))
         by-choice Enter e =
             written (front .records) (front .ids + 1) (requestBytes (newRequest clock typeId peer x)) (s .records-le) (omega arith) (length-request (newRequest clock typeId peer x) long-id)
             (rw these (ap (map requestBytes) (rw e at turned)))
 
-        pub turn-on : (blank : List ℕ) → blank ≡ requestBytes (newRequest clock typeId peer (zeros 32)) → (front′ : Front) (room′ : List ℕ)
-            → front′ ≡ frontAfter (choiceAt (idsAt ids (drop (front .ids) places)) (map requestOf (drop (front .records) (entries 54 count t)))) front
-            → room′ ≡ roomAfter (choiceAt (idsAt ids (drop (front .ids) places)) (map requestOf (drop (front .records) (entries 54 count t)))) (entry 54 (front .records) t) (entry 32 (getD places (front .ids) 0) ids ++ drop 32 blank) (front .held) room
+        pub turn-on : (blank : List ℕ) → blank ≡ requestBytes (newRequest clock typeId peer (zeros idSize)) → (front′ : Front) (room′ : List ℕ)
+            → front′ ≡ frontAfter (choiceAt (idsAt ids (drop (front .ids) places)) (map requestOf (drop (front .records) (entries recordSize count t)))) front
+            → room′ ≡ roomAfter (choiceAt (idsAt ids (drop (front .ids) places)) (map requestOf (drop (front .records) (entries recordSize count t)))) (entry recordSize (front .records) t) (entry idSize (getD places (front .ids) 0) ids ++ drop idSize blank) (front .held) room
             → Merging clock typeId peer most count t ids places first room′ front′
         turn-on blank eb front′ room′ ef er =
-            rw (ef, er, ← new-split clock typeId peer x blank eb) (by-choice (choiceAt (idsAt ids (drop (front .ids) places)) (map requestOf (drop (front .records) (entries 54 count t)))) (rw these))
+            rw (ef, er, ← new-split clock typeId peer x blank eb) (by-choice (choiceAt (idsAt ids (drop (front .ids) places)) (map requestOf (drop (front .records) (entries recordSize count t)))) (rw these))
 
     -- each turn leaves less
-    pub turn-less : front .ids < length places → (front′ : Front) → front′ ≡ frontAfter (choiceAt (idsAt ids (drop (front .ids) places)) (map requestOf (drop (front .records) (entries 54 count t)))) front
+    pub turn-less : front .ids < length places → (front′ : Front) → front′ ≡ frontAfter (choiceAt (idsAt ids (drop (front .ids) places)) (map requestOf (drop (front .records) (entries recordSize count t)))) front
         → (count - front′ .records) + (length places - front′ .ids) < (count - front .records) + (length places - front .ids)
-    turn-less inside front′ ef = rw ef (go (choiceAt (idsAt ids (drop (front .ids) places)) (map requestOf (drop (front .records) (entries 54 count t)))) refl)
+    turn-less inside front′ ef = rw ef (go (choiceAt (idsAt ids (drop (front .ids) places)) (map requestOf (drop (front .records) (entries recordSize count t)))) refl)
       where
-        go : (c : Choice) → c ≡ choiceAt (idsAt ids (drop (front .ids) places)) (map requestOf (drop (front .records) (entries 54 count t)))
+        go : (c : Choice) → c ≡ choiceAt (idsAt ids (drop (front .ids) places)) (map requestOf (drop (front .records) (entries recordSize count t)))
             → (count - frontAfter c front .records) + (length places - frontAfter c front .ids) < (count - front .records) + (length places - front .ids)
         go Keep q = let h : front .records < count = keep-inside count (front .records) t (idsAt ids (drop (front .ids) places)) Keep q refl in omega arith
         go Skip q = omega arith

@@ -13,14 +13,16 @@ use Rattle.order.specs.Places.{keyBelow}
 use Rattle.order.proofs.WholeLaws as whole
 use Rattle.model.specs.Lists.{idsIn}
 use Rattle.mark_requested.specs.Choices.{Listed, idsAt}
+use Rattle.model.specs.Layout.{idListSize, idSize}
+use Rattle.model.specs.Protocol.{trackedLimit}
 
-module _ (ids numbers places : List ℕ) (n : ℕ) (en : n ≡ length ids / 32) (e₁ : numbers ≡ numbersFrom 0 n) (e₂ : places ≡ sorted (keyBelow 32 0 32 ids) numbers) where
+module _ (ids numbers places : List ℕ) (n : ℕ) (en : n ≡ length ids / idSize) (e₁ : numbers ≡ numbersFrom 0 n) (e₂ : places ≡ sorted (keyBelow 32 0 32 ids) numbers) where
   both : places ≡ sorted (keyBelow 32 0 32 ids) (numbersFrom 0 n)
   both = e₂ ∙ ap (sorted (keyBelow 32 0 32 ids)) e₁
 
   pub sorted-ids : idsAt ids places ≡ sorted before (idsIn ids)
   unfolding idsIn
-  sorted-ids = rw en at (whole.sorted-entries 32 ids places n (omega arith) both)
+  sorted-ids = rw en at (whole.sorted-entries idSize ids places n (omega arith) both)
 
   pub sorted-listed : All (Listed ids) places
   sorted-listed = whole.sorted-within 32 ids places n (omega arith) both
@@ -28,9 +30,9 @@ module _ (ids numbers places : List ℕ) (n : ℕ) (en : n ≡ length ids / 32) 
 -- ---- room for the places
 
 abbrev no-places : List ℕ
-no-places = replicate 1024 0
+no-places = replicate trackedLimit 0
 
-pub room-long : (size : ℕ) → size ≤ 32768 → length (take (size / 32) no-places) ≡ size / 32
+pub room-long : (size : ℕ) → size ≤ idListSize → length (take (size / idSize) no-places) ≡ size / idSize
 room-long size h =
-    let l : length no-places ≡ 1024 = length-replicate {A = ℕ} 1024 0 in
-    length-take-le (size / 32) no-places (omega arith)
+    let l : length no-places ≡ trackedLimit = length-replicate {A = ℕ} trackedLimit 0 in
+    length-take-le (size / idSize) no-places (omega arith)

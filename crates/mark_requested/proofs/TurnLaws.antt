@@ -16,37 +16,38 @@ use Rattle.mark_requested.specs.declared.choosing.Choice.{Choice}
 use Rattle.mark_requested.specs.declared.choosing.Choice.the-variants.{Keep, Skip, Enter}
 use Rattle.mark_requested.specs.declared.merging.Front.{Front}
 use Rattle.mark_requested.specs.Turns.{frontAfter, roomAfter}
+use Rattle.model.specs.Layout.{idSize, recordSize}
 
 -- an id, then what follows it in another record
-pub new-written : (p : ℕ) (id blank d o₁ o₂ : List ℕ) → length id ≡ 32 → length blank ≡ 54 → p + 54 ≤ length d
-    → o₁ ≡ overwritten p id d → o₂ ≡ overwritten (p + 32) (take 22 (drop 32 blank)) o₁ → o₂ ≡ overwritten p (id ++ drop 32 blank) d
+pub new-written : (p : ℕ) (id blank d o₁ o₂ : List ℕ) → length id ≡ idSize → length blank ≡ recordSize → p + recordSize ≤ length d
+    → o₁ ≡ overwritten p id d → o₂ ≡ overwritten (p + idSize) (take 22 (drop idSize blank)) o₁ → o₂ ≡ overwritten p (id ++ drop idSize blank) d
 new-written p id blank d o₁ o₂ l lb h e₁ e₂ =
-    let n : length (drop 32 blank) ≡ 22 = length-drop 32 blank ∙ omega arith in
-    let t : take 22 (drop 32 blank) ≡ drop 32 blank = take-all 22 (drop 32 blank) (omega arith) in
-    written-next p 32 id (drop 32 blank) d o₁ o₂ l (omega arith) e₁ (rw t at e₂)
+    let n : length (drop idSize blank) ≡ 22 = length-drop idSize blank ∙ omega arith in
+    let t : take 22 (drop idSize blank) ≡ drop idSize blank = take-all 22 (drop idSize blank) (omega arith) in
+    written-next p 32 id (drop idSize blank) d o₁ o₂ l (omega arith) e₁ (rw t at e₂)
 
 -- ---- what a turn does
 
 module _ (choice told : Choice) (e : choice ≡ told) (front : Front) (t ids new room room′ : List ℕ) where
-  pub kept-turn : choice ≡ Keep → room′ ≡ overwritten (front .held * 54) (take (front .records * 54 + 54 - front .records * 54) (drop (front .records * 54) t)) room
-      → (record { records = front .records + 1; ids = front .ids; held = front .held + 1 } ≡ frontAfter told front) × (room′ ≡ roomAfter told (entry 54 (front .records) t) new (front .held) room)
+  pub kept-turn : choice ≡ Keep → room′ ≡ overwritten (front .held * recordSize) (take (front .records * recordSize + recordSize - front .records * recordSize) (drop (front .records * recordSize) t)) room
+      → (record { records = front .records + 1; ids = front .ids; held = front .held + 1 } ≡ frontAfter told front) × (room′ ≡ roomAfter told (entry recordSize (front .records) t) new (front .held) room)
   unfolding entry
   kept-turn k r =
-      let d : front .records * 54 + 54 - front .records * 54 ≡ 54 = omega arith in
+      let d : front .records * recordSize + recordSize - front .records * recordSize ≡ recordSize = omega arith in
       let q : told ≡ Keep = sym e ∙ k in
       rw q (refl, rw d at r)
 
   pub skipped-turn : choice ≡ Skip → room′ ≡ room
-      → (record { records = front .records; ids = front .ids + 1; held = front .held } ≡ frontAfter told front) × (room′ ≡ roomAfter told (entry 54 (front .records) t) new (front .held) room)
+      → (record { records = front .records; ids = front .ids + 1; held = front .held } ≡ frontAfter told front) × (room′ ≡ roomAfter told (entry recordSize (front .records) t) new (front .held) room)
   skipped-turn k r = let q : told ≡ Skip = sym e ∙ k in rw q (refl, r)
 
 module _ (choice told : Choice) (e : choice ≡ told) (front : Front) (p place : ℕ) (ep : p ≡ place) (t ids blank room room′ : List ℕ) where
-  pub entered-turn : choice ≡ Enter → room′ ≡ overwritten (front .held * 54) (take (p * 32 + 32 - p * 32) (drop (p * 32) ids) ++ drop 32 blank) room
+  pub entered-turn : choice ≡ Enter → room′ ≡ overwritten (front .held * recordSize) (take (p * idSize + idSize - p * idSize) (drop (p * idSize) ids) ++ drop idSize blank) room
       → (record { records = front .records; ids = front .ids + 1; held = front .held + 1 } ≡ frontAfter told front)
-      × (room′ ≡ roomAfter told (entry 54 (front .records) t) (entry 32 place ids ++ drop 32 blank) (front .held) room)
+      × (room′ ≡ roomAfter told (entry recordSize (front .records) t) (entry idSize place ids ++ drop idSize blank) (front .held) room)
   unfolding entry
   entered-turn k r =
-      let d : p * 32 + 32 - p * 32 ≡ 32 = omega arith in
+      let d : p * idSize + idSize - p * idSize ≡ idSize = omega arith in
       let q : told ≡ Enter = sym e ∙ k in
       rw q (refl, rw (d, ep) at r)
 
@@ -56,10 +57,10 @@ pub rest-full : {X : Type 0} (most total : ℕ) → most < total → (Full ≡ c
 rest-full most total h = let e : leb total most ≡ false = lt-leb total most h in (rw e, λ t. absurd (false≢true (rw e at t)))
 
 pub rest-held : (most count records held : ℕ) (table room room′ : List ℕ) → held + (count - records) ≤ most
-    → room′ ≡ overwritten (held * 54) (take (count * 54 - records * 54) (drop (records * 54) table)) room
+    → room′ ≡ overwritten (held * recordSize) (take (count * recordSize - records * recordSize) (drop (records * recordSize) table)) room
     → (Pending (held + (count - records)) ≡ cond (leb (held + (count - records)) most) (Pending (held + (count - records))) Full)
-    × (leb (held + (count - records)) most ≡ true → room′ ≡ overwritten (held * 54) (take ((count - records) * 54) (drop (records * 54) table)) room)
+    × (leb (held + (count - records)) most ≡ true → room′ ≡ overwritten (held * recordSize) (take ((count - records) * recordSize) (drop (records * recordSize) table)) room)
 rest-held most count records held table room room′ h e =
     let t : leb (held + (count - records)) most ≡ true = le-leb (held + (count - records)) most h in
-    let d : count * 54 - records * 54 ≡ (count - records) * 54 = omega arith in
+    let d : count * recordSize - records * recordSize ≡ (count - records) * recordSize = omega arith in
     (rw t, λ u. rw d at e)

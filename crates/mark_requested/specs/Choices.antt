@@ -7,13 +7,13 @@ use Rattle.fields.specs.Order.{before, same}
 use Rattle.fields.specs.Entries.{entry}
 use Rattle.model.specs.Protocol.{Id}
 use Rattle.model.specs.Delivery.{Request}
-use Rattle.model.specs.Image.{idSize}
 use Rattle.mark_requested.specs.declared.choosing.Choice.{Choice}
 use Rattle.mark_requested.specs.declared.choosing.Choice.the-variants.{Keep, Skip, Enter}
+use Rattle.model.specs.Layout.{idSize}
 
 -- an id stands at the place
 abbrev pub Listed : List ℕ → ℕ → Type 0
-Listed ids place = place * 32 + 32 ≤ length ids
+Listed ids place = place * idSize + idSize ≤ length ids
 
 abbrev pub idsAt : List ℕ → List ℕ → List Id
 idsAt ids places = map (λ (place : ℕ). entry idSize place ids) places

@@ -2,10 +2,10 @@
 use Prim.Native.Nat.{ℕ, _+_, _*_}
 use mathlib.Core.List.{List}
 use Rattle.fields.specs.Overwrite.{overwritten}
-use Rattle.model.specs.Image.{recordSize}
 use Rattle.mark_requested.specs.declared.choosing.Choice.{Choice}
 use Rattle.mark_requested.specs.declared.choosing.Choice.the-variants.{Keep, Skip, Enter}
 use Rattle.mark_requested.specs.declared.merging.Front.{Front}
+use Rattle.model.specs.Layout.{recordSize}
 
 -- how far the pass is then
 abbrev pub frontAfter : Choice → Front → Front

@@ -10,6 +10,10 @@ ghost use Rattle.fields.specs.Order.{same};
 ghost use Rattle.fields.specs.Entries.{entries, entry};
 ghost use Rattle.model.specs.Image.{requestOf};
 ghost use Rattle.mark_requested.specs.Choices.{Listed, idsAt, repeats, chosen, choiceFor, choiceAt};
+ghost use Rattle.model.specs.Layout.{idSize, recordSize};
+ghost use Rattle.model.specs.Protocol.{trackedLimit};
+use model::layout::ID_SIZE;
+use model::layout::RECORD_SIZE;
 
 // What comes next: the table's record, nothing since the id comes again or is pending, or the id's record.
 pub enum Choice {
@@ -20,8 +24,8 @@ pub enum Choice {
 
 // Whether the ids at p and q are the same. The first word tells most apart.
 fn same_id(ids: &[u8], p: usize, q: usize) -> bool
-    requires { ⌜ (p + 32 ≤ length (now ids)) × (q + 32 ≤ length (now ids)) ⌝ }
-    ensures { λ r. ⌜ r ≡ same (take 32 (drop p (now (ids .entry)))) (take 32 (drop q (now (ids .entry)))) ⌝ }
+    requires { ⌜ (p + idSize ≤ length (now ids)) × (q + idSize ≤ length (now ids)) ⌝ }
+    ensures { λ r. ⌜ r ≡ same (take idSize (drop p (now (ids .entry)))) (take idSize (drop q (now (ids .entry)))) ⌝ }
 {
     let a = fields::read_u64(ids, p);
     let b = fields::read_u64(ids, q);
@@ -41,15 +45,15 @@ fn comes_again(ids: &[u8], places: &[u16], j: usize) -> bool
     }
     same_id(
         ids,
-        order::places::wide(places[j]) * 32,
-        order::places::wide(places[j + 1]) * 32,
+        order::places::wide(places[j]) * ID_SIZE,
+        order::places::wide(places[j + 1]) * ID_SIZE,
     )
 }
 
 // The record whose id stands at p, or the id at q. Again the first word decides between most.
 fn compare(table: &[u8], p: usize, ids: &[u8], q: usize) -> Choice
-    requires { ⌜ (p + 32 ≤ length (now table)) × (q + 32 ≤ length (now ids)) ⌝ }
-    ensures { λ r. ⌜ r ≡ chosen (take 32 (drop p (now (table .entry)))) (take 32 (drop q (now (ids .entry)))) ⌝ }
+    requires { ⌜ (p + idSize ≤ length (now table)) × (q + idSize ≤ length (now ids)) ⌝ }
+    ensures { λ r. ⌜ r ≡ chosen (take idSize (drop p (now (table .entry)))) (take idSize (drop q (now (ids .entry)))) ⌝ }
 {
     let a = fields::read_u64(table, p);
     let b = fields::read_u64(ids, q);
@@ -69,13 +73,13 @@ fn compare(table: &[u8], p: usize, ids: &[u8], q: usize) -> Choice
 }
 
 fn choose(table: &[u8], count: usize, i: usize, ids: &[u8], place: usize) -> Choice
-    requires { ⌜ (count * 54 ≤ length (now table)) × ((i ≤ count) × ((count ≤ 1024) × Listed (now ids) place)) ⌝ }
-    ensures { λ r. ⌜ r ≡ choiceFor (entry 32 place (now (ids .entry))) (map requestOf (drop i (entries 54 count (now (table .entry))))) ⌝ }
+    requires { ⌜ (count * recordSize ≤ length (now table)) × ((i ≤ count) × ((count ≤ trackedLimit) × Listed (now ids) place)) ⌝ }
+    ensures { λ r. ⌜ r ≡ choiceFor (entry idSize place (now (ids .entry))) (map requestOf (drop i (entries recordSize count (now (table .entry))))) ⌝ }
 {
     if count <= i {
         return Choice::Enter;
     }
-    compare(table, i * 54, ids, place * 32)
+    compare(table, i * RECORD_SIZE, ids, place * ID_SIZE)
 }
 
 // The record at i, or the id at place j of those left, in the order of the ids.
@@ -87,9 +91,9 @@ pub fn next_choice(
     places: &[u16],
     j: usize,
 ) -> Choice
-    requires { ⌜ (count * 54 ≤ length (now table)) × ((i ≤ count) × (count ≤ 1024)) ⌝ }
+    requires { ⌜ (count * recordSize ≤ length (now table)) × ((i ≤ count) × (count ≤ trackedLimit)) ⌝ }
     requires { ⌜ All (Listed (now ids)) (now places) × (j < length (now places)) ⌝ }
-    ensures { λ r. ⌜ r ≡ choiceAt (idsAt (now (ids .entry)) (drop j (now (places .entry)))) (map requestOf (drop i (entries 54 count (now (table .entry))))) ⌝ }
+    ensures { λ r. ⌜ r ≡ choiceAt (idsAt (now (ids .entry)) (drop j (now (places .entry)))) (map requestOf (drop i (entries recordSize count (now (table .entry))))) ⌝ }
 {
     if comes_again(ids, places, j) {
         return Choice::Skip;

@@ -18,11 +18,16 @@ ghost use Rattle.model.specs.Lists.{idsIn};
 ghost use Rattle.commands.specs.Pending.{requestsIn};
 ghost use Rattle.mark_requested.specs.Marking.{markedAs, heldWithin};
 ghost use Rattle.mark_requested.specs.Choices.{Listed, idsAt};
+ghost use Rattle.model.specs.Layout.{idListSize, idSize, recordSize};
+ghost use Rattle.model.specs.Protocol.{trackedLimit};
 use crate::entering::Marked;
+use model::layout::ID_SIZE;
+use model::layout::RECORD_SIZE;
+use model::layout::TRACKED_LIMIT;
 
 // The places of all ids, in the order of the ids.
 fn sort_ids(ids: &[u8], places: &mut [u16], spare: &mut [u16])
-    requires { ⌜ (length (now places) ≡ length (now ids) / 32) × ((length (now spare) ≡ length (now places)) × (length (now ids) ≤ 32768)) ⌝ }
+    requires { ⌜ (length (now places) ≡ length (now ids) / idSize) × ((length (now spare) ≡ length (now places)) × (length (now ids) ≤ idListSize)) ⌝ }
     ensures { λ _. ⌜ idsAt (now (ids .entry)) (now (places .exit)) ≡ sorted before (idsIn (now (ids .entry))) ⌝ }
     ensures { λ _. ⌜ All (Listed (now (ids .entry))) (now (places .exit)) ⌝ }
 {
@@ -43,9 +48,9 @@ fn mark_many(
     spare: &mut [u16],
     room: &mut [u8],
 ) -> Marked
-    requires { ⌜ (length (now ids) % 32 ≡ 0) × ((length (now ids) ≤ 32768) × ((count ≤ most) × ((most ≤ 1024) × (most * 54 ≤ length (now table))))) ⌝ }
-    requires { ⌜ (length (now places) ≡ length (now ids) / 32) × ((length (now spare) ≡ length (now places)) × (most * 54 + 54 ≤ length (now room))) ⌝ }
-    requires { ⌜ rising 32 (entries 54 count (now table)) ≡ true ⌝ }
+    requires { ⌜ (length (now ids) % idSize ≡ 0) × ((length (now ids) ≤ idListSize) × ((count ≤ most) × ((most ≤ trackedLimit) × (most * recordSize ≤ length (now table))))) ⌝ }
+    requires { ⌜ (length (now places) ≡ length (now ids) / idSize) × ((length (now spare) ≡ length (now places)) × (most * recordSize + recordSize ≤ length (now room))) ⌝ }
+    requires { ⌜ rising idSize (entries recordSize count (now table)) ≡ true ⌝ }
     ensures { λ r. ⌜ r ≡ markedAs most (markRequested clock typeid peer (idsIn (now (ids .entry))) (requestsIn count (now (table .entry)))) ⌝ }
     ensures { λ _. ⌜ now (table .exit) ≡ heldWithin most count (markRequested clock typeid peer (idsIn (now (ids .entry))) (requestsIn count (now (table .entry)))) (now (table .entry)) ⌝ }
 {
@@ -53,7 +58,7 @@ fn mark_many(
     match crate::merging::merge(table, count, most, clock, typeid, peer, ids, places, room) {
         Marked::Full => Marked::Full,
         Marked::Pending(held) => {
-            spans::copying::copy_prefix(room, held * 54, table);
+            spans::copying::copy_prefix(room, held * RECORD_SIZE, table);
             Marked::Pending(held)
         }
     }
@@ -70,18 +75,18 @@ pub fn mark_requested(
     peer: u64,
     ids: &[u8],
 ) -> Marked
-    requires { ⌜ (length (now ids) % 32 ≡ 0) × ((length (now ids) ≤ 32768) × ((count ≤ most) × ((most ≤ 1024) × (most * 54 ≤ length (now table))))) ⌝ }
-    requires { ⌜ rising 32 (entries 54 count (now table)) ≡ true ⌝ }
+    requires { ⌜ (length (now ids) % idSize ≡ 0) × ((length (now ids) ≤ idListSize) × ((count ≤ most) × ((most ≤ trackedLimit) × (most * recordSize ≤ length (now table))))) ⌝ }
+    requires { ⌜ rising idSize (entries recordSize count (now table)) ≡ true ⌝ }
     ensures { λ r. ⌜ r ≡ markedAs most (markRequested clock typeid peer (idsIn (now (ids .entry))) (requestsIn count (now (table .entry)))) ⌝ }
     ensures { λ _. ⌜ now (table .exit) ≡ heldWithin most count (markRequested clock typeid peer (idsIn (now (ids .entry))) (requestsIn count (now (table .entry)))) (now (table .entry)) ⌝ }
 {
-    let number = ids.len() / 32;
+    let number = ids.len() / ID_SIZE;
     // A table that fills up must stay as it was, so ids go in one after another only where all of them have room.
     if (number <= 8) & (count + number <= most) {
         return Marked::Pending(crate::entering::mark_each(table, count, clock, typeid, peer, ids));
     }
-    let mut places = [0u16; 1024];
-    let mut spare = [0u16; 1024];
+    let mut places = [0u16; TRACKED_LIMIT];
+    let mut spare = [0u16; TRACKED_LIMIT];
     let mut room = [0u8; 55350];
     mark_many(
         table,

@@ -18,8 +18,12 @@ ghost use Rattle.mark_requested.specs.Marking.{markedAs, newRequest};
 ghost use Rattle.mark_requested.specs.declared.entering.Marked.the-variants.{Pending, Full};
 ghost use Rattle.mark_requested.specs.Choices.{Listed, idsAt, choiceAt};
 ghost use Rattle.mark_requested.specs.Turns.{frontAfter, roomAfter};
+ghost use Rattle.model.specs.Layout.{idSize, recordSize};
+ghost use Rattle.model.specs.Protocol.{trackedLimit};
 use crate::choosing::Choice;
 use crate::entering::Marked;
+use model::layout::ID_SIZE;
+use model::layout::RECORD_SIZE;
 
 // How far the pass is: records and ids dealt with, records in the room.
 pub struct Front {
@@ -29,19 +33,19 @@ pub struct Front {
 }
 
 // A new request without its id: all of them share what follows the id.
-fn blank_record(clock: u64, typeid: u8, peer: u64) -> [u8; 54]
-    ensures { λ r. ⌜ r ≡ requestBytes (newRequest clock typeid peer (zeros 32)) ⌝ }
+fn blank_record(clock: u64, typeid: u8, peer: u64) -> [u8; RECORD_SIZE]
+    ensures { λ r. ⌜ r ≡ requestBytes (newRequest clock typeid peer (zeros idSize)) ⌝ }
 {
     let id = [0u8; 32];
     crate::entering::new_record(clock, typeid, peer, &id)
 }
 
 fn put_new(room: &mut [u8], at: usize, id: &[u8], blank: &[u8])
-    requires { ⌜ (length (now id) ≡ 32) × ((length (now blank) ≡ 54) × (at + 54 ≤ length (now room))) ⌝ }
-    ensures { λ _. ⌜ now (room .exit) ≡ overwritten at (now (id .entry) ++ drop 32 (now (blank .entry))) (now (room .entry)) ⌝ }
+    requires { ⌜ (length (now id) ≡ idSize) × ((length (now blank) ≡ recordSize) × (at + recordSize ≤ length (now room))) ⌝ }
+    ensures { λ _. ⌜ now (room .exit) ≡ overwritten at (now (id .entry) ++ drop idSize (now (blank .entry))) (now (room .entry)) ⌝ }
 {
     spans::moving::overwrite(room, at, id);
-    spans::moving::overwrite(room, at + 32, &blank[32..54]);
+    spans::moving::overwrite(room, at + ID_SIZE, &blank[32..54]);
 }
 
 // One step of the pass; `blank` has what follows a new id.
@@ -54,19 +58,19 @@ fn turn(
     front: Front,
     room: &mut [u8],
 ) -> Front
-    requires { ⌜ (count * 54 ≤ length (now table)) × ((front .records ≤ count) × ((count ≤ 1024) × (length (now blank) ≡ 54))) ⌝ }
-    requires { ⌜ All (Listed (now ids)) (now places) × ((front .ids < length (now places)) × ((length (now places) ≤ 1024) × (front .held * 54 + 54 ≤ length (now room)))) ⌝ }
-    ensures { λ r. ⌜ r ≡ frontAfter (choiceAt (idsAt (now (ids .entry)) (drop (front .ids) (now (places .entry)))) (map requestOf (drop (front .records) (entries 54 count (now (table .entry)))))) front ⌝ }
-    ensures { λ _. ⌜ now (room .exit) ≡ roomAfter (choiceAt (idsAt (now (ids .entry)) (drop (front .ids) (now (places .entry)))) (map requestOf (drop (front .records) (entries 54 count (now (table .entry)))))) (entry 54 (front .records) (now (table .entry))) (entry 32 (getD (now (places .entry)) (front .ids) 0) (now (ids .entry)) ++ drop 32 (now (blank .entry))) (front .held) (now (room .entry)) ⌝ }
+    requires { ⌜ (count * recordSize ≤ length (now table)) × ((front .records ≤ count) × ((count ≤ trackedLimit) × (length (now blank) ≡ recordSize))) ⌝ }
+    requires { ⌜ All (Listed (now ids)) (now places) × ((front .ids < length (now places)) × ((length (now places) ≤ trackedLimit) × (front .held * recordSize + recordSize ≤ length (now room)))) ⌝ }
+    ensures { λ r. ⌜ r ≡ frontAfter (choiceAt (idsAt (now (ids .entry)) (drop (front .ids) (now (places .entry)))) (map requestOf (drop (front .records) (entries recordSize count (now (table .entry)))))) front ⌝ }
+    ensures { λ _. ⌜ now (room .exit) ≡ roomAfter (choiceAt (idsAt (now (ids .entry)) (drop (front .ids) (now (places .entry)))) (map requestOf (drop (front .records) (entries recordSize count (now (table .entry)))))) (entry recordSize (front .records) (now (table .entry))) (entry idSize (getD (now (places .entry)) (front .ids) 0) (now (ids .entry)) ++ drop idSize (now (blank .entry))) (front .held) (now (room .entry)) ⌝ }
 {
     let records = front.records;
     let done = front.ids;
     let held = front.held;
     match crate::choosing::next_choice(table, count, records, ids, places, done) {
         Choice::Keep => {
-            let from = records * 54;
-            let end = from + 54;
-            spans::moving::overwrite(room, held * 54, &table[from..end]);
+            let from = records * RECORD_SIZE;
+            let end = from + RECORD_SIZE;
+            spans::moving::overwrite(room, held * RECORD_SIZE, &table[from..end]);
             Front {
                 records: records + 1,
                 ids: done,
@@ -79,9 +83,9 @@ fn turn(
             held,
         },
         Choice::Enter => {
-            let from = order::places::wide(places[done]) * 32;
-            let end = from + 32;
-            put_new(room, held * 54, &ids[from..end], blank);
+            let from = order::places::wide(places[done]) * ID_SIZE;
+            let end = from + ID_SIZE;
+            put_new(room, held * RECORD_SIZE, &ids[from..end], blank);
             Front {
                 records,
                 ids: done + 1,
@@ -100,17 +104,17 @@ fn put_rest(
     held: usize,
     room: &mut [u8],
 ) -> Marked
-    requires { ⌜ (count * 54 ≤ length (now table)) × ((records ≤ count) × ((count ≤ 1024) × ((held ≤ 1025) × (most * 54 ≤ length (now room))))) ⌝ }
+    requires { ⌜ (count * recordSize ≤ length (now table)) × ((records ≤ count) × ((count ≤ trackedLimit) × ((held ≤ 1025) × (most * recordSize ≤ length (now room))))) ⌝ }
     ensures { λ r. ⌜ r ≡ cond (leb (held + (count - records)) most) (Pending (held + (count - records))) Full ⌝ }
-    ensures { λ _. ⌜ (leb (held + (count - records)) most ≡ true → now (room .exit) ≡ overwritten (held * 54) (take ((count - records) * 54) (drop (records * 54) (now (table .entry)))) (now (room .entry))) ⌝ }
+    ensures { λ _. ⌜ (leb (held + (count - records)) most ≡ true → now (room .exit) ≡ overwritten (held * recordSize) (take ((count - records) * recordSize) (drop (records * recordSize) (now (table .entry)))) (now (room .entry))) ⌝ }
 {
     let total = held + (count - records);
     if most < total {
         return Marked::Full;
     }
-    let from = records * 54;
-    let end = count * 54;
-    spans::moving::overwrite(room, held * 54, &table[from..end]);
+    let from = records * RECORD_SIZE;
+    let end = count * RECORD_SIZE;
+    spans::moving::overwrite(room, held * RECORD_SIZE, &table[from..end]);
     Marked::Pending(total)
 }
 
@@ -126,11 +130,11 @@ pub fn merge(
     places: &[u16],
     room: &mut [u8],
 ) -> Marked
-    requires { ⌜ (count * 54 ≤ length (now table)) × ((count ≤ most) × ((most ≤ 1024) × ((length (now places) ≤ 1024) × (most * 54 + 54 ≤ length (now room))))) ⌝ }
+    requires { ⌜ (count * recordSize ≤ length (now table)) × ((count ≤ most) × ((most ≤ trackedLimit) × ((length (now places) ≤ trackedLimit) × (most * recordSize + recordSize ≤ length (now room))))) ⌝ }
     requires { ⌜ All (Listed (now ids)) (now places) × (sorted before (idsAt (now ids) (now places)) ≡ idsAt (now ids) (now places)) ⌝ }
-    requires { ⌜ rising 32 (entries 54 count (now table)) ≡ true ⌝ }
+    requires { ⌜ rising idSize (entries recordSize count (now table)) ≡ true ⌝ }
     ensures { λ r. ⌜ r ≡ markedAs most (markRequested clock typeid peer (idsAt (now (ids .entry)) (now (places .entry))) (requestsIn count (now (table .entry)))) ⌝ }
-    ensures { λ _. ⌜ (leb (length (markRequested clock typeid peer (idsAt (now (ids .entry)) (now (places .entry))) (requestsIn count (now (table .entry))))) most ≡ true → entries 54 (length (markRequested clock typeid peer (idsAt (now (ids .entry)) (now (places .entry))) (requestsIn count (now (table .entry))))) (now (room .exit)) ≡ map requestBytes (markRequested clock typeid peer (idsAt (now (ids .entry)) (now (places .entry))) (requestsIn count (now (table .entry))))) ⌝ }
+    ensures { λ _. ⌜ (leb (length (markRequested clock typeid peer (idsAt (now (ids .entry)) (now (places .entry))) (requestsIn count (now (table .entry))))) most ≡ true → entries recordSize (length (markRequested clock typeid peer (idsAt (now (ids .entry)) (now (places .entry))) (requestsIn count (now (table .entry))))) (now (room .exit)) ≡ map requestBytes (markRequested clock typeid peer (idsAt (now (ids .entry)) (now (places .entry))) (requestsIn count (now (table .entry))))) ⌝ }
 {
     let blank = blank_record(clock, typeid, peer);
     let mut front = Front {

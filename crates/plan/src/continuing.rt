@@ -14,11 +14,11 @@ ghost use Rattle.model.specs.Calls as calls;
 ghost use Rattle.model.specs.Calls.{argsOf};
 ghost use Rattle.image.specs.Heads.{headOf};
 ghost use Rattle.plan.specs.Plans.{actsBy, sketchIn, sketchOf};
-use image::head::Head;
-use peers::Listed;
 use crate::Plan;
 use crate::Stalling;
 use crate::Work;
+use image::head::Head;
+use peers::Listed;
 
 // Continue in the same mode. Unless it is an entry that sent, a step clears the entry mark.
 pub fn continues(head: Head, clock: u64, work: Work) -> Plan

@@ -16,11 +16,11 @@ ghost use Rattle.peers.specs.Peers.{listedPeer};
 ghost use Rattle.image.specs.Heads.{headOf};
 ghost use Rattle.plan.specs.Plans.{announceTo, sectionsWork, sketchIn, sketchOf};
 ghost use Rattle.plan.specs.declared.Work.the-variants.{Nothing};
-use image::head::Head;
-use peers::Listed;
 use crate::Plan;
 use crate::Stalling;
 use crate::Work;
+use image::head::Head;
+use peers::Listed;
 
 // Rule 4's work: with no outbound peer nothing is requested. A reorg purges first.
 pub fn sections_work(purges: bool, peers: &[u8]) -> Work

@@ -16,11 +16,11 @@ ghost use Rattle.peers.specs.Peers.{listedPeer};
 ghost use Rattle.image.specs.Heads.{headOf};
 ghost use Rattle.plan.specs.Plans.{stalledBy, announceTo, headBy, sketchIn, sketchOf};
 ghost use Rattle.plan.specs.declared.Work.the-variants.{Nothing};
-use image::head::Head;
-use peers::Listed;
 use crate::Plan;
 use crate::Stalling;
 use crate::Work;
+use image::head::Head;
+use peers::Listed;
 
 // Whom a sync info goes to, if it is sent.
 pub fn says_if(sent: bool, peer: u64) -> Listed

@@ -23,10 +23,11 @@ use Rattle.plan.specs.declared.Work.the-variants.{Nothing}
 use Rattle.plan.specs.Plans.{announceTo, isQuiet, sectionsWork, sketchIn, sketchOf}
 use Rattle.plan.proofs.HeightLaws.{quiet-sections}
 use borrow.Author.Tests.{eq-eqb, ne-eqb}
+use Rattle.model.specs.Layout.{idSize}
 
-length-ids : (bytes : List ℕ) → length (idsIn bytes) ≡ length bytes / 32
+length-ids : (bytes : List ℕ) → length (idsIn bytes) ≡ length bytes / idSize
 unfolding idsIn
-length-ids bytes = length-entries 32 (length bytes / 32) bytes
+length-ids bytes = length-entries idSize (length bytes / idSize) bytes
 
 module _ (st : State) (a : Args) (peer typeId : ℕ) where
   heard-some : (ids : List Id) → 0 < length ids
@@ -41,16 +42,16 @@ module _ (st : State) (a : Args) (peer typeId : ℕ) where
   heard-none [] l = refl
   heard-none (id ∷ ids) l = absurd (lt-irrefl 0 (omega arith))
 
-  pub some-announced : (bytes : List ℕ) → 0 < length bytes → length bytes % 32 ≡ 0
+  pub some-announced : (bytes : List ℕ) → 0 < length bytes → length bytes % idSize ≡ 0
       → steps.hearsAnnounced st a peer typeId (idsIn bytes) ≡ steps.continues st a (cond (isAnnounceable typeId) (ask typeId peer (a .stored) (idsIn bytes) ∷ []) [])
   some-announced bytes l whole =
-      let n : 0 < length bytes / 32 = omega arith in
+      let n : 0 < length bytes / idSize = omega arith in
       heard-some (idsIn bytes) (rw (length-ids bytes) n)
 
   pub none-announced : (bytes : List ℕ) → length bytes ≤ 0
       → steps.hearsAnnounced st a peer typeId (idsIn bytes) ≡ cond (eqb typeId headerType) (steps.isAtTip st a [] (st .sync .knownTip)) (steps.continues st a [])
   none-announced bytes l =
-      let n : length bytes / 32 ≡ 0 = omega arith in
+      let n : length bytes / idSize ≡ 0 = omega arith in
       heard-none (idsIn bytes) (length-ids bytes ∙ n)
 
 -- a tip is read only if parsing worked
@@ -81,7 +82,7 @@ module _ (st : State) (c : Call) (bytes : List ℕ) (typeid : ℕ) (ids : c .ids
   abbrev pub heard : steps.Plan
   heard = steps.hearsAnnounced st (argsOf c) (c .peer) (c .typeid) (idsIn (c .ids))
 
-  module _ (l : 0 < length bytes) (whole : length bytes % 32 ≡ 0) where
+  module _ (l : 0 < length bytes) (whole : length bytes % idSize ≡ 0) where
     pub heard-served : (peer : ℕ) → c .peer ≡ peer → isAnnounceable typeid ≡ true
         → steps.continues st (argsOf c) (ask (c .typeid) peer (pairsIn (c .stored)) (idsIn (c .ids)) ∷ []) ≡ heard
     unfolding argsOf

@@ -18,6 +18,7 @@ ghost use Rattle.image.specs.Heads.{headOf};
 ghost use Rattle.plan.specs.Plans.{isQuiet, announceTo, numbersOf, sketchIn, sketchOf};
 ghost use Rattle.plan.specs.declared.Work.the-variants.{Nothing};
 ghost use Rattle.plan_messages.specs.Heard.{outcomeOf};
+ghost use Rattle.model.specs.Layout.{idSize};
 use crate::events::Heard;
 use image::head::Head;
 use peers::Listed;
@@ -28,7 +29,7 @@ use plan::Work;
 
 // Headers, sections and transactions use rule 3, to the sender. An empty header list gives Synced, from any peer.
 pub fn hears_announced(head: Head, call: Call, ids: &[u8], peers: &[u8], view: &[u8]) -> Plan
-    requires { ⌜ (viewFits (now view) ≡ true) × (length (now ids) % 32 ≡ 0) ⌝ }
+    requires { ⌜ (viewFits (now view) ≡ true) × (length (now ids) % idSize ≡ 0) ⌝ }
     ensures { λ r. ⌜ isQuiet (r .work) ≡ true ⌝ }
     ensures { λ r. ⌜ ((st : State) (c : calls.Call) → headOf st ≡ head → numbersOf c ≡ call → c .ids ≡ now (ids .entry) → c .peers ≡ now (peers .entry) → c .view ≡ now (view .entry) → sketchIn st c r ≡ sketchOf st c (steps.hearsAnnounced st (argsOf c) (c .peer) (c .typeid) (idsIn (c .ids)))) ⌝ }
 {

@@ -17,10 +17,10 @@ ghost use Rattle.image.specs.Heads.{headOf};
 ghost use Rattle.plan.specs.Plans.{isQuiet, stalledBy, sketchIn, sketchOf};
 use image::head::Head;
 use peers::Listed;
+use peers::stalled::Stalled;
 use plan::Plan;
 use plan::Stalling;
 use plan::Work;
-use peers::stalled::Stalled;
 
 // How selecting changes the stalled set.
 fn selecting(stalled: Stalled, peers: &[u8]) -> Stalling

@@ -8,6 +8,7 @@ ghost use Rattle.model.specs.Lists.{viewFits};
 ghost use Rattle.model.specs.Calls as calls;
 ghost use Rattle.image.specs.Heads.{headOf};
 ghost use Rattle.plan.specs.Plans.{numbersOf, Follows};
+ghost use Rattle.model.specs.Layout.{idSize};
 use image::head::Head;
 use plan::Call;
 use plan::Plan;
@@ -15,7 +16,7 @@ use plan::Work;
 
 // Announced ids, sync infos, and other messages, which do nothing.
 pub fn handle_event(head: Head, call: Call, ids: &[u8], peers: &[u8], view: &[u8]) -> Plan
-    requires { ⌜ (viewFits (now view) ≡ true) × ((length (now ids) % 32 ≡ 0) × (head .send .last ≤ call .clock)) ⌝ }
+    requires { ⌜ (viewFits (now view) ≡ true) × ((length (now ids) % idSize ≡ 0) × (head .send .last ≤ call .clock)) ⌝ }
     ensures { λ r. ⌜ ((st : State) (c : calls.Call) → headOf st ≡ head → numbersOf c ≡ call → c .ids ≡ now (ids .entry) → c .peers ≡ now (peers .entry) → c .view ≡ now (view .entry) → 5 ≤ c .kind → c .kind < 8 → Follows st c r) ⌝ }
 {
     let kind = call.kind;

@@ -11,6 +11,7 @@ ghost use Rattle.model.specs.Lists.{viewFits};
 ghost use Rattle.model.specs.Calls as calls;
 ghost use Rattle.image.specs.Heads.{headOf};
 ghost use Rattle.plan.specs.Plans.{numbersOf, Follows};
+ghost use Rattle.model.specs.Layout.{idSize};
 use image::head::Head;
 use plan::Call;
 use plan::Plan;
@@ -24,7 +25,7 @@ pub fn plan_step(
     peers: &[u8],
     view: &[u8],
 ) -> Plan
-    requires { ⌜ (viewFits (now view) ≡ true) × ((length (now ids) % 32 ≡ 0) × (length (now places) ≡ 2048)) ⌝ }
+    requires { ⌜ (viewFits (now view) ≡ true) × ((length (now ids) % idSize ≡ 0) × (length (now places) ≡ 2048)) ⌝ }
     requires { ⌜ (head .stalled ≤ 256) × ((head .send .last ≤ call .clock) × (head .progress ≤ call .clock)) ⌝ }
     ensures { λ r. ⌜ ((st : State) (c : calls.Call) → headOf st ≡ head → numbersOf c ≡ call → c .ids ≡ now (ids .entry) → c .peers ≡ now (peers .entry) → c .view ≡ now (view .entry) → st .sync .stalledPeers ≡ map fromBe (entries 8 (head .stalled) (now (places .entry))) → Follows st c r) ⌝ }
 {

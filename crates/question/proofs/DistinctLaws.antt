@@ -17,6 +17,7 @@ use Rattle.fields.proofs.EntriesLaws.{Wide}
 use Rattle.fields.proofs.OverwriteLaws.{overwritten-nil, overwritten-next, length-overwritten}
 use Rattle.model.specs.Calls.{insertedOnce, strictlyRising}
 use Rattle.question.specs.Distinct.{startsWith, distinct, repeats, pairOnce}
+use Rattle.model.specs.Layout.{pairSize}
 
 -- ---- insertion of what may be there
 
@@ -77,26 +78,26 @@ distinct-next es i h =
     go true e rest = refl
     go false e rest = refl
 
-pub length-distinct : (es : List (List ℕ)) → Wide 33 es → length (joined (distinct es)) ≤ length es * 33
+pub length-distinct : (es : List (List ℕ)) → Wide pairSize es → length (joined (distinct es)) ≤ length es * pairSize
 length-distinct [] w = omega arith
 length-distinct (e ∷ es) w = go (startsWith e es) (length-distinct es (w .1))
   where
-    go : (t : Bool) → length (joined (distinct es)) ≤ length es * 33 → length (joined (cond t (distinct es) (e ∷ distinct es))) ≤ suc (length es) * 33
+    go : (t : Bool) → length (joined (distinct es)) ≤ length es * pairSize → length (joined (cond t (distinct es) (e ∷ distinct es))) ≤ suc (length es) * pairSize
     go true h = omega arith
     go false h = rw (length-append e (joined (distinct es))) (omega (arith, w .0))
 
-length-once : (es : List (List ℕ)) (i : ℕ) → i < length es → Wide 33 es → length (pairOnce es i) ≤ 33
+length-once : (es : List (List ℕ)) (i : ℕ) → i < length es → Wide pairSize es → length (pairOnce es i) ≤ pairSize
 unfolding pairOnce
 length-once es i h w = go (repeats es i)
   where
-    go : (t : Bool) → length (cond t [] (getD es i [])) ≤ 33
+    go : (t : Bool) → length (cond t [] (getD es i [])) ≤ pairSize
     go true = omega arith
-    go false = omega (arith, all-at (λ (e : List ℕ). length e ≡ 33) es i [] h w)
+    go false = omega (arith, all-at (λ (e : List ℕ). length e ≡ pairSize) es i [] h w)
 
 -- The writer at element i: what is written, then the rest, is the whole.
 pub record Writing (es : List (List ℕ)) (d out : List ℕ) (at i : ℕ) : Type 0 where
   pub i-le : i ≤ length es
-  pub at-le : at ≤ i * 33
+  pub at-le : at ≤ i * pairSize
   pub long : length out ≡ length d
   pub to : at + length (joined (distinct (drop i es))) ≡ length (joined (distinct es))
   pub rest : overwritten at (joined (distinct (drop i es))) out ≡ overwritten 0 (joined (distinct es)) d
@@ -105,15 +106,15 @@ pub writing-starts : (es : List (List ℕ)) (d : List ℕ) → Writing es d d 0 
 writing-starts es d = record { i-le = omega arith; at-le = omega arith; long = refl; to = omega arith; rest = refl }
 
 module _ (es : List (List ℕ)) (d out : List ℕ) (at i : ℕ) (s : Writing es d out at i) where
-  pub writing-next : i < length es → Wide 33 es → length es * 33 ≤ length d → (o : List ℕ) (at′ : ℕ) → o ≡ overwritten at (pairOnce es i) out
+  pub writing-next : i < length es → Wide pairSize es → length es * pairSize ≤ length d → (o : List ℕ) (at′ : ℕ) → o ≡ overwritten at (pairOnce es i) out
       → at′ ≡ at + length (pairOnce es i) → Writing es d o at′ (i + 1)
   writing-next h w room o at′ eo ea =
       let one : List ℕ = pairOnce es i in
       let T : List ℕ = joined (distinct (drop (i + 1) es)) in
       let n : joined (distinct (drop i es)) ≡ one ++ T = distinct-next es i h in
-      let l : length one ≤ 33 = length-once es i h w in
+      let l : length one ≤ pairSize = length-once es i h w in
       let m : length (joined (distinct (drop i es))) ≡ length one + length T = ap length n ∙ length-append one T in
-      let k : length (joined (distinct es)) ≤ length es * 33 = length-distinct es w in
+      let k : length (joined (distinct es)) ≤ length es * pairSize = length-distinct es w in
       record {
         i-le = omega arith;
         at-le = omega (arith, s .at-le);

@@ -17,6 +17,7 @@ use Rattle.fields.proofs.ZeroLaws.{allZero-eq, allZero-append, zeros-at}
 use Rattle.fields.proofs.OverwriteLaws.{drop-take}
 use Rattle.fields.proofs.EntriesLaws.{length-entries, entries-add, entries-at}
 use Rattle.model.specs.Lists.{flagsFit, usedPlaces, rowFits, rowsFit}
+use Rattle.model.specs.Layout.{pairSize, placeSize, rowSize}
 
 -- ---- zeros
 
@@ -49,74 +50,74 @@ spare true false false f = refl
 
 flags-append : (xs ys : List (List ℕ)) → flagsFit (xs ++ ys) ≡ flagsFit xs && flagsFit ys
 flags-append [] ys = refl
-flags-append (x ∷ xs) ys = rw (flags-append xs ys) (sym (and-assoc (leb (getD x 33 0) 1) (flagsFit xs) (flagsFit ys)))
+flags-append (x ∷ xs) ys = rw (flags-append xs ys) (sym (and-assoc (leb (getD x pairSize 0) 1) (flagsFit xs) (flagsFit ys)))
 
-flags-zero : (n : ℕ) (bytes : List ℕ) → allZero bytes ≡ true → flagsFit (entries 34 n bytes) ≡ true
+flags-zero : (n : ℕ) (bytes : List ℕ) → allZero bytes ≡ true → flagsFit (entries placeSize n bytes) ≡ true
 flags-zero zero bytes z = refl
 flags-zero (suc n) bytes z =
-    let b : getD (take 34 bytes) 33 0 ≡ 0 = getD-take 34 bytes 33 0 (omega arith) ∙ zero-byte bytes 33 z in
-    rw (b, flags-zero n (drop 34 bytes) (zero-drop 34 bytes z))
+    let b : getD (take placeSize bytes) pairSize 0 ≡ 0 = getD-take placeSize bytes pairSize 0 (omega arith) ∙ zero-byte bytes pairSize z in
+    rw (b, flags-zero n (drop placeSize bytes) (zero-drop placeSize bytes z))
 
 -- the stored bytes of unused places need no test of their own
 pub all-places : (used : ℕ) (bytes : List ℕ) → used ≤ 3
-    → flagsFit (entries 34 3 bytes) && allZero (drop (used * 34) bytes) ≡ flagsFit (entries 34 used bytes) && allZero (drop (used * 34) bytes)
+    → flagsFit (entries placeSize 3 bytes) && allZero (drop (used * placeSize) bytes) ≡ flagsFit (entries placeSize used bytes) && allZero (drop (used * placeSize) bytes)
 all-places used bytes h =
     let s : 3 ≡ used + (3 - used) = omega arith in
-    let rest : List ℕ = drop (used * 34) bytes in
-    let e : flagsFit (entries 34 3 bytes) ≡ flagsFit (entries 34 used bytes) && flagsFit (entries 34 (3 - used) rest) =
-    ap (λ (n : ℕ). flagsFit (entries 34 n bytes)) s ∙ ap flagsFit (entries-add 34 used (3 - used) bytes) ∙ flags-append (entries 34 used bytes) (entries 34 (3 - used) rest) in
-    ap (λ (t : Bool). t && allZero rest) e ∙ spare (flagsFit (entries 34 used bytes)) (flagsFit (entries 34 (3 - used) rest)) (allZero rest) (flags-zero (3 - used) rest)
+    let rest : List ℕ = drop (used * placeSize) bytes in
+    let e : flagsFit (entries placeSize 3 bytes) ≡ flagsFit (entries placeSize used bytes) && flagsFit (entries placeSize (3 - used) rest) =
+    ap (λ (n : ℕ). flagsFit (entries placeSize n bytes)) s ∙ ap flagsFit (entries-add placeSize used (3 - used) bytes) ∙ flags-append (entries placeSize used bytes) (entries placeSize (3 - used) rest) in
+    ap (λ (t : Bool). t && allZero rest) e ∙ spare (flagsFit (entries placeSize used bytes)) (flagsFit (entries placeSize (3 - used) rest)) (allZero rest) (flags-zero (3 - used) rest)
 
 -- where a row's stored bytes stand
-three-flags : (row : List ℕ) → flagsFit (entries 34 3 (drop 1 row)) ≡ leb (getD row 34 0) 1 && (leb (getD row 68 0) 1 && leb (getD row 102 0) 1)
+three-flags : (row : List ℕ) → flagsFit (entries placeSize 3 (drop 1 row)) ≡ leb (getD row placeSize 0) 1 && (leb (getD row 68 0) 1 && leb (getD row 102 0) 1)
 three-flags row =
     let places : List ℕ = drop 1 row in
-    let a : getD (take 34 places) 33 0 ≡ getD row 34 0 = getD-take 34 places 33 0 (omega arith) ∙ getD-drop 1 row 33 0 in
-    let b : getD (take 34 (drop 34 places)) 33 0 ≡ getD row 68 0 = getD-take 34 (drop 34 places) 33 0 (omega arith) ∙ getD-drop 34 places 33 0 ∙ getD-drop 1 row 67 0 in
-    let c : getD (take 34 (drop 34 (drop 34 places))) 33 0 ≡ getD row 102 0 =
-    getD-take 34 (drop 34 (drop 34 places)) 33 0 (omega arith) ∙ getD-drop 34 (drop 34 places) 33 0 ∙ getD-drop 34 places 67 0 ∙ getD-drop 1 row 101 0 in
+    let a : getD (take placeSize places) pairSize 0 ≡ getD row placeSize 0 = getD-take placeSize places pairSize 0 (omega arith) ∙ getD-drop 1 row pairSize 0 in
+    let b : getD (take placeSize (drop placeSize places)) pairSize 0 ≡ getD row 68 0 = getD-take placeSize (drop placeSize places) pairSize 0 (omega arith) ∙ getD-drop placeSize places pairSize 0 ∙ getD-drop 1 row 67 0 in
+    let c : getD (take placeSize (drop placeSize (drop placeSize places))) pairSize 0 ≡ getD row 102 0 =
+    getD-take placeSize (drop placeSize (drop placeSize places)) pairSize 0 (omega arith) ∙ getD-drop placeSize (drop placeSize places) pairSize 0 ∙ getD-drop placeSize places 67 0 ∙ getD-drop 1 row 101 0 in
     rw (a, b, c, and-true (leb (getD row 102 0) 1))
 
 -- ---- a row
 
-module _ (i : ℕ) (rows : List ℕ) (used : ℕ) (counted : used ≡ cond (eqb (getD rows (i * 103) 0) 255) 0 (getD rows (i * 103) 0)) where
-  used-row : usedPlaces (entry 103 i rows) ≡ used
+module _ (i : ℕ) (rows : List ℕ) (used : ℕ) (counted : used ≡ cond (eqb (getD rows (i * rowSize) 0) 255) 0 (getD rows (i * rowSize) 0)) where
+  used-row : usedPlaces (entry rowSize i rows) ≡ used
   unfolding usedPlaces
   used-row =
-      let b : getD (entry 103 i rows) 0 0 ≡ getD rows (i * 103) 0 = entry-byte 103 i 0 rows (omega arith) ∙ rw add-zero in
+      let b : getD (entry rowSize i rows) 0 0 ≡ getD rows (i * rowSize) 0 = entry-byte rowSize i 0 rows (omega arith) ∙ rw add-zero in
       rw (b, counted)
 
-  pub row-refused : 3 < used → false ≡ rowFits (entry 103 i rows)
+  pub row-refused : 3 < used → false ≡ rowFits (entry rowSize i rows)
   unfolding rowFits
   row-refused h = rw (used-row, lt-leb used 3 h)
 
   pub row-read : (unused : Bool) → used ≤ 3
-      → unused ≡ allZero (take (i * 103 + 103 - (i * 103 + (1 + used * 34))) (drop (i * 103 + (1 + used * 34)) rows))
-      → (leb (getD rows (i * 103 + 34) 0) 1 && (leb (getD rows (i * 103 + 68) 0) 1 && leb (getD rows (i * 103 + 102) 0) 1)) && unused ≡ rowFits (entry 103 i rows)
+      → unused ≡ allZero (take (i * rowSize + rowSize - (i * rowSize + (1 + used * placeSize))) (drop (i * rowSize + (1 + used * placeSize)) rows))
+      → (leb (getD rows (i * rowSize + placeSize) 0) 1 && (leb (getD rows (i * rowSize + 68) 0) 1 && leb (getD rows (i * rowSize + 102) 0) 1)) && unused ≡ rowFits (entry rowSize i rows)
   unfolding rowFits
   row-read unused h z =
-      let row : List ℕ = entry 103 i rows in
-      let size : i * 103 + 103 - (i * 103 + (1 + used * 34)) ≡ 103 - (1 + used * 34) = omega arith in
-      let tail : unused ≡ allZero (drop (used * 34) (drop 1 row)) = z ∙ rw (size, drop-drop (used * 34) 1 row, entry-drop 103 i (1 + used * 34) rows (omega arith)) in
-      let flags : leb (getD rows (i * 103 + 34) 0) 1 && (leb (getD rows (i * 103 + 68) 0) 1 && leb (getD rows (i * 103 + 102) 0) 1) ≡ flagsFit (entries 34 3 (drop 1 row)) =
-      sym (three-flags row ∙ rw (entry-byte 103 i 34 rows (omega arith), entry-byte 103 i 68 rows (omega arith), entry-byte 103 i 102 rows (omega arith))) in
-      rw (tail, flags, used-row, le-leb used 3 h, ← drop-drop (used * 34) 1 row) (all-places used (drop 1 row) h)
+      let row : List ℕ = entry rowSize i rows in
+      let size : i * rowSize + rowSize - (i * rowSize + (1 + used * placeSize)) ≡ rowSize - (1 + used * placeSize) = omega arith in
+      let tail : unused ≡ allZero (drop (used * placeSize) (drop 1 row)) = z ∙ rw (size, drop-drop (used * placeSize) 1 row, entry-drop rowSize i (1 + used * placeSize) rows (omega arith)) in
+      let flags : leb (getD rows (i * rowSize + placeSize) 0) 1 && (leb (getD rows (i * rowSize + 68) 0) 1 && leb (getD rows (i * rowSize + 102) 0) 1) ≡ flagsFit (entries placeSize 3 (drop 1 row)) =
+      sym (three-flags row ∙ rw (entry-byte rowSize i placeSize rows (omega arith), entry-byte rowSize i 68 rows (omega arith), entry-byte rowSize i 102 rows (omega arith))) in
+      rw (tail, flags, used-row, le-leb used 3 h, ← drop-drop (used * placeSize) 1 row) (all-places used (drop 1 row) h)
 
 -- ---- all rows
 
-module _ (count i : ℕ) (rows : List ℕ) (h : i < count) (answer : Bool) (asked : answer ≡ rowFits (entry 103 i rows)) where
-  rows-next : rowsFit (drop i (entries 103 count rows)) ≡ answer && rowsFit (drop (i + 1) (entries 103 count rows))
+module _ (count i : ℕ) (rows : List ℕ) (h : i < count) (answer : Bool) (asked : answer ≡ rowFits (entry rowSize i rows)) where
+  rows-next : rowsFit (drop i (entries rowSize count rows)) ≡ answer && rowsFit (drop (i + 1) (entries rowSize count rows))
   rows-next =
-      let es : List (List ℕ) = entries 103 count rows in
-      let l : i < length es = rw (length-entries 103 count rows) h in
-      rw (add-one, drop-cons es i [] l, entries-at 103 count i rows h, asked)
+      let es : List (List ℕ) = entries rowSize count rows in
+      let l : i < length es = rw (length-entries rowSize count rows) h in
+      rw (add-one, drop-cons es i [] l, entries-at rowSize count i rows h, asked)
 
-  pub rows-break : rowsFit (entries 103 count rows) ≡ rowsFit (drop i (entries 103 count rows)) → not answer ≡ true → false ≡ rowsFit (entries 103 count rows)
+  pub rows-break : rowsFit (entries rowSize count rows) ≡ rowsFit (drop i (entries rowSize count rows)) → not answer ≡ true → false ≡ rowsFit (entries rowSize count rows)
   rows-break so-far t = sym (so-far ∙ rows-next ∙ rw (not-true answer t))
 
-  pub rows-go-on : rowsFit (entries 103 count rows) ≡ rowsFit (drop i (entries 103 count rows)) → not answer ≡ false
-      → rowsFit (entries 103 count rows) ≡ rowsFit (drop (i + 1) (entries 103 count rows))
+  pub rows-go-on : rowsFit (entries rowSize count rows) ≡ rowsFit (drop i (entries rowSize count rows)) → not answer ≡ false
+      → rowsFit (entries rowSize count rows) ≡ rowsFit (drop (i + 1) (entries rowSize count rows))
   rows-go-on so-far t = so-far ∙ rows-next ∙ rw (not-false answer t)
 
-pub rows-end : (count i : ℕ) (rows : List ℕ) → count ≤ i → rowsFit (drop i (entries 103 count rows)) ≡ true
-rows-end count i rows h = rw (drop-of-length-le (entries 103 count rows) {i = i} (rw (length-entries 103 count rows) h))
+pub rows-end : (count i : ℕ) (rows : List ℕ) → count ≤ i → rowsFit (drop i (entries rowSize count rows)) ≡ true
+rows-end count i rows h = rw (drop-of-length-le (entries rowSize count rows) {i = i} (rw (length-entries rowSize count rows) h))

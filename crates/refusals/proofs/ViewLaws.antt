@@ -10,6 +10,7 @@ use lib.Seq.{take-all}
 use borrow.Author.Tests.{lt-leb, le-leb}
 use Rattle.fields.specs.Entries.{entries}
 use Rattle.model.specs.Lists.{firstHeight, rowCount, rowsFit, viewFits}
+use Rattle.model.specs.Layout.{rowSize}
 
 module _ (view : List ℕ) where
   pub view-short : length view < 4 → false ≡ viewFits view
@@ -18,18 +19,18 @@ module _ (view : List ℕ) where
 
   -- lengths and heights first, then the rows
   view-parts : 4 ≤ length view
-      → viewFits view ≡ (eqb ((length view - 4) % 103) 0 && leb (firstHeight view + (length view - 4) / 103) 4294967296) && rowsFit (entries 103 ((length view - 4) / 103) (drop 4 view))
+      → viewFits view ≡ (eqb ((length view - 4) % rowSize) 0 && leb (firstHeight view + (length view - 4) / rowSize) 4294967296) && rowsFit (entries rowSize ((length view - 4) / rowSize) (drop 4 view))
   unfolding viewFits rowCount
   view-parts h =
       rw (le-leb 4 (length view) h)
-      (sym (and-assoc (eqb ((length view - 4) % 103) 0) (leb (firstHeight view + (length view - 4) / 103) 4294967296) (rowsFit (entries 103 ((length view - 4) / 103) (drop 4 view)))))
+      (sym (and-assoc (eqb ((length view - 4) % rowSize) 0) (leb (firstHeight view + (length view - 4) / rowSize) 4294967296) (rowsFit (entries rowSize ((length view - 4) / rowSize) (drop 4 view)))))
 
   module _ (first : ℕ) (long : 4 ≤ length view) (read : first ≡ firstHeight view) where
-    pub view-refused : eqb ((length view - 4) % 103) 0 && leb (first + (length view - 4) / 103) 4294967296 ≡ false → false ≡ viewFits view
+    pub view-refused : eqb ((length view - 4) % rowSize) 0 && leb (first + (length view - 4) / rowSize) 4294967296 ≡ false → false ≡ viewFits view
     view-refused t = sym (view-parts long ∙ rw (← read, t))
 
-    pub view-rows : (rows : Bool) → eqb ((length view - 4) % 103) 0 && leb (first + (length view - 4) / 103) 4294967296 ≡ true
-        → rows ≡ rowsFit (entries 103 ((length view - 4) / 103) (take (length view - 4) (drop 4 view)))
+    pub view-rows : (rows : Bool) → eqb ((length view - 4) % rowSize) 0 && leb (first + (length view - 4) / rowSize) 4294967296 ≡ true
+        → rows ≡ rowsFit (entries rowSize ((length view - 4) / rowSize) (take (length view - 4) (drop 4 view)))
         → rows ≡ viewFits view
     view-rows rows t e =
         let all : take (length view - 4) (drop 4 view) ≡ drop 4 view = take-all (length view - 4) (drop 4 view) (rw (length-drop 4 view) (omega arith)) in

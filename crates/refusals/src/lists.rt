@@ -8,6 +8,8 @@ ghost use Prim.Native.Nat.{_*_, _^_, _<_};
 ghost use lib.Dec.{eqb};
 ghost use lib.ListN.{length};
 ghost use Rattle.model.specs.Lists.{listFits, idsFit, continuationFits, pairsFit, peersFit};
+use model::layout::ID_SIZE;
+use model::layout::PAIR_SIZE;
 
 // Whole entries, at most so many.
 fn list_fits(list: &[u8], size: usize, most: usize) -> bool
@@ -33,10 +35,10 @@ pub fn pairs_fit(stored: &[u8]) -> bool
     ensures { λ r. ⌜ r ≡ pairsFit (now (stored .entry)) ⌝ }
 {
     // A long list is refused unread.
-    if !list_fits(stored, 33, 1024) {
+    if !list_fits(stored, PAIR_SIZE, 1024) {
         return false;
     }
-    keys::rising::is_rising(stored, 33, stored.len() / 33, 33)
+    keys::rising::is_rising(stored, PAIR_SIZE, stored.len() / PAIR_SIZE, PAIR_SIZE)
 }
 
 pub fn peers_fit(peers: &[u8]) -> bool
@@ -49,6 +51,6 @@ pub fn peers_fit(peers: &[u8]) -> bool
 pub fn lists_fit(kind: u8, ids: &[u8], continuation: &[u8], stored: &[u8]) -> bool
     ensures { λ r. ⌜ r ≡ (idsFit (now (ids .entry)) && (not (eqb kind 3) || eqb (length (now (ids .entry))) 32)) && (continuationFits (now (continuation .entry)) && pairsFit (now (stored .entry))) ⌝ }
 {
-    let one = (kind != 3) | (ids.len() == 32);
+    let one = (kind != 3) | (ids.len() == ID_SIZE);
     (ids_fit(ids) & one) & (continuation_fits(continuation) & pairs_fit(stored))
 }

@@ -8,6 +8,9 @@ ghost use lib.Dec.{eqb};
 ghost use lib.ListN.{length};
 ghost use Rattle.fields.specs.Entries.{entries, entry};
 ghost use Rattle.model.specs.Lists.{rowFits, rowsFit, viewFits};
+ghost use Rattle.model.specs.Layout.{rowSize};
+use model::layout::PLACE_SIZE;
+use model::layout::ROW_SIZE;
 
 // How many places a row's count says are used.
 fn used_places(count: u8) -> usize
@@ -21,25 +24,25 @@ fn used_places(count: u8) -> usize
 
 // Row i. Its unused stored bytes are among what must be zero, so all three are tested, whatever the count.
 fn row_fits(rows: &[u8], i: usize) -> bool
-    requires { ⌜ i * 103 + 103 ≤ length (now rows) ⌝ }
-    ensures { λ r. ⌜ r ≡ rowFits (entry 103 i (now (rows .entry))) ⌝ }
+    requires { ⌜ i * rowSize + rowSize ≤ length (now rows) ⌝ }
+    ensures { λ r. ⌜ r ≡ rowFits (entry rowSize i (now (rows .entry))) ⌝ }
 {
-    let at = i * 103;
+    let at = i * ROW_SIZE;
     let used = used_places(rows[at]);
     // The places lie within the row only where the count fits.
     if 3 < used {
         return false;
     }
-    let flags = (rows[at + 34] <= 1) & ((rows[at + 68] <= 1) & (rows[at + 102] <= 1));
-    let unused = at + (1 + used * 34);
-    let end = at + 103;
+    let flags = (rows[at + PLACE_SIZE] <= 1) & ((rows[at + 68] <= 1) & (rows[at + 102] <= 1));
+    let unused = at + (1 + used * PLACE_SIZE);
+    let end = at + ROW_SIZE;
     flags & spans::copying::is_zero(&rows[unused..end])
 }
 
 // All rows, in one pass that ends at the first that does not fit.
 fn rows_fit(rows: &[u8], count: usize) -> bool
-    requires { ⌜ count * 103 ≤ length (now rows) ⌝ }
-    ensures { λ r. ⌜ r ≡ rowsFit (entries 103 count (now (rows .entry))) ⌝ }
+    requires { ⌜ count * rowSize ≤ length (now rows) ⌝ }
+    ensures { λ r. ⌜ r ≡ rowsFit (entries rowSize count (now (rows .entry))) ⌝ }
 {
     let mut i = 0;
     while i < count {
@@ -58,9 +61,9 @@ pub fn view_fits(view: &[u8]) -> bool
         return false;
     }
     let size = view.len() - 4;
-    let count = size / 103;
+    let count = size / ROW_SIZE;
     let first = fields::read_u32(view, 0) as u64;
-    let sizes = (size % 103 == 0) & (first + (count as u64) <= 4294967296);
+    let sizes = (size % ROW_SIZE == 0) & (first + (count as u64) <= 4294967296);
     if !sizes {
         return false;
     }

@@ -17,7 +17,6 @@ use replay_text::line_words::PUT_WORD;
 use replay_text::line_words::STATE_SIGN;
 use replay_text::words::Words;
 
-
 // A line before a call: what it is lent.
 fn give(
     memory: &mut [u8],
@@ -75,7 +74,13 @@ pub fn take(memory: &mut [u8], head: u64, line: &[u8], replay: Replay) -> Replay
 {
     let mut numbers = [0u64; 17];
     let mut bytes = replay_text::areas::blank();
-    let words = replay_text::line_words::words_of(head, replay.kind, line, &mut numbers, &mut bytes);
+    let words = replay_text::line_words::words_of(
+        head,
+        replay.kind,
+        line,
+        &mut numbers,
+        &mut bytes,
+    );
     if !words.ok {
         return differs(replay, FORM, 0);
     }

@@ -1,11 +1,11 @@
 // The calls of the core that a line asks for.
 ghost use Prim.Native.Nat.{_≤_};
 ghost use lib.ListN.{length};
-use replay_text::numbers;
-use step::finish::Answer;
 use replay_text::line_words::ASKING;
 use replay_text::line_words::OPENING;
+use replay_text::numbers;
 use replay_text::words::Words;
+use step::finish::Answer;
 
 fn step(
     state: &mut [u8],

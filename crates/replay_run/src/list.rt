@@ -2,8 +2,8 @@
 ghost use mathlib.Core.Path.{_≡_};
 ghost use Prim.Native.Nat.{_≤_};
 ghost use lib.ListN.{length};
-use replay_text::line_words::NO_CALL;
 use replay_expect::listing::Listing;
+use replay_text::line_words::NO_CALL;
 
 fn take(memory: &mut [u8], line: &[u8], listing: Listing) -> Listing
     requires { ⌜ 655360 ≤ length (now memory) ⌝ }

@@ -35,6 +35,7 @@ use Rattle.request_announced.specs.ByType.{pairItem, asksByType, asksOf}
 use Rattle.request_announced.proofs.RequestedLaws.{all-ids}
 use Rattle.request_announced.proofs.PlacesLaws.{ids-wide, length-ids}
 use Rattle.request_announced.proofs.FrontLaws.{all-within}
+use Rattle.model.specs.Layout.{idSize, pairSize}
 
 -- ---- the first run of some pairs
 
@@ -77,67 +78,67 @@ type-within typeId (pair ∷ pairs) = go (eqb (getD pair 0 0) typeId) (type-with
 
 -- ---- the run at place i, by the bytes of the ids
 
-whole-ids : (n : ℕ) → (n * 32) % 32 ≡ 0
+whole-ids : (n : ℕ) → (n * idSize) % idSize ≡ 0
 whole-ids n = omega arith
 
-whole-rest : (n i : ℕ) → (n * 32 - i * 32) % 32 ≡ 0
+whole-rest : (n i : ℕ) → (n * idSize - i * idSize) % idSize ≡ 0
 whole-rest n i = omega arith
 
 module _ (peer : ℕ) (stored : List Pair) (pairs places ids : List ℕ) (w : All (Within pairs) places) (e : ids ≡ joined (idsAt pairs places)) where
-  pub gathered-long : length ids ≡ length places * 32
+  pub gathered-long : length ids ≡ length places * idSize
   gathered-long = ap length e ∙ length-ids pairs places w
 
   module _ (i end typeId : ℕ) (h : i < length places) (et : typeId ≡ typeAt pairs (getD places i 0))
       (ee : end ≡ i + suc (ofType (typeAt pairs (getD places i 0)) (pairsAt pairs (drop (i + 1) places)))) where
     pub run-within : (i < end) × (end ≤ length places)
     run-within =
-        let l : length (pairsAt pairs (drop (i + 1) places)) ≡ length (drop (i + 1) places) = length-map (drop (i + 1) places) (λ (place : ℕ). entry 33 place pairs) in
+        let l : length (pairsAt pairs (drop (i + 1) places)) ≡ length (drop (i + 1) places) = length-map (drop (i + 1) places) (λ (place : ℕ). entry pairSize place pairs) in
         let d : length (drop (i + 1) places) ≡ length places - (i + 1) = length-drop (i + 1) places in
         let t = type-within (typeAt pairs (getD places i 0)) (pairsAt pairs (drop (i + 1) places)) in
         (omega arith, omega arith)
 
-    pub run-long : length (take (end * 32 - i * 32) (drop (i * 32) ids)) ≡ end * 32 - i * 32
+    pub run-long : length (take (end * idSize - i * idSize) (drop (i * idSize) ids)) ≡ end * idSize - i * idSize
     run-long =
         let r = run-within in
-        length-take-le (end * 32 - i * 32) (drop (i * 32) ids) (rw (length-drop (i * 32) ids) (omega (arith, gathered-long, r .0, r .1)))
+        length-take-le (end * idSize - i * idSize) (drop (i * idSize) ids) (rw (length-drop (i * idSize) ids) (omega (arith, gathered-long, r .0, r .1)))
 
     pub run-asked : asksOf peer stored (pairsAt pairs (drop i places))
-        ≡ ask typeId peer stored (idsIn (take (end * 32 - i * 32) (drop (i * 32) ids))) ∷ asksOf peer stored (pairsAt pairs (drop end places))
+        ≡ ask typeId peer stored (idsIn (take (end * idSize - i * idSize) (drop (i * idSize) ids))) ∷ asksOf peer stored (pairsAt pairs (drop end places))
     unfolding typeAt
     run-asked =
-        let x : List ℕ = entry 33 (getD places i 0) pairs in
+        let x : List ℕ = entry pairSize (getD places i 0) pairs in
         let xs : List (List ℕ) = pairsAt pairs (drop (i + 1) places) in
         let k : ℕ = suc (ofType (getD x 0 0) xs) in
-        let here : pairsAt pairs (drop i places) ≡ x ∷ xs = next-mapped (λ (place : ℕ). entry 33 place pairs) places i h in
-        let m : end * 32 - i * 32 ≡ k * 32 = omega arith in
-        let l : length ids ≡ length places * 32 = gathered-long in
-        let l′ : length (drop (i * 32) ids) ≡ length ids - i * 32 = length-drop (i * 32) ids in
-        let v : length (drop (i * 32) ids) % 32 ≡ 0 = rw (l′, l) (whole-rest (length places) i) in
+        let here : pairsAt pairs (drop i places) ≡ x ∷ xs = next-mapped (λ (place : ℕ). entry pairSize place pairs) places i h in
+        let m : end * idSize - i * idSize ≡ k * idSize = omega arith in
+        let l : length ids ≡ length places * idSize = gathered-long in
+        let l′ : length (drop (i * idSize) ids) ≡ length ids - i * idSize = length-drop (i * idSize) ids in
+        let v : length (drop (i * idSize) ids) % idSize ≡ 0 = rw (l′, l) (whole-rest (length places) i) in
         let a : idsIn ids ≡ idsAt pairs places = rw e (all-ids (idsAt pairs places) (ids-wide pairs places w)) in
         let b : drop i (idsAt pairs places) ≡ map (drop 1) (x ∷ xs) =
-        drop-map (λ (place : ℕ). drop 1 (entry 33 place pairs)) i places ∙ map-both (drop i places) ∙ ap (map (drop 1)) here in
-        let c : idsIn (take (k * 32) (drop (i * 32) ids)) ≡ drop 1 x ∷ map (drop 1) (take (ofType (getD x 0 0) xs) xs) =
-        sym (take-ids k (drop (i * 32) ids) v) ∙ ap (take k) (sym (drop-ids i ids (rw l (whole-ids (length places)))) ∙ ap (drop i) a ∙ b) ∙ take-map (drop 1) k (x ∷ xs) in
+        drop-map (λ (place : ℕ). drop 1 (entry pairSize place pairs)) i places ∙ map-both (drop i places) ∙ ap (map (drop 1)) here in
+        let c : idsIn (take (k * idSize) (drop (i * idSize) ids)) ≡ drop 1 x ∷ map (drop 1) (take (ofType (getD x 0 0) xs) xs) =
+        sym (take-ids k (drop (i * idSize) ids) v) ∙ ap (take k) (sym (drop-ids i ids (rw l (whole-ids (length places)))) ∙ ap (drop i) a ∙ b) ∙ take-map (drop 1) k (x ∷ xs) in
         let q : drop end places ≡ drop (ofType (getD x 0 0) xs) (drop (i + 1) places) =
         let n : end ≡ (i + 1) + ofType (getD x 0 0) xs = omega arith in
         rw n (sym (drop-drop (ofType (getD x 0 0) xs) (i + 1) places)) in
         let p : pairsAt pairs (drop end places) ≡ drop (ofType (getD x 0 0) xs) xs =
-        ap (pairsAt pairs) q ∙ sym (drop-map (λ (place : ℕ). entry 33 place pairs) (ofType (getD x 0 0) xs) (drop (i + 1) places)) in
+        ap (pairsAt pairs) q ∙ sym (drop-map (λ (place : ℕ). entry pairSize place pairs) (ofType (getD x 0 0) xs) (drop (i + 1) places)) in
         rw (here, asks-turn peer stored x xs, m, c, p, et)
       where
-        map-both : (ps : List ℕ) → map (λ (place : ℕ). drop 1 (entry 33 place pairs)) ps ≡ map (drop 1) (pairsAt pairs ps)
+        map-both : (ps : List ℕ) → map (λ (place : ℕ). drop 1 (entry pairSize place pairs)) ps ≡ map (drop 1) (pairsAt pairs ps)
         map-both [] = refl
-        map-both (p ∷ ps) = ap (λ (r : List (List ℕ)). drop 1 (entry 33 p pairs) ∷ r) (map-both ps)
+        map-both (p ∷ ps) = ap (λ (r : List (List ℕ)). drop 1 (entry pairSize p pairs) ∷ r) (map-both ps)
 
 -- ---- sorted by type
 
 module _ (peer : ℕ) (pairs : List ℕ) where
-  key-is : (place : ℕ) → Within pairs place → keyAt 33 0 1 pairs place ≡ typeAt pairs place ∷ []
+  key-is : (place : ℕ) → Within pairs place → keyAt pairSize 0 1 pairs place ≡ typeAt pairs place ∷ []
   unfolding keyAt typeAt
-  key-is place h = rw (le-leb (place * 33 + 33) (length pairs) h) (front (entry 33 place pairs) (length-entry 33 place pairs h))
+  key-is place h = rw (le-leb (place * pairSize + pairSize) (length pairs) h) (front (entry pairSize place pairs) (length-entry pairSize place pairs h))
     where
-      front : (e : List ℕ) → length e ≡ 33 → take 1 e ≡ getD e 0 0 ∷ []
-      front [] l = let z : _≡_ {A = ℕ} 0 33 = l in absurd (lt-irrefl 0 (omega arith))
+      front : (e : List ℕ) → length e ≡ pairSize → take 1 e ≡ getD e 0 0 ∷ []
+      front [] l = let z : _≡_ {A = ℕ} 0 pairSize = l in absurd (lt-irrefl 0 (omega arith))
       front (b ∷ e) l = refl
 
   one-before : (a b : ℕ) → before (a ∷ []) (b ∷ []) ≡ ltb peer peer || (eqb peer peer && ltb a b)
@@ -149,51 +150,51 @@ module _ (peer : ℕ) (pairs : List ℕ) where
       go false true = refl
       go false false = refl
 
-  keys-agree : (p q : ℕ) → Within pairs p → Within pairs q → keyBelow 33 0 1 pairs p q ≡ itemBelow (pairItem peer (entry 33 p pairs)) (pairItem peer (entry 33 q pairs))
+  keys-agree : (p q : ℕ) → Within pairs p → Within pairs q → keyBelow pairSize 0 1 pairs p q ≡ itemBelow (pairItem peer (entry pairSize p pairs)) (pairItem peer (entry pairSize q pairs))
   unfolding keyBelow itemBelow typeAt
   keys-agree p q hp hq = rw (key-is p hp, key-is q hq) (one-before (typeAt pairs p) (typeAt pairs q))
 
-  map-items : (ps : List ℕ) → map (λ (place : ℕ). pairItem peer (entry 33 place pairs)) ps ≡ map (pairItem peer) (pairsAt pairs ps)
+  map-items : (ps : List ℕ) → map (λ (place : ℕ). pairItem peer (entry pairSize place pairs)) ps ≡ map (pairItem peer) (pairsAt pairs ps)
   map-items [] = refl
-  map-items (p ∷ ps) = ap (λ (r : List Item). pairItem peer (entry 33 p pairs) ∷ r) (map-items ps)
+  map-items (p ∷ ps) = ap (λ (r : List Item). pairItem peer (entry pairSize p pairs) ∷ r) (map-items ps)
 
-  items-sorted : map (pairItem peer) (pairsAt pairs (placesByType pairs)) ≡ sorted itemBelow (map (pairItem peer) (entriesOf 33 pairs))
+  items-sorted : map (pairItem peer) (pairsAt pairs (placesByType pairs)) ≡ sorted itemBelow (map (pairItem peer) (entriesOf pairSize pairs))
   unfolding placesByType
   items-sorted =
-      let u : pairsAt pairs (numbersFrom 0 (length pairs / 33)) ≡ entriesOf 33 pairs = numbered-entries 33 pairs 0 (length pairs / 33) in
+      let u : pairsAt pairs (numbersFrom 0 (length pairs / pairSize)) ≡ entriesOf pairSize pairs = numbered-entries pairSize pairs 0 (length pairs / pairSize) in
       sym (map-items (placesByType pairs))
-      ∙ map-sorted (keyBelow 33 0 1 pairs) itemBelow (λ (place : ℕ). pairItem peer (entry 33 place pairs)) (Within pairs) keys-agree (numbersFrom 0 (length pairs / 33)) (all-within pairs)
-      ∙ ap (sorted itemBelow) (map-items (numbersFrom 0 (length pairs / 33)) ∙ ap (map (pairItem peer)) u)
+      ∙ map-sorted (keyBelow pairSize 0 1 pairs) itemBelow (λ (place : ℕ). pairItem peer (entry pairSize place pairs)) (Within pairs) keys-agree (numbersFrom 0 (length pairs / pairSize)) (all-within pairs)
+      ∙ ap (sorted itemBelow) (map-items (numbersFrom 0 (length pairs / pairSize)) ∙ ap (map (pairItem peer)) u)
 
-  pub asks-of-places : (stored : List Pair) → asksOf peer stored (pairsAt pairs (placesByType pairs)) ≡ asksByType peer stored (entriesOf 33 pairs)
+  pub asks-of-places : (stored : List Pair) → asksOf peer stored (pairsAt pairs (placesByType pairs)) ≡ asksByType peer stored (entriesOf pairSize pairs)
   unfolding asksOf asksByType batchesOf
   asks-of-places stored = rw items-sorted
 
 -- ---- what all asks come to
 
 module _ (peer : ℕ) (stored : List Pair) (pairs : List ℕ) where
-  pub asks-weight : total actWeight (asksByType peer stored (entriesOf 33 pairs)) ≡ 48 * (length pairs / 33)
+  pub asks-weight : total actWeight (asksByType peer stored (entriesOf pairSize pairs)) ≡ 48 * (length pairs / pairSize)
   unfolding asksByType
   asks-weight =
-      let l : length (map (pairItem peer) (entriesOf 33 pairs)) ≡ length pairs / 33 = length-map (entriesOf 33 pairs) (pairItem peer) ∙ length-entries 33 (length pairs / 33) pairs in
-      batches-weight (λ (b : Batch). ask (b .typeId) (b .peer) stored (b .ids)) (λ b. refl) (map (pairItem peer) (entriesOf 33 pairs)) ∙ rw l
+      let l : length (map (pairItem peer) (entriesOf pairSize pairs)) ≡ length pairs / pairSize = length-map (entriesOf pairSize pairs) (pairItem peer) ∙ length-entries pairSize (length pairs / pairSize) pairs in
+      batches-weight (λ (b : Batch). ask (b .typeId) (b .peer) stored (b .ids)) (λ b. refl) (map (pairItem peer) (entriesOf pairSize pairs)) ∙ rw l
 
-  pub asks-count : length (asksByType peer stored (entriesOf 33 pairs)) ≤ length pairs / 33
+  pub asks-count : length (asksByType peer stored (entriesOf pairSize pairs)) ≤ length pairs / pairSize
   unfolding asksByType
   asks-count =
-      let l : length (map (pairItem peer) (entriesOf 33 pairs)) ≡ length pairs / 33 = length-map (entriesOf 33 pairs) (pairItem peer) ∙ length-entries 33 (length pairs / 33) pairs in
-      let a = length-map (batchesOf (map (pairItem peer) (entriesOf 33 pairs))) (λ (b : Batch). ask (b .typeId) (b .peer) stored (b .ids)) in
-      let b = batches-count (map (pairItem peer) (entriesOf 33 pairs)) in
+      let l : length (map (pairItem peer) (entriesOf pairSize pairs)) ≡ length pairs / pairSize = length-map (entriesOf pairSize pairs) (pairItem peer) ∙ length-entries pairSize (length pairs / pairSize) pairs in
+      let a = length-map (batchesOf (map (pairItem peer) (entriesOf pairSize pairs))) (λ (b : Batch). ask (b .typeId) (b .peer) stored (b .ids)) in
+      let b = batches-count (map (pairItem peer) (entriesOf pairSize pairs)) in
       omega arith
 
-  pub asks-well : peer < 2 ^ 64 → Bytes pairs → All WellAct (asksByType peer stored (entriesOf 33 pairs))
+  pub asks-well : peer < 2 ^ 64 → Bytes pairs → All WellAct (asksByType peer stored (entriesOf pairSize pairs))
   unfolding asksByType
   asks-well hp f =
-      all-map WellBatch WellAct (λ (b : Batch). ask (b .typeId) (b .peer) stored (b .ids)) (λ b p. p) (batchesOf (map (pairItem peer) (entriesOf 33 pairs)))
-      (batches-well (map (pairItem peer) (entriesOf 33 pairs))
-      (all-map (λ (e : List ℕ). (length e ≡ 33) × Bytes e) WellItem (pairItem peer)
+      all-map WellBatch WellAct (λ (b : Batch). ask (b .typeId) (b .peer) stored (b .ids)) (λ b p. p) (batchesOf (map (pairItem peer) (entriesOf pairSize pairs)))
+      (batches-well (map (pairItem peer) (entriesOf pairSize pairs))
+      (all-map (λ (e : List ℕ). (length e ≡ pairSize) × Bytes e) WellItem (pairItem peer)
       (λ e p.
-      let l : length e ≡ 33 = p .0 in
+      let l : length e ≡ pairSize = p .0 in
       let b : getD e 0 0 < 256 = p .1 0 in
       record { id = record { long = length-drop 1 e ∙ rw l; bytes = bytes-drop 1 e (p .1) }; typeId = omega arith; peer = hp })
-      (entriesOf 33 pairs) (entries-all 33 (length pairs / 33) pairs (omega arith) f)))
+      (entriesOf pairSize pairs) (entries-all pairSize (length pairs / pairSize) pairs (omega arith) f)))

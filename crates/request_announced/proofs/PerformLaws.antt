@@ -34,6 +34,7 @@ use Rattle.request_announced.specs.Requested.{requestedAs, sentWithin}
 use Rattle.request_announced.specs.declared.request.Requested.the-variants.{Done, Full}
 use Rattle.request_announced.specs.declared.request.Written.{Written}
 use Rattle.request_announced.proofs.RequestedLaws.{few-requested, few-sent}
+use Rattle.model.specs.Layout.{idSize, recordSize}
 
 -- ---- what an answer says
 
@@ -121,12 +122,12 @@ pub record Performing (gate : Bool) (clock most count at batch : ℕ) (acts : Li
   pub sent : overwritten place (sentBytes number (performAll gate clock left (requestsIn held t) .sendings)) o ≡ overwritten at (sentBytes batch (performAll gate clock acts (requestsIn count d) .sendings)) e
 
 module _ (gate : Bool) (clock most count at batch : ℕ) (acts : List Act) (d e : List ℕ) where
-  pub perform-starts : count ≤ most → most * 54 ≤ length d → Bytes d → rising 32 (entries 54 count d) ≡ true → All WellAct acts → at + total actWeight acts ≤ length e → batch + length acts < 65535
+  pub perform-starts : count ≤ most → most * recordSize ≤ length d → Bytes d → rising idSize (entries recordSize count d) ≡ true → All WellAct acts → at + total actWeight acts ≤ length e → batch + length acts < 65535
       → Performing gate clock most count at batch acts d e acts d e count at batch
   perform-starts le fits f r w room n =
       record {
         few = le;
-        grown = not-grown count d (omega (arith, mul-le-mul-right 54 le)) f r;
+        grown = not-grown count d (omega (arith, mul-le-mul-right recordSize le)) f r;
         out-long = refl;
         well = w;
         room = room;
@@ -155,7 +156,7 @@ module _ (gate : Bool) (clock most count at batch : ℕ) (acts : List Act) (d e 
           ((λ h. s .grown .table ∙ ap (λ (rs : List Request). holding count rs d) p), (λ h. sym (overwritten-nil place o) ∙ c)),
         )
 
-    module _ (act : Act) (others : List Act) (here : left ≡ act ∷ others) (fits : most * 54 ≤ length d) where
+    module _ (act : Act) (others : List Act) (here : left ≡ act ∷ others) (fits : most * recordSize ≤ length d) where
       pub act-well : WellAct act
       act-well = rw here at (s .well) .0
 
@@ -189,7 +190,7 @@ module _ (gate : Bool) (clock most count at batch : ℕ) (acts : List Act) (d e 
             let longer : length (requestsIn held t) ≤ length (one .pending) = act-longer gate clock act (requestsIn held t) in
             let few : length (one .pending) ≤ most = leb-true (length (one .pending)) most (p .0) in
             let more : held ≤ length (one .pending) = omega arith in
-            let in-room : length (one .pending) * 54 ≤ length d = omega (arith, mul-le-mul-right 54 few) in
+            let in-room : length (one .pending) * recordSize ≤ length d = omega (arith, mul-le-mul-right recordSize few) in
             let fit : All Recorded (one .pending) = act-recorded gate clock hc act (requestsIn held t) act-well (grown-recorded count d held t (s .grown)) in
             let up : RisingIds (idsOf (one .pending)) = rising-performed gate clock (act ∷ []) (requestsIn held t) (grown-rising count d held t (s .grown)) in
             let ht : t′ ≡ holding held (one .pending) t = et ∙ few-held most held (one .pending) t (p .0) in

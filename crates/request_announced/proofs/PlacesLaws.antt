@@ -16,22 +16,23 @@ use Rattle.order.proofs.MappedLaws.{next-mapped}
 use Rattle.order.specs.Gathered.{gathered}
 use Rattle.order.proofs.GatheredLaws.{gathered-wide, length-gathered, gathered-front}
 use Rattle.request_announced.specs.Pairs.{Within, pairsAt, idsAt, typeAt, ofType}
+use Rattle.model.specs.Layout.{idSize, pairSize}
 
 -- ---- types
 
-pub type-read : (pairs : List ℕ) (place p : ℕ) → p ≡ place → getD pairs (p * 33) 0 ≡ typeAt pairs place
+pub type-read : (pairs : List ℕ) (place p : ℕ) → p ≡ place → getD pairs (p * pairSize) 0 ≡ typeAt pairs place
 unfolding typeAt entry
 type-read pairs place p e =
-    rw (e, getD-take 33 (drop (place * 33) pairs) 0 0 (omega arith), getD-drop (place * 33) pairs 0 0, add-zero (place * 33))
+    rw (e, getD-take pairSize (drop (place * pairSize) pairs) 0 0 (omega arith), getD-drop (place * pairSize) pairs 0 0, add-zero (place * pairSize))
 
 module _ (pairs : List ℕ) (typeId : ℕ) (places : List ℕ) (j : ℕ) where
   pub type-more : j < length places → typeAt pairs (getD places j 0) ≡ typeId → ofType typeId (pairsAt pairs (drop j places)) ≡ suc (ofType typeId (pairsAt pairs (drop (j + 1) places)))
   unfolding typeAt
-  type-more h e = rw (next-mapped (λ (place : ℕ). entry 33 place pairs) places j h, eq-eqb (getD (entry 33 (getD places j 0) pairs) 0 0) typeId e)
+  type-more h e = rw (next-mapped (λ (place : ℕ). entry pairSize place pairs) places j h, eq-eqb (getD (entry pairSize (getD places j 0) pairs) 0 0) typeId e)
 
   pub type-stop : j < length places → (typeAt pairs (getD places j 0) ≡ typeId → ⊥) → ofType typeId (pairsAt pairs (drop j places)) ≡ 0
   unfolding typeAt
-  type-stop h e = rw (next-mapped (λ (place : ℕ). entry 33 place pairs) places j h, ne-eqb (getD (entry 33 (getD places j 0) pairs) 0 0) typeId e)
+  type-stop h e = rw (next-mapped (λ (place : ℕ). entry pairSize place pairs) places j h, ne-eqb (getD (entry pairSize (getD places j 0) pairs) 0 0) typeId e)
 
   pub type-end : length places ≤ j → ofType typeId (pairsAt pairs (drop j places)) ≡ 0
   type-end h = rw (drop-of-length-le places {i = j} h)
@@ -39,20 +40,20 @@ module _ (pairs : List ℕ) (typeId : ℕ) (places : List ℕ) (j : ℕ) where
 -- ---- ids
 
 module _ (pairs : List ℕ) where
-  id-taken : (place : ℕ) → take 32 (drop 1 (entry 33 place pairs)) ≡ drop 1 (entry 33 place pairs)
+  id-taken : (place : ℕ) → take idSize (drop 1 (entry pairSize place pairs)) ≡ drop 1 (entry pairSize place pairs)
   unfolding entry
-  id-taken place = rw (drop-take 1 32 (drop (place * 33) pairs)) (take-take 32 32 (drop 1 (drop (place * 33) pairs)) (omega arith))
+  id-taken place = rw (drop-take 1 32 (drop (place * pairSize) pairs)) (take-take idSize 32 (drop 1 (drop (place * pairSize) pairs)) (omega arith))
 
   -- behind the type there is the id alone
-  ids-taken : (places : List ℕ) → gathered 33 1 pairs places ≡ idsAt pairs places
+  ids-taken : (places : List ℕ) → gathered pairSize 1 pairs places ≡ idsAt pairs places
   ids-taken [] = refl
   ids-taken (place ∷ places) = rw (id-taken place, ids-taken places)
 
-  pub ids-wide : (places : List ℕ) → All (Within pairs) places → Wide 32 (idsAt pairs places)
-  ids-wide places w = subst (Wide 32) (ids-taken places) (gathered-wide 33 1 pairs (omega arith) places w)
+  pub ids-wide : (places : List ℕ) → All (Within pairs) places → Wide idSize (idsAt pairs places)
+  ids-wide places w = subst (Wide idSize) (ids-taken places) (gathered-wide pairSize 1 pairs (omega arith) places w)
 
-  pub length-ids : (places : List ℕ) → All (Within pairs) places → length (joined (idsAt pairs places)) ≡ length places * 32
-  length-ids places w = rw (ids-taken places) at (length-gathered 33 1 pairs (omega arith) places w)
+  pub length-ids : (places : List ℕ) → All (Within pairs) places → length (joined (idsAt pairs places)) ≡ length places * idSize
+  length-ids places w = rw (ids-taken places) at (length-gathered pairSize 1 pairs (omega arith) places w)
 
-  pub ids-in-front : (places d ids : List ℕ) → All (Within pairs) places → ids ≡ overwritten 0 (joined (gathered 33 1 pairs places)) d → take (length places * 32) ids ≡ joined (idsAt pairs places)
-  ids-in-front places d ids w e = gathered-front 33 1 pairs (omega arith) places d ids w e ∙ ap joined (ids-taken places)
+  pub ids-in-front : (places d ids : List ℕ) → All (Within pairs) places → ids ≡ overwritten 0 (joined (gathered pairSize 1 pairs places)) d → take (length places * idSize) ids ≡ joined (idsAt pairs places)
+  ids-in-front places d ids w e = gathered-front pairSize 1 pairs (omega arith) places d ids w e ∙ ap joined (ids-taken places)

@@ -36,6 +36,7 @@ use Rattle.commands.proofs.RecordedLaws.{well-ids}
 use Rattle.commands.proofs.HoldingLaws.{length-requests, holding-same}
 use Rattle.request_announced.specs.Requested.{requestedAs, sentWithin}
 use Rattle.request_announced.specs.declared.request.Requested.the-variants.{Done, Full}
+use Rattle.model.specs.Layout.{commandSize, idSize, recordSize}
 
 -- ---- the answer, by how many would be pending
 
@@ -59,7 +60,7 @@ module _ (most at batch : ℕ) (done : model.Done) where
 
 -- ---- nothing done
 
-untouched : (most count at batch : ℕ) (t o : List ℕ) (done : model.Done) → done ≡ record { pending = requestsIn count t; sendings = [] } → count ≤ most → most * 54 ≤ length t → Bytes t
+untouched : (most count at batch : ℕ) (t o : List ℕ) (done : model.Done) → done ≡ record { pending = requestsIn count t; sendings = [] } → count ≤ most → most * recordSize ≤ length t → Bytes t
     → (Done (record { count = count; at = at; batch = batch }) ≡ requestedAs most at batch done)
     × ((t ≡ heldWithin most count (done .pending) t) × (o ≡ sentWithin most at batch done o))
 unfolding sentBytes
@@ -67,7 +68,7 @@ untouched most count at batch t o done e le room f =
     let none : model.Done = record { pending = requestsIn count t; sendings = [] } in
     let l : length (requestsIn count t) ≡ count = length-requests count t in
     let b : leb (length (requestsIn count t)) most ≡ true = le-leb (length (requestsIn count t)) most (omega arith) in
-    let fits : count * 54 ≤ length t = omega (arith, mul-le-mul-right 54 le) in
+    let fits : count * recordSize ≤ length t = omega (arith, mul-le-mul-right recordSize le) in
     rw e (
       sym (few-requested most at batch none b ∙ rw (l, add-zero at, add-zero batch)),
       (sym (few-held most count (requestsIn count t) t b ∙ holding-same count t fits f), sym (few-sent most at batch none o b ∙ overwritten-nil at o)),
@@ -77,7 +78,7 @@ none-left : (ids : List Id) → length ids < 1 → ids ≡ []
 none-left [] h = refl
 none-left (id ∷ ids) h = absurd (omega arith)
 
-module _ (gate : Bool) (clock typeId peer most count at batch : ℕ) (pairs : List Pair) (ids : List Id) (t o : List ℕ) (le : count ≤ most) (room : most * 54 ≤ length t) (f : Bytes t) where
+module _ (gate : Bool) (clock typeId peer most count at batch : ℕ) (pairs : List Pair) (ids : List Id) (t o : List ℕ) (le : count ≤ most) (room : most * recordSize ≤ length t) (f : Bytes t) where
   abbrev asked : model.Done
   asked = perform gate clock (ask typeId peer pairs ids) (requestsIn count t)
 
@@ -96,11 +97,11 @@ module _ (gate : Bool) (clock typeId peer most count at batch : ℕ) (pairs : Li
 
 -- ---- some wanted
 
-pub all-ids : (es : List Id) → Wide 32 es → idsIn (joined es) ≡ es
+pub all-ids : (es : List Id) → Wide idSize es → idsIn (joined es) ≡ es
 unfolding idsIn
 all-ids es w =
-    let l : length (joined es) ≡ length es * 32 = length-joined 32 es w in
-    let n : length (joined es) / 32 ≡ length es = omega arith in
+    let l : length (joined es) ≡ length es * idSize = length-joined 32 es w in
+    let n : length (joined es) / idSize ≡ length es = omega arith in
     rw n (rw (append-nil (joined es)) at (entries-joined 32 es [] w))
 
 module _ (typeId peer n : ℕ) (pairs : List Pair) (ids : List ℕ) (rs : List Request) (d rest : List ℕ) (ht : typeId < 2 ^ 8) (hp : peer < 2 ^ 64) (f : Bytes ids)
@@ -108,23 +109,23 @@ module _ (typeId peer n : ℕ) (pairs : List Pair) (ids : List ℕ) (rs : List R
   list-well : WellList typeId peer (idsIn ids)
   list-well = record { typeId = ht; peer = hp; ids = well-ids ids f }
 
-  wide : Wide 32 (wanted rs typeId pairs (idsIn ids))
+  wide : Wide idSize (wanted rs typeId pairs (idsIn ids))
   wide = ids-wide (wanted rs typeId pairs (idsIn ids)) (wanted-well rs typeId peer pairs (idsIn ids) list-well .ids)
 
-  long : length (joined (wanted rs typeId pairs (idsIn ids))) ≡ n * 32
+  long : length (joined (wanted rs typeId pairs (idsIn ids))) ≡ n * idSize
   long = length-joined 32 (wanted rs typeId pairs (idsIn ids)) wide ∙ rw (← en)
 
   -- the wanted ids at the front of the room
-  front : take (n * 32) rest ≡ joined (wanted rs typeId pairs (idsIn ids))
+  front : take (n * idSize) rest ≡ joined (wanted rs typeId pairs (idsIn ids))
   front = rw (er, ← long) (front-read-back (joined (wanted rs typeId pairs (idsIn ids))) d)
 
-  pub front-ids : idsIn (take (n * 32) rest) ≡ wanted rs typeId pairs (idsIn ids)
+  pub front-ids : idsIn (take (n * idSize) rest) ≡ wanted rs typeId pairs (idsIn ids)
   front-ids = ap idsIn front ∙ all-ids (wanted rs typeId pairs (idsIn ids)) wide
 
-  pub front-long : length (take (n * 32) rest) ≡ n * 32
+  pub front-long : length (take (n * idSize) rest) ≡ n * idSize
   front-long = ap length front ∙ long
 
-  pub few-wanted : n ≤ length ids / 32
+  pub few-wanted : n ≤ length ids / idSize
   unfolding wanted
   few-wanted =
       let new : Id → Bool = λ (id : Id). not (isPending id rs) in
@@ -140,11 +141,11 @@ unfolding sentBytes
 sent-one batch typeId peer [] h = absurd (omega arith)
 sent-one batch typeId peer (id ∷ ids) h = (rw append-nil, refl)
 
-module _ (clock typeId peer most count at batch : ℕ) (ids t : List ℕ) (some : 0 < length ids) (whole : length ids % 32 ≡ 0) where
+module _ (clock typeId peer most count at batch : ℕ) (ids t : List ℕ) (some : 0 < length ids) (whole : length ids % idSize ≡ 0) where
   some-ids : 0 < length (idsIn ids)
   some-ids = omega (arith, length-ids ids)
 
-  pub send-room : (o : List ℕ) → typeId < 2 ^ 8 → peer < 2 ^ 64 → Bytes ids → at + length ids / 32 * 48 ≤ length o
+  pub send-room : (o : List ℕ) → typeId < 2 ^ 8 → peer < 2 ^ 64 → Bytes ids → at + length ids / idSize * commandSize ≤ length o
       → at + length (allCommandBytes (commandsOf batch (request typeId peer (idsIn ids)))) ≤ length o
   send-room o ht hp f room =
       let a = sendings-bytes batch (request typeId peer (idsIn ids) ∷ []) (record { typeId = ht; peer = hp; ids = well-ids ids f }, tt) in

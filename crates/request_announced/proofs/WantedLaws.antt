@@ -18,38 +18,39 @@ use Rattle.fields.proofs.OverwriteLaws.{overwritten-next, overwritten-nil, leng
 use Rattle.fields.proofs.EntriesLaws.{Wide, length-entries, entries-at, entries-wide, length-entry, length-joined}
 use Rattle.fields.proofs.FilterLaws.{length-kept}
 use Rattle.fields.proofs.AllLaws.{all-kept, all-drop}
-use Rattle.model.specs.Protocol.{Id, isAmong}
+use Rattle.model.specs.Protocol.{Id, isAmong, listLimit}
 use Rattle.model.specs.Delivery.{Request, isPending}
 use Rattle.model.specs.Requests.{Pair, isStored, wanted}
 use Rattle.model.specs.Image.{requestOf}
 use Rattle.model.specs.Lists.{pairOf, pairsFit, pairsIn, idsIn, listFits}
 use Rattle.keys.specs.Keys.{hasKey}
+use Rattle.model.specs.Layout.{idSize, pairSize}
 
 -- ---- stored
 
-pair-same : (e : List ℕ) (typeId : ℕ) (id : List ℕ) → length e ≡ 33 → length id ≡ 32 → eqb (getD e 0 0) typeId && same (drop 1 e) id ≡ same (take (suc (length id)) e) (typeId ∷ id)
+pair-same : (e : List ℕ) (typeId : ℕ) (id : List ℕ) → length e ≡ pairSize → length id ≡ idSize → eqb (getD e 0 0) typeId && same (drop 1 e) id ≡ same (take (suc (length id)) e) (typeId ∷ id)
 unfolding same
 pair-same [] typeId id l h = absurd (omega arith)
 pair-same (b ∷ e) typeId id l h = rw (take-all (length id) e (omega arith))
 
-pub stored-key : (typeId : ℕ) (id : List ℕ) (es : List (List ℕ)) → length id ≡ 32 → Wide 33 es → isStored (map pairOf es) typeId id ≡ hasKey (typeId ∷ id) es
+pub stored-key : (typeId : ℕ) (id : List ℕ) (es : List (List ℕ)) → length id ≡ idSize → Wide pairSize es → isStored (map pairOf es) typeId id ≡ hasKey (typeId ∷ id) es
 unfolding isStored pairOf
 stored-key typeId id [] l w = refl
 stored-key typeId id (e ∷ es) l w = rw (pair-same e typeId id (w .0) l, stored-key typeId id es l (w .1))
 
 module _ (stored : List ℕ) (fit : pairsFit stored ≡ true) where
-  pub pairs-rise : rising 33 (entries 33 (length stored / 33) stored) ≡ true
+  pub pairs-rise : rising pairSize (entries pairSize (length stored / pairSize) stored) ≡ true
   unfolding pairsFit
-  pairs-rise = and-right (listFits 33 1024 stored) (rising 33 (entries 33 (length stored / 33) stored)) fit
+  pairs-rise = and-right (listFits pairSize listLimit stored) (rising pairSize (entries pairSize (length stored / pairSize) stored)) fit
 
-  pub stored-as : (typeId : ℕ) (id key : List ℕ) → length id ≡ 32 → key ≡ typeId ∷ id → hasKey key (entries 33 (length stored / 33) stored) ≡ isStored (pairsIn stored) typeId id
+  pub stored-as : (typeId : ℕ) (id key : List ℕ) → length id ≡ idSize → key ≡ typeId ∷ id → hasKey key (entries pairSize (length stored / pairSize) stored) ≡ isStored (pairsIn stored) typeId id
   unfolding pairsIn
-  stored-as typeId id key l e = rw e (sym (stored-key typeId id (entries 33 (length stored / 33) stored) l (entries-wide 33 (length stored / 33) stored (omega arith))))
+  stored-as typeId id key l e = rw e (sym (stored-key typeId id (entries pairSize (length stored / pairSize) stored) l (entries-wide pairSize (length stored / pairSize) stored (omega arith))))
 
-pub pair-key : (typeId : ℕ) (id key : List ℕ) → length id ≡ 32 → key ≡ overwritten 1 id (set (replicate 33 0) 0 typeId) → key ≡ typeId ∷ id
+pub pair-key : (typeId : ℕ) (id key : List ℕ) → length id ≡ idSize → key ≡ overwritten 1 id (set (replicate pairSize 0) 0 typeId) → key ≡ typeId ∷ id
 unfolding overwritten
 pair-key typeId id key h e =
-    let n : 1 + length id ≡ 33 = omega arith in
+    let n : 1 + length id ≡ pairSize = omega arith in
     e ∙ rw (n, append-nil)
 
 -- ---- the pass
@@ -79,30 +80,30 @@ pub record Wanting (test : List ℕ → Bool) (m : ℕ) (ids d rest : List ℕ) 
   pub i-le : i ≤ m
   pub c-le : c ≤ i
   pub long : length rest ≡ length d
-  pub count : c + length (kept test (drop i (entries 32 m ids))) ≡ length (kept test (entries 32 m ids))
-  pub bytes : overwritten (c * 32) (joined (kept test (drop i (entries 32 m ids)))) rest ≡ overwritten 0 (joined (kept test (entries 32 m ids))) d
+  pub count : c + length (kept test (drop i (entries idSize m ids))) ≡ length (kept test (entries idSize m ids))
+  pub bytes : overwritten (c * idSize) (joined (kept test (drop i (entries idSize m ids)))) rest ≡ overwritten 0 (joined (kept test (entries idSize m ids))) d
 
 pub want-starts : (test : List ℕ → Bool) (m : ℕ) (ids d : List ℕ) → Wanting test m ids d d 0 0
 want-starts test m ids d = record { i-le = omega arith; c-le = omega arith; long = refl; count = omega arith; bytes = refl }
 
-pub part-entry : (i : ℕ) (ids : List ℕ) → take (i * 32 + 32 - i * 32) (drop (i * 32) ids) ≡ entry 32 i ids
+pub part-entry : (i : ℕ) (ids : List ℕ) → take (i * idSize + idSize - i * idSize) (drop (i * idSize) ids) ≡ entry idSize i ids
 unfolding entry
-part-entry i ids = let e : i * 32 + 32 - i * 32 ≡ 32 = omega arith in rw e
+part-entry i ids = let e : i * idSize + idSize - i * idSize ≡ idSize = omega arith in rw e
 
-pub part-long : (i m : ℕ) (ids : List ℕ) → i < m → m * 32 ≤ length ids → length (take (i * 32 + 32 - i * 32) (drop (i * 32) ids)) ≡ 32
-part-long i m ids h l = ap length (part-entry i ids) ∙ length-entry 32 i ids (omega (arith, mul-le-mul-right 32 h))
+pub part-long : (i m : ℕ) (ids : List ℕ) → i < m → m * idSize ≤ length ids → length (take (i * idSize + idSize - i * idSize) (drop (i * idSize) ids)) ≡ idSize
+part-long i m ids h l = ap length (part-entry i ids) ∙ length-entry idSize i ids (omega (arith, mul-le-mul-right 32 h))
 
-module _ (test : List ℕ → Bool) (m : ℕ) (ids d rest : List ℕ) (c i : ℕ) (s : Wanting test m ids d rest c i) (h : i < m) (li : m * 32 ≤ length ids) (ld : m * 32 ≤ length d)
-    (b : Bool) (eb : b ≡ test (take (i * 32 + 32 - i * 32) (drop (i * 32) ids))) where
-  tested : test (entry 32 i ids) ≡ b
+module _ (test : List ℕ → Bool) (m : ℕ) (ids d rest : List ℕ) (c i : ℕ) (s : Wanting test m ids d rest c i) (h : i < m) (li : m * idSize ≤ length ids) (ld : m * idSize ≤ length d)
+    (b : Bool) (eb : b ≡ test (take (i * idSize + idSize - i * idSize) (drop (i * idSize) ids))) where
+  tested : test (entry idSize i ids) ≡ b
   tested = ap test (sym (part-entry i ids)) ∙ sym eb
 
-  this : drop i (entries 32 m ids) ≡ entry 32 i ids ∷ drop (i + 1) (entries 32 m ids)
-  this = drop-cons (entries 32 m ids) i [] (rw length-entries h) ∙ rw (entries-at 32 m i ids h, add-one)
+  this : drop i (entries idSize m ids) ≡ entry idSize i ids ∷ drop (i + 1) (entries idSize m ids)
+  this = drop-cons (entries idSize m ids) i [] (rw length-entries h) ∙ rw (entries-at 32 m i ids h, add-one)
 
   pub want-skip : b ≡ false → (rest′ : List ℕ) (c′ : ℕ) → rest′ ≡ rest → c′ ≡ c → Wanting test m ids d rest′ c′ (i + 1)
   want-skip f rest′ c′ e g =
-      let t : test (entry 32 i ids) ≡ false = tested ∙ f in
+      let t : test (entry idSize i ids) ≡ false = tested ∙ f in
       rw (e, g) (record {
         i-le = omega arith;
         c-le = omega (arith, s .c-le);
@@ -111,39 +112,39 @@ module _ (test : List ℕ → Bool) (m : ℕ) (ids d rest : List ℕ) (c i : ℕ
         bytes = rw (this, t) at (s .bytes);
       })
 
-  pub want-take : b ≡ true → (rest′ : List ℕ) (c′ : ℕ) → rest′ ≡ overwritten (c * 32) (take (i * 32 + 32 - i * 32) (drop (i * 32) ids)) rest → c′ ≡ c + 1 → Wanting test m ids d rest′ c′ (i + 1)
+  pub want-take : b ≡ true → (rest′ : List ℕ) (c′ : ℕ) → rest′ ≡ overwritten (c * idSize) (take (i * idSize + idSize - i * idSize) (drop (i * idSize) ids)) rest → c′ ≡ c + 1 → Wanting test m ids d rest′ c′ (i + 1)
   want-take f rest′ c′ e g =
-      let t : test (entry 32 i ids) ≡ true = tested ∙ f in
-      let x : List ℕ = entry 32 i ids in
-      let others : List (List ℕ) = kept test (drop (i + 1) (entries 32 m ids)) in
-      let lx : length x ≡ 32 = length-entry 32 i ids (omega (arith, mul-le-mul-right 32 h)) in
+      let t : test (entry idSize i ids) ≡ true = tested ∙ f in
+      let x : List ℕ = entry idSize i ids in
+      let others : List (List ℕ) = kept test (drop (i + 1) (entries idSize m ids)) in
+      let lx : length x ≡ idSize = length-entry idSize i ids (omega (arith, mul-le-mul-right 32 h)) in
       let lo : length others ≤ m - (i + 1) =
-      let k : length (drop (i + 1) (entries 32 m ids)) ≡ m - (i + 1) = length-drop (i + 1) (entries 32 m ids) ∙ rw length-entries in
-      omega (arith, length-kept test (drop (i + 1) (entries 32 m ids))) in
-      let lj : length (joined others) ≡ length others * 32 =
-      length-joined 32 others (kept-wide 32 test (drop (i + 1) (entries 32 m ids)) (all-drop (λ (y : List ℕ). length y ≡ 32) (i + 1) (entries 32 m ids) (entries-wide 32 m ids li))) in
-      let n : (c + 1) * 32 ≡ c * 32 + length x = omega arith in
-      let q : c + suc (length others) ≡ length (kept test (entries 32 m ids)) = rw (this, t) at (s .count) in
-      let r : overwritten (c * 32) (x ++ joined others) rest ≡ overwritten 0 (joined (kept test (entries 32 m ids))) d = rw (this, t) at (s .bytes) in
-      let e′ : rest′ ≡ overwritten (c * 32) x rest = e ∙ ap (λ (y : List ℕ). overwritten (c * 32) y rest) (part-entry i ids) in
+      let k : length (drop (i + 1) (entries idSize m ids)) ≡ m - (i + 1) = length-drop (i + 1) (entries idSize m ids) ∙ rw length-entries in
+      omega (arith, length-kept test (drop (i + 1) (entries idSize m ids))) in
+      let lj : length (joined others) ≡ length others * idSize =
+      length-joined 32 others (kept-wide 32 test (drop (i + 1) (entries idSize m ids)) (all-drop (λ (y : List ℕ). length y ≡ idSize) (i + 1) (entries idSize m ids) (entries-wide 32 m ids li))) in
+      let n : (c + 1) * idSize ≡ c * idSize + length x = omega arith in
+      let q : c + suc (length others) ≡ length (kept test (entries idSize m ids)) = rw (this, t) at (s .count) in
+      let r : overwritten (c * idSize) (x ++ joined others) rest ≡ overwritten 0 (joined (kept test (entries idSize m ids))) d = rw (this, t) at (s .bytes) in
+      let e′ : rest′ ≡ overwritten (c * idSize) x rest = e ∙ ap (λ (y : List ℕ). overwritten (c * idSize) y rest) (part-entry i ids) in
       rw (e′, g) (record {
         i-le = omega arith;
         c-le = omega (arith, s .c-le);
-        long = length-overwritten (c * 32) x rest (omega (arith, s .long, s .c-le)) ∙ s .long;
+        long = length-overwritten (c * idSize) x rest (omega (arith, s .long, s .c-le)) ∙ s .long;
         count = omega arith;
-        bytes = rw n (overwritten-next (c * 32) x (joined others) rest (omega (arith, s .long, s .c-le)) ∙ r);
+        bytes = rw n (overwritten-next (c * idSize) x (joined others) rest (omega (arith, s .long, s .c-le)) ∙ r);
       })
 
 pub want-ends : (test : List ℕ → Bool) (m : ℕ) (ids d rest : List ℕ) (c i : ℕ) → Wanting test m ids d rest c i → m ≤ i
-    → (rest ≡ overwritten 0 (joined (kept test (entries 32 m ids))) d) × (c ≡ length (kept test (entries 32 m ids)))
+    → (rest ≡ overwritten 0 (joined (kept test (entries idSize m ids))) d) × (c ≡ length (kept test (entries idSize m ids)))
 want-ends test m ids d rest c i s h =
-    let z : drop i (entries 32 m ids) ≡ [] = drop-of-length-le (entries 32 m ids) {i = i} (rw length-entries h) in
-    let k : c + length (kept test []) ≡ length (kept test (entries 32 m ids)) = rw z at (s .count) in
-    (sym (overwritten-nil (c * 32) rest) ∙ rw z at (s .bytes), omega arith)
+    let z : drop i (entries idSize m ids) ≡ [] = drop-of-length-le (entries idSize m ids) {i = i} (rw length-entries h) in
+    let k : c + length (kept test []) ≡ length (kept test (entries idSize m ids)) = rw z at (s .count) in
+    (sym (overwritten-nil (c * idSize) rest) ∙ rw z at (s .bytes), omega arith)
 
 -- by the rule's own words
-pub want-all : (pending : List Request) (typeId : ℕ) (pairs : List Pair) (ids d rest : List ℕ) (c i : ℕ) → Wanting (isWanted pending typeId pairs) (length ids / 32) ids d rest c i
-    → length ids / 32 ≤ i → (rest ≡ overwritten 0 (joined (wanted pending typeId pairs (idsIn ids))) d) × (c ≡ length (wanted pending typeId pairs (idsIn ids)))
+pub want-all : (pending : List Request) (typeId : ℕ) (pairs : List Pair) (ids d rest : List ℕ) (c i : ℕ) → Wanting (isWanted pending typeId pairs) (length ids / idSize) ids d rest c i
+    → length ids / idSize ≤ i → (rest ≡ overwritten 0 (joined (wanted pending typeId pairs (idsIn ids))) d) × (c ≡ length (wanted pending typeId pairs (idsIn ids)))
 unfolding idsIn
 want-all pending typeId pairs ids d rest c i s h =
-    rw (wanted-kept pending typeId pairs (entries 32 (length ids / 32) ids)) (want-ends (isWanted pending typeId pairs) (length ids / 32) ids d rest c i s h)
+    rw (wanted-kept pending typeId pairs (entries idSize (length ids / idSize) ids)) (want-ends (isWanted pending typeId pairs) (length ids / idSize) ids d rest c i s h)

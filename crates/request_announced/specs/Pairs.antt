@@ -9,11 +9,11 @@ use Rattle.fields.specs.Sort.{sorted}
 use Rattle.order.specs.Numbers.{numbersFrom}
 use Rattle.order.specs.Places.{keyBelow}
 use Rattle.model.specs.Protocol.{Id}
-use Rattle.model.specs.Lists.{pairSize}
+use Rattle.model.specs.Layout.{pairSize}
 
 -- a pair stands at the place
 abbrev pub Within : List ℕ → ℕ → Type 0
-Within pairs place = place * 33 + 33 ≤ length pairs
+Within pairs place = place * pairSize + pairSize ≤ length pairs
 
 abbrev pub pairsAt : List ℕ → List ℕ → List (List ℕ)
 pairsAt pairs places = map (λ (place : ℕ). entry pairSize place pairs) places

@@ -12,8 +12,13 @@ ghost use Rattle.commands.specs.Sent.{sentBytes};
 ghost use Rattle.request_announced.specs.Requested.{requestedAs};
 ghost use Rattle.request_announced.specs.Pairs.{placesByType, idsAt};
 ghost use Rattle.request_announced.specs.ByType.{performedByType};
+ghost use Rattle.model.specs.Layout.{commandSize, idSize, pairListSize, pairSize, recordSize};
+ghost use Rattle.model.specs.Protocol.{trackedLimit};
 use crate::request::Requested;
 use crate::request::Written;
+use model::layout::ID_LIST_SIZE;
+use model::layout::ID_SIZE;
+use model::layout::PAIR_SIZE;
 
 // One request_announced for each run of one type; `ids` are those of the pairs at `places`. Where they are too many, what is
 // left in the table and behind `at` is of no use.
@@ -33,22 +38,22 @@ fn ask_each(
     at: usize,
     batch: u16,
 ) -> Requested
-    requires { ⌜ (length (now pairs) % 33 ≡ 0) × ((length (now pairs) ≤ 33792) × ((count ≤ most) × ((most ≤ 1024) × (most * 54 ≤ length (now table))))) ⌝ }
-    requires { ⌜ rising 32 (entries 54 count (now table)) ≡ true ⌝ }
+    requires { ⌜ (length (now pairs) % pairSize ≡ 0) × ((length (now pairs) ≤ pairListSize) × ((count ≤ most) × ((most ≤ trackedLimit) × (most * recordSize ≤ length (now table))))) ⌝ }
+    requires { ⌜ rising idSize (entries recordSize count (now table)) ≡ true ⌝ }
     requires { ⌜ pairsFit (now stored) ≡ true ⌝ }
-    requires { ⌜ (at + length (now pairs) / 33 * 48 ≤ length (now out)) × (batch + length (now pairs) / 33 + 1 < 65536) ⌝ }
+    requires { ⌜ (at + length (now pairs) / pairSize * commandSize ≤ length (now out)) × (batch + length (now pairs) / pairSize + 1 < 65536) ⌝ }
     requires { ⌜ (now places ≡ placesByType (now pairs)) × ((now ids ≡ joined (idsAt (now pairs) (now places))) × (length (now ids) ≤ length (now rest))) ⌝ }
-    ensures { λ r. ⌜ r ≡ requestedAs most at batch (performedByType gate clock peer (pairsIn (now (stored .entry))) (entriesOf 33 (now (pairs .entry))) (requestsIn count (now (table .entry)))) ⌝ }
-    ensures { λ _. ⌜ (leb (length (performedByType gate clock peer (pairsIn (now (stored .entry))) (entriesOf 33 (now (pairs .entry))) (requestsIn count (now (table .entry))) .pending)) most ≡ true → now (table .exit) ≡ holding count (performedByType gate clock peer (pairsIn (now (stored .entry))) (entriesOf 33 (now (pairs .entry))) (requestsIn count (now (table .entry))) .pending) (now (table .entry))) ⌝ }
-    ensures { λ _. ⌜ (leb (length (performedByType gate clock peer (pairsIn (now (stored .entry))) (entriesOf 33 (now (pairs .entry))) (requestsIn count (now (table .entry))) .pending)) most ≡ true → now (out .exit) ≡ overwritten at (sentBytes batch (performedByType gate clock peer (pairsIn (now (stored .entry))) (entriesOf 33 (now (pairs .entry))) (requestsIn count (now (table .entry))) .sendings)) (now (out .entry))) ⌝ }
+    ensures { λ r. ⌜ r ≡ requestedAs most at batch (performedByType gate clock peer (pairsIn (now (stored .entry))) (entriesOf pairSize (now (pairs .entry))) (requestsIn count (now (table .entry)))) ⌝ }
+    ensures { λ _. ⌜ (leb (length (performedByType gate clock peer (pairsIn (now (stored .entry))) (entriesOf pairSize (now (pairs .entry))) (requestsIn count (now (table .entry))) .pending)) most ≡ true → now (table .exit) ≡ holding count (performedByType gate clock peer (pairsIn (now (stored .entry))) (entriesOf pairSize (now (pairs .entry))) (requestsIn count (now (table .entry))) .pending) (now (table .entry))) ⌝ }
+    ensures { λ _. ⌜ (leb (length (performedByType gate clock peer (pairsIn (now (stored .entry))) (entriesOf pairSize (now (pairs .entry))) (requestsIn count (now (table .entry))) .pending)) most ≡ true → now (out .exit) ≡ overwritten at (sentBytes batch (performedByType gate clock peer (pairsIn (now (stored .entry))) (entriesOf pairSize (now (pairs .entry))) (requestsIn count (now (table .entry))) .sendings)) (now (out .entry))) ⌝ }
 {
     let mut done = Written { count, at, batch };
     let mut i = 0;
     while i < places.len() {
         let typeid = crate::pairs::type_at(pairs, places[i]);
         let next = crate::pairs::type_end(pairs, places, i);
-        let from = i * 32;
-        let end = next * 32;
+        let from = i * ID_SIZE;
+        let end = next * ID_SIZE;
         let Requested::Done(written) = crate::request::request_announced(
             table,
             done.count,
@@ -87,19 +92,19 @@ pub fn request_by_type(
     at: usize,
     batch: u16,
 ) -> Requested
-    requires { ⌜ (length (now pairs) % 33 ≡ 0) × ((length (now pairs) ≤ 33792) × ((count ≤ most) × ((most ≤ 1024) × (most * 54 ≤ length (now table))))) ⌝ }
-    requires { ⌜ rising 32 (entries 54 count (now table)) ≡ true ⌝ }
+    requires { ⌜ (length (now pairs) % pairSize ≡ 0) × ((length (now pairs) ≤ pairListSize) × ((count ≤ most) × ((most ≤ trackedLimit) × (most * recordSize ≤ length (now table))))) ⌝ }
+    requires { ⌜ rising idSize (entries recordSize count (now table)) ≡ true ⌝ }
     requires { ⌜ pairsFit (now stored) ≡ true ⌝ }
-    requires { ⌜ (at + length (now pairs) / 33 * 48 ≤ length (now out)) × (batch + length (now pairs) / 33 + 1 < 65536) ⌝ }
-    ensures { λ r. ⌜ r ≡ requestedAs most at batch (performedByType gate clock peer (pairsIn (now (stored .entry))) (entriesOf 33 (now (pairs .entry))) (requestsIn count (now (table .entry)))) ⌝ }
-    ensures { λ _. ⌜ (leb (length (performedByType gate clock peer (pairsIn (now (stored .entry))) (entriesOf 33 (now (pairs .entry))) (requestsIn count (now (table .entry))) .pending)) most ≡ true → now (table .exit) ≡ holding count (performedByType gate clock peer (pairsIn (now (stored .entry))) (entriesOf 33 (now (pairs .entry))) (requestsIn count (now (table .entry))) .pending) (now (table .entry))) ⌝ }
-    ensures { λ _. ⌜ (leb (length (performedByType gate clock peer (pairsIn (now (stored .entry))) (entriesOf 33 (now (pairs .entry))) (requestsIn count (now (table .entry))) .pending)) most ≡ true → now (out .exit) ≡ overwritten at (sentBytes batch (performedByType gate clock peer (pairsIn (now (stored .entry))) (entriesOf 33 (now (pairs .entry))) (requestsIn count (now (table .entry))) .sendings)) (now (out .entry))) ⌝ }
+    requires { ⌜ (at + length (now pairs) / pairSize * commandSize ≤ length (now out)) × (batch + length (now pairs) / pairSize + 1 < 65536) ⌝ }
+    ensures { λ r. ⌜ r ≡ requestedAs most at batch (performedByType gate clock peer (pairsIn (now (stored .entry))) (entriesOf pairSize (now (pairs .entry))) (requestsIn count (now (table .entry)))) ⌝ }
+    ensures { λ _. ⌜ (leb (length (performedByType gate clock peer (pairsIn (now (stored .entry))) (entriesOf pairSize (now (pairs .entry))) (requestsIn count (now (table .entry))) .pending)) most ≡ true → now (table .exit) ≡ holding count (performedByType gate clock peer (pairsIn (now (stored .entry))) (entriesOf pairSize (now (pairs .entry))) (requestsIn count (now (table .entry))) .pending) (now (table .entry))) ⌝ }
+    ensures { λ _. ⌜ (leb (length (performedByType gate clock peer (pairsIn (now (stored .entry))) (entriesOf pairSize (now (pairs .entry))) (requestsIn count (now (table .entry))) .pending)) most ≡ true → now (out .exit) ≡ overwritten at (sentBytes batch (performedByType gate clock peer (pairsIn (now (stored .entry))) (entriesOf pairSize (now (pairs .entry))) (requestsIn count (now (table .entry))) .sendings)) (now (out .entry))) ⌝ }
 {
-    let number = pairs.len() / 33;
-    let size = number * 32;
+    let number = pairs.len() / PAIR_SIZE;
+    let size = number * ID_SIZE;
     let places = crate::pairs::places_by_type(pairs);
     let ids = crate::pairs::ids_at(pairs, &places[..number]);
-    let mut rest = [0u8; 32768];
+    let mut rest = [0u8; ID_LIST_SIZE];
     ask_each(
         table,
         count,

@@ -7,31 +7,36 @@ ghost use lib.ListN.{length, take, drop, getD};
 ghost use Rattle.fields.specs.Facts.{All};
 ghost use Rattle.fields.specs.Entries.{joined};
 ghost use Rattle.request_announced.specs.Pairs.{Within, pairsAt, idsAt, typeAt, placesByType, ofType};
+ghost use Rattle.model.specs.Layout.{idSize, pairListSize, pairSize};
+ghost use Rattle.model.specs.Protocol.{trackedLimit};
+use model::layout::ID_LIST_SIZE;
+use model::layout::PAIR_SIZE;
+use model::layout::TRACKED_LIMIT;
 
 fn number_and_sort(pairs: &[u8], places: &mut [u16], spare: &mut [u16])
-    requires { ⌜ (length (now places) ≡ length (now pairs) / 33) × ((length (now places) ≤ 1024) × (length (now places) ≤ length (now spare))) ⌝ }
+    requires { ⌜ (length (now places) ≡ length (now pairs) / pairSize) × ((length (now places) ≤ trackedLimit) × (length (now places) ≤ length (now spare))) ⌝ }
     ensures { λ _. ⌜ now (places .exit) ≡ placesByType (now (pairs .entry)) ⌝ }
 {
     let count = places.len();
     order::places::number(places);
-    order::sort(pairs, 33, 0, 1, places, &mut spare[..count]);
+    order::sort(pairs, PAIR_SIZE, 0, 1, places, &mut spare[..count]);
 }
 
 fn fill(pairs: &[u8], places: &mut [u16])
-    requires { ⌜ (length (now places) ≡ length (now pairs) / 33) × (length (now places) ≤ 1024) ⌝ }
+    requires { ⌜ (length (now places) ≡ length (now pairs) / pairSize) × (length (now places) ≤ trackedLimit) ⌝ }
     ensures { λ _. ⌜ now (places .exit) ≡ placesByType (now (pairs .entry)) ⌝ }
 {
-    let mut spare = [0u16; 1024];
+    let mut spare = [0u16; TRACKED_LIMIT];
     number_and_sort(pairs, places, &mut spare);
 }
 
 // The places of all pairs, types rising; within a type in the order of the pairs.
-pub fn places_by_type(pairs: &[u8]) -> [u16; 1024]
-    requires { ⌜ length (now pairs) ≤ 33792 ⌝ }
-    ensures { λ r. ⌜ take (length (now (pairs .entry)) / 33) r ≡ placesByType (now (pairs .entry)) ⌝ }
+pub fn places_by_type(pairs: &[u8]) -> [u16; TRACKED_LIMIT]
+    requires { ⌜ length (now pairs) ≤ pairListSize ⌝ }
+    ensures { λ r. ⌜ take (length (now (pairs .entry)) / pairSize) r ≡ placesByType (now (pairs .entry)) ⌝ }
 {
-    let mut places = [0u16; 1024];
-    let number = pairs.len() / 33;
+    let mut places = [0u16; TRACKED_LIMIT];
+    let number = pairs.len() / PAIR_SIZE;
     fill(pairs, &mut places[..number]);
     places
 }
@@ -41,7 +46,7 @@ pub fn type_at(pairs: &[u8], place: u16) -> u8
     requires { ⌜ Within (now pairs) place ⌝ }
     ensures { λ r. ⌜ r ≡ typeAt (now (pairs .entry)) place ⌝ }
 {
-    let at = order::places::wide(place) * 33;
+    let at = order::places::wide(place) * PAIR_SIZE;
     pairs[at]
 }
 
@@ -63,11 +68,11 @@ pub fn type_end(pairs: &[u8], places: &[u16], first: usize) -> usize
 }
 
 // The ids of the pairs at `places`, one after another.
-pub fn ids_at(pairs: &[u8], places: &[u16]) -> [u8; 32768]
-    requires { ⌜ All (Within (now pairs)) (now places) × (length (now places) ≤ 1024) ⌝ }
-    ensures { λ r. ⌜ take (length (now (places .entry)) * 32) r ≡ joined (idsAt (now (pairs .entry)) (now (places .entry))) ⌝ }
+pub fn ids_at(pairs: &[u8], places: &[u16]) -> [u8; ID_LIST_SIZE]
+    requires { ⌜ All (Within (now pairs)) (now places) × (length (now places) ≤ trackedLimit) ⌝ }
+    ensures { λ r. ⌜ take (length (now (places .entry)) * idSize) r ≡ joined (idsAt (now (pairs .entry)) (now (places .entry))) ⌝ }
 {
-    let mut ids = [0u8; 32768];
-    order::gathering::gather(pairs, 33, 1, places, &mut ids);
+    let mut ids = [0u8; ID_LIST_SIZE];
+    order::gathering::gather(pairs, PAIR_SIZE, 1, places, &mut ids);
     ids
 }

@@ -9,7 +9,10 @@ ghost use Rattle.model.specs.Lists.{idsIn, pairsIn, pairsFit};
 ghost use Rattle.commands.specs.Pending.{requestsIn};
 ghost use Rattle.mark_requested.specs.Marking.{heldWithin};
 ghost use Rattle.request_announced.specs.Requested.{requestedAs, sentWithin};
+ghost use Rattle.model.specs.Layout.{commandSize, idListSize, idSize, recordSize};
+ghost use Rattle.model.specs.Protocol.{trackedLimit};
 use mark_requested::entering::Marked;
+use model::layout::ID_SIZE;
 
 // How many are pending, the place behind the commands, and the next batch's number.
 pub struct Written {
@@ -36,9 +39,9 @@ fn mark_and_send(
     at: usize,
     batch: u16,
 ) -> Requested
-    requires { ⌜ (length (now ids) % 32 ≡ 0) × ((length (now ids) ≤ 32768) × ((count ≤ most) × ((most ≤ 1024) × (most * 54 ≤ length (now table))))) ⌝ }
-    requires { ⌜ rising 32 (entries 54 count (now table)) ≡ true ⌝ }
-    requires { ⌜ (0 < length (now ids)) × ((at + length (now ids) / 32 * 48 ≤ length (now out)) × (batch + 1 < 65536)) ⌝ }
+    requires { ⌜ (length (now ids) % idSize ≡ 0) × ((length (now ids) ≤ idListSize) × ((count ≤ most) × ((most ≤ trackedLimit) × (most * recordSize ≤ length (now table))))) ⌝ }
+    requires { ⌜ rising idSize (entries recordSize count (now table)) ≡ true ⌝ }
+    requires { ⌜ (0 < length (now ids)) × ((at + length (now ids) / idSize * commandSize ≤ length (now out)) × (batch + 1 < 65536)) ⌝ }
     ensures { λ r. ⌜ r ≡ requestedAs most at batch (requestAnnounced true clock typeid peer (idsIn (now (ids .entry))) (requestsIn count (now (table .entry)))) ⌝ }
     ensures { λ _. ⌜ now (table .exit) ≡ heldWithin most count (requestAnnounced true clock typeid peer (idsIn (now (ids .entry))) (requestsIn count (now (table .entry))) .pending) (now (table .entry)) ⌝ }
     ensures { λ _. ⌜ now (out .exit) ≡ sentWithin most at batch (requestAnnounced true clock typeid peer (idsIn (now (ids .entry))) (requestsIn count (now (table .entry)))) (now (out .entry)) ⌝ }
@@ -73,10 +76,10 @@ pub fn request_announced(
     at: usize,
     batch: u16,
 ) -> Requested
-    requires { ⌜ (length (now ids) % 32 ≡ 0) × ((length (now ids) ≤ 32768) × ((count ≤ most) × ((most ≤ 1024) × (most * 54 ≤ length (now table))))) ⌝ }
-    requires { ⌜ rising 32 (entries 54 count (now table)) ≡ true ⌝ }
+    requires { ⌜ (length (now ids) % idSize ≡ 0) × ((length (now ids) ≤ idListSize) × ((count ≤ most) × ((most ≤ trackedLimit) × (most * recordSize ≤ length (now table))))) ⌝ }
+    requires { ⌜ rising idSize (entries recordSize count (now table)) ≡ true ⌝ }
     requires { ⌜ pairsFit (now stored) ≡ true ⌝ }
-    requires { ⌜ (length (now ids) ≤ length (now rest)) × ((at + length (now ids) / 32 * 48 ≤ length (now out)) × (batch + 1 < 65536)) ⌝ }
+    requires { ⌜ (length (now ids) ≤ length (now rest)) × ((at + length (now ids) / idSize * commandSize ≤ length (now out)) × (batch + 1 < 65536)) ⌝ }
     ensures { λ r. ⌜ r ≡ requestedAs most at batch (perform gate clock (ask typeid peer (pairsIn (now (stored .entry))) (idsIn (now (ids .entry)))) (requestsIn count (now (table .entry)))) ⌝ }
     ensures { λ _. ⌜ now (table .exit) ≡ heldWithin most count (perform gate clock (ask typeid peer (pairsIn (now (stored .entry))) (idsIn (now (ids .entry)))) (requestsIn count (now (table .entry))) .pending) (now (table .entry)) ⌝ }
     ensures { λ _. ⌜ now (out .exit) ≡ sentWithin most at batch (perform gate clock (ask typeid peer (pairsIn (now (stored .entry))) (idsIn (now (ids .entry)))) (requestsIn count (now (table .entry)))) (now (out .entry)) ⌝ }
@@ -88,7 +91,7 @@ pub fn request_announced(
     if number < 1 {
         return Requested::Done(Written { count, at, batch });
     }
-    let size = number * 32;
+    let size = number * ID_SIZE;
     mark_and_send(
         table,
         count,

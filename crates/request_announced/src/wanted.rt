@@ -12,7 +12,11 @@ ghost use Rattle.model.specs.Requests as model;
 ghost use Rattle.model.specs.Lists.{idsIn, pairsIn, pairsFit};
 ghost use Rattle.commands.specs.Pending.{requestsIn};
 ghost use Rattle.keys.specs.Keys.{hasKey};
+ghost use Rattle.model.specs.Layout.{idSize, recordSize};
 use keys::find::Found;
+use model::layout::ID_SIZE;
+use model::layout::PAIR_SIZE;
+use model::layout::RECORD_SIZE;
 
 // Whether an entry starts with the key.
 fn has_key(table: &[u8], width: usize, count: usize, key: &[u8]) -> bool
@@ -28,27 +32,27 @@ fn has_key(table: &[u8], width: usize, count: usize, key: &[u8]) -> bool
 
 // Whether an id is pending, under whatever type.
 fn is_pending(table: &[u8], count: usize, id: &[u8]) -> bool
-    requires { ⌜ (length (now id) ≡ 32) × (count * 54 ≤ length (now table)) ⌝ }
-    requires { ⌜ rising 32 (entries 54 count (now table)) ≡ true ⌝ }
+    requires { ⌜ (length (now id) ≡ idSize) × (count * recordSize ≤ length (now table)) ⌝ }
+    requires { ⌜ rising idSize (entries recordSize count (now table)) ≡ true ⌝ }
     ensures { λ r. ⌜ r ≡ isPending (now (id .entry)) (requestsIn count (now (table .entry))) ⌝ }
 {
-    has_key(table, 54, count, id)
+    has_key(table, RECORD_SIZE, count, id)
 }
 
 // Whether the pair of a type and an id is stored.
 fn is_stored(stored: &[u8], typeid: u8, id: &[u8]) -> bool
-    requires { ⌜ (length (now id) ≡ 32) × (pairsFit (now stored) ≡ true) ⌝ }
+    requires { ⌜ (length (now id) ≡ idSize) × (pairsFit (now stored) ≡ true) ⌝ }
     ensures { λ r. ⌜ r ≡ model.isStored (pairsIn (now (stored .entry))) typeid (now (id .entry)) ⌝ }
 {
-    let mut key = [0u8; 33];
+    let mut key = [0u8; PAIR_SIZE];
     key[0] = typeid;
     spans::moving::overwrite(&mut key, 1, id);
-    has_key(stored, 33, stored.len() / 33, &key)
+    has_key(stored, PAIR_SIZE, stored.len() / PAIR_SIZE, &key)
 }
 
 fn is_wanted(table: &[u8], count: usize, stored: &[u8], typeid: u8, id: &[u8]) -> bool
-    requires { ⌜ (length (now id) ≡ 32) × ((count * 54 ≤ length (now table)) × (pairsFit (now stored) ≡ true)) ⌝ }
-    requires { ⌜ rising 32 (entries 54 count (now table)) ≡ true ⌝ }
+    requires { ⌜ (length (now id) ≡ idSize) × ((count * recordSize ≤ length (now table)) × (pairsFit (now stored) ≡ true)) ⌝ }
+    requires { ⌜ rising idSize (entries recordSize count (now table)) ≡ true ⌝ }
     ensures { λ r. ⌜ r ≡ not (isPending (now (id .entry)) (requestsIn count (now (table .entry)))) && not (model.isStored (pairsIn (now (stored .entry))) typeid (now (id .entry))) ⌝ }
 {
     if is_pending(table, count, id) {
@@ -66,20 +70,20 @@ pub fn wanted(
     ids: &[u8],
     rest: &mut [u8],
 ) -> usize
-    requires { ⌜ (length (now ids) % 32 ≡ 0) × ((length (now ids) ≤ length (now rest)) × (count * 54 ≤ length (now table))) ⌝ }
-    requires { ⌜ rising 32 (entries 54 count (now table)) ≡ true ⌝ }
+    requires { ⌜ (length (now ids) % idSize ≡ 0) × ((length (now ids) ≤ length (now rest)) × (count * recordSize ≤ length (now table))) ⌝ }
+    requires { ⌜ rising idSize (entries recordSize count (now table)) ≡ true ⌝ }
     requires { ⌜ pairsFit (now stored) ≡ true ⌝ }
     ensures { λ _. ⌜ now (rest .exit) ≡ overwritten 0 (joined (model.wanted (requestsIn count (now (table .entry))) typeid (pairsIn (now (stored .entry))) (idsIn (now (ids .entry))))) (now (rest .entry)) ⌝ }
     ensures { λ r. ⌜ r ≡ length (model.wanted (requestsIn count (now (table .entry))) typeid (pairsIn (now (stored .entry))) (idsIn (now (ids .entry)))) ⌝ }
 {
-    let number = ids.len() / 32;
+    let number = ids.len() / ID_SIZE;
     let mut kept = 0;
     let mut i = 0;
     while i < number {
-        let start = i * 32;
-        let end = start + 32;
+        let start = i * ID_SIZE;
+        let end = start + ID_SIZE;
         if is_wanted(table, count, stored, typeid, &ids[start..end]) {
-            spans::moving::overwrite(rest, kept * 32, &ids[start..end]);
+            spans::moving::overwrite(rest, kept * ID_SIZE, &ids[start..end]);
             kept += 1;
         }
         i += 1;

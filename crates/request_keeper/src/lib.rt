@@ -5,9 +5,9 @@
 ghost use mathlib.Core.Path.{_≡_};
 ghost use Rattle.model.specs.Calls.{open', step, question};
 ghost use Rattle.step.specs.Answers.{answerOf};
-use step::finish::Answer;
 use plan::Call;
 use settings::Settings;
+use step::finish::Answer;
 
 // A fresh core in an area of 65,536 bytes; nothing of the old bytes survives. Answers 0, or 1 with the area untouched.
 #[no_mangle]

@@ -13,20 +13,21 @@ use Rattle.model.specs.Sections.{Item}
 use Rattle.commands.proofs.RecordedLaws.{peer-read, type-read}
 use Rattle.retries.specs.Items.{itemOf, itemAt, itemsAt, alike, span}
 use Rattle.retries.specs.Batches.{batchAt}
+use Rattle.model.specs.Layout.{idSize, recordSize}
 
 -- ---- what is read
 
 module _ (t : List ℕ) where
-  pub item-type : (place : ℕ) → fromBe (take 2 (drop (place * 54 + 40) t)) ≡ itemAt t place .typeId
+  pub item-type : (place : ℕ) → fromBe (take 2 (drop (place * recordSize + 40) t)) ≡ itemAt t place .typeId
   unfolding itemAt itemOf
   item-type place = type-read place t
 
-  pub item-peer : (place : ℕ) → fromBe (take 8 (drop (place * 54 + 32) t)) ≡ itemAt t place .peer
+  pub item-peer : (place : ℕ) → fromBe (take 8 (drop (place * recordSize + idSize) t)) ≡ itemAt t place .peer
   unfolding itemAt itemOf
   item-peer place = peer-read place t
 
-  pub same-batch : (p q p′ q′ a b c d : ℕ) → p′ ≡ p → q′ ≡ q → a ≡ fromBe (take 2 (drop (p′ * 54 + 40) t)) → b ≡ fromBe (take 2 (drop (q′ * 54 + 40) t))
-      → c ≡ fromBe (take 8 (drop (p′ * 54 + 32) t)) → d ≡ fromBe (take 8 (drop (q′ * 54 + 32) t)) → eqb a b && eqb c d ≡ alike (itemAt t p) (itemAt t q)
+  pub same-batch : (p q p′ q′ a b c d : ℕ) → p′ ≡ p → q′ ≡ q → a ≡ fromBe (take 2 (drop (p′ * recordSize + 40) t)) → b ≡ fromBe (take 2 (drop (q′ * recordSize + 40) t))
+      → c ≡ fromBe (take 8 (drop (p′ * recordSize + idSize) t)) → d ≡ fromBe (take 8 (drop (q′ * recordSize + idSize) t)) → eqb a b && eqb c d ≡ alike (itemAt t p) (itemAt t q)
   unfolding alike
   same-batch p q p′ q′ a b c d ep eq ea eb ec ed =
       let fa : a ≡ itemAt t p .typeId = ea ∙ rw ep (item-type p) in
@@ -58,7 +59,7 @@ module _ (t : List ℕ) (x : Item) (places : List ℕ) (j : ℕ) where
 -- ---- one batch by value
 
 pub batch-as : (t places : List ℕ) (first place target typeid end : ℕ) → place ≡ getD places first 0
-    → target ≡ fromBe (take 8 (drop (place * 54 + 32) t)) → typeid ≡ fromBe (take 2 (drop (place * 54 + 40) t))
+    → target ≡ fromBe (take 8 (drop (place * recordSize + idSize) t)) → typeid ≡ fromBe (take 2 (drop (place * recordSize + 40) t))
     → end ≡ first + suc (span (alike (itemAt t (getD places first 0))) (itemsAt t (drop (first + 1) places)))
     → (target ≡ batchAt t places first .target) × ((typeid ≡ batchAt t places first .typeid) × (end - first ≡ batchAt t places first .count))
 unfolding batchAt

@@ -35,6 +35,7 @@ use Rattle.lending.proofs.LendLaws.{lies-in, lies-out}
 use Rattle.retries.specs.declared.batches.Batch.{Batch}
 use Rattle.retries.proofs.batches.Batch as T
 use Rattle.retries.proofs.batches.Batch.Laws as T′
+use Rattle.model.specs.Layout.{idSize}
 
 abbrev pub mach : Batch → Val
 mach v = vstruct (vcons (vint w64 (v .target)) (vcons (vint w8 (v .typeid)) (vcons (vint w64 (v .first)) (vcons (vint w64 (v .count)) vnil))))
@@ -42,7 +43,7 @@ mach v = vstruct (vcons (vint w64 (v .target)) (vcons (vint w8 (v .typeid)) (vco
 abbrev pub list-val : List Batch → Val
 list-val xs = only (array-vals (LL.vals T.the-type T′.the-laws) xs)
 
-pub place-fits : (n i : ℕ) → Room T.the-row n → i < n → i * 32 < 2 ^ 64
+pub place-fits : (n i : ℕ) → Room T.the-row n → i < n → i * idSize < 2 ^ 64
 place-fits n i room within = omega (arith, room .1, within)
 
 -- an array of batches as a field of a struct: the field's relation is at the tuples of the batches' fields, which own the same by computation

@@ -6,12 +6,13 @@ use lib.ListN.{length}
 use lib.Dec.{eqb}
 use Rattle.fields.specs.Entries.{entry}
 use Rattle.model.specs.Delivery.{Request}
-use Rattle.model.specs.Image.{recordSize, requestOf}
+use Rattle.model.specs.Image.{requestOf}
 use Rattle.model.specs.Sections.{Item}
+use Rattle.model.specs.Layout.{recordSize}
 
 -- a record stands at the place, of a type of one byte
 abbrev pub Asked : List ℕ → ℕ → Type 0
-Asked table place = (place * 54 + 54 ≤ length table) × (requestOf (entry recordSize place table) .typeId < 256)
+Asked table place = (place * recordSize + recordSize ≤ length table) × (requestOf (entry recordSize place table) .typeId < 256)
 
 -- a pending request as an item to ask its peer for
 unfoldable pub itemOf : Request → Item

@@ -8,6 +8,10 @@ ghost use lib.ListN.{length, drop, getD};
 ghost use Rattle.fields.specs.Facts.{All};
 ghost use Rattle.retries.specs.Items.{Asked, itemAt, itemsAt, alike, span};
 ghost use Rattle.retries.specs.Batches.{batchAt, batchesIn, filledWith};
+ghost use Rattle.model.specs.Layout.{recordSize};
+ghost use Rattle.model.specs.Protocol.{trackedLimit};
+use model::layout::ID_SIZE;
+use model::layout::RECORD_SIZE;
 
 // "each a target, a type, a first place and a count"
 pub struct Batch {
@@ -25,13 +29,13 @@ pub struct Batches {
 
 // Whether the records at two places go into one batch.
 fn same_batch(table: &[u8], one: u16, other: u16) -> bool
-    requires { ⌜ (one * 54 + 54 ≤ length (now table)) × (other * 54 + 54 ≤ length (now table)) ⌝ }
+    requires { ⌜ (one * recordSize + recordSize ≤ length (now table)) × (other * recordSize + recordSize ≤ length (now table)) ⌝ }
     ensures { λ r. ⌜ r ≡ alike (itemAt (now (table .entry)) one) (itemAt (now (table .entry)) other) ⌝ }
 {
-    let a = order::places::wide(one) * 54;
-    let b = order::places::wide(other) * 54;
+    let a = order::places::wide(one) * RECORD_SIZE;
+    let b = order::places::wide(other) * RECORD_SIZE;
     (fields::read_u16(table, a + 40) == fields::read_u16(table, b + 40))
-        & (fields::read_u64(table, a + 32) == fields::read_u64(table, b + 32))
+        & (fields::read_u64(table, a + ID_SIZE) == fields::read_u64(table, b + ID_SIZE))
 }
 
 // Where the batch that starts at `first` ends.
@@ -55,9 +59,9 @@ pub fn next_batch(table: &[u8], places: &[u16], first: usize) -> Batch
     ensures { λ r. ⌜ r ≡ batchAt (now (table .entry)) (now (places .entry)) first ⌝ }
 {
     let end = batch_end(table, places, first);
-    let at = order::places::wide(places[first]) * 54;
+    let at = order::places::wide(places[first]) * RECORD_SIZE;
     Batch {
-        target: fields::read_u64(table, at + 32),
+        target: fields::read_u64(table, at + ID_SIZE),
         typeid: fields::read_u16(table, at + 40) as u8,
         first,
         count: end - first,
@@ -83,7 +87,7 @@ pub fn fill(batches: &mut [Batch], table: &[u8], places: &[u16]) -> usize
 
 // The same for a list by value: it is lent for the call.
 pub fn grouped(list: [Batch; 1024], table: &[u8], places: &[u16]) -> Batches
-    requires { ⌜ All (Asked (now table)) (now places) × (length (now places) ≤ 1024) ⌝ }
+    requires { ⌜ All (Asked (now table)) (now places) × (length (now places) ≤ trackedLimit) ⌝ }
     ensures { λ r. ⌜ (r .list ≡ filledWith (batchesIn (now (table .entry)) (now (places .entry))) list)
         × ((r .count ≡ length (batchesIn (now (table .entry)) (now (places .entry)))) × (r .count ≤ length (now (places .entry)))) ⌝ }
 {

@@ -15,7 +15,7 @@ use Rattle.model.specs.Settings.{Settings, mostRequests}
 use Rattle.model.specs.Protocol as protocol
 use Rattle.model.specs.Delivery.{Request}
 use Rattle.model.specs.State.{State}
-use Rattle.model.specs.Image.{idSize, encode, decode, pendingOf, evictedOf, pendingCount, evictedCount, wellFormed}
+use Rattle.model.specs.Image.{encode, decode, pendingOf, evictedOf, pendingCount, evictedCount, wellFormed}
 use Rattle.model.proofs.Well.{Well}
 use Rattle.model.proofs.FormedLaws.{formed}
 use Rattle.model.proofs.ImageLaws.{Sized, well-sized, stalledBytes, stalledFree, fromPending, length-stalled, stalled-end, drop-to-stalled, drop-to-region}
@@ -28,12 +28,13 @@ use Rattle.plan.specs.declared.Call.{Call}
 use Rattle.plan.specs.Plans.{numbersOf, callOf}
 use Rattle.work.specs.Worked.{regionOf, Tracked, Given}
 use Rattle.step.specs.Stalling.{placesOf}
+use Rattle.model.specs.Layout.{areaSize, idSize, regionAt}
 
 most-narrow : (settings : Settings) (typeId : ℕ) → settings .maxChecks < 2 ^ 32 → mostRequests settings typeId < 2 ^ 32
 unfolding mostRequests
 most-narrow settings typeId h = either (λ (n : ℕ). n < 2 ^ 32) (protocol.isTransaction typeId) 1 (max 1 (settings .maxChecks)) (omega arith) (omega arith)
 
-module _ (area : List ℕ) (l : length area ≡ 65536) (f : Bytes area) (ok : wellFormed area ≡ true) where
+module _ (area : List ℕ) (l : length area ≡ areaSize) (f : Bytes area) (ok : wellFormed area ≡ true) where
   abbrev state : State
   state = decode area
 
@@ -46,9 +47,9 @@ module _ (area : List ℕ) (l : length area ≡ 65536) (f : Bytes area) (ok : we
   pub area-encode : encode state ≡ area
   area-encode = encode-decode area l f ok
 
-  pub region-held : drop 2560 area ≡ regionOf (state .pending) (state .sync .evicted)
+  pub region-held : drop regionAt area ≡ regionOf (state .pending) (state .sync .evicted)
   unfolding regionOf
-  region-held = ap (drop 2560) (sym area-encode) ∙ drop-to-region state area-sized
+  region-held = ap (drop regionAt) (sym area-encode) ∙ drop-to-region state area-sized
 
   pub places-held : take 2048 (drop 512 area) ≡ placesOf (state .sync .stalledPeers)
   unfolding placesOf
@@ -60,15 +61,15 @@ module _ (area : List ℕ) (l : length area ≡ 65536) (f : Bytes area) (ok : we
       ap (drop 512) (sym area-encode) ∙ drop-to-stalled state area-sized ∙ sym (append-assoc (stalledBytes state) (zeros (stalledFree state)) (fromPending state)) in
       ap (take 2048) d ∙ take-at places (fromPending state) 2048 n
 
-  evicted-held : state .sync .evicted ≡ evictedIn (headIn area .evicted) (drop 2560 area)
+  evicted-held : state .sync .evicted ≡ evictedIn (headIn area .evicted) (drop regionAt area)
   unfolding decode evictedOf headIn
   evicted-held =
       let few : pendingCount area + evictedCount area ≤ trackedLimit = formed area ok .tracked in
-      let n : 2560 + (length (drop 2560 area) - evictedCount area * idSize) ≡ 65536 - evictedCount area * idSize = rw (length-drop 2560 area) (omega arith) in
-      rw (drop-drop (length (drop 2560 area) - evictedCount area * idSize) 2560 area, n)
+      let n : regionAt + (length (drop regionAt area) - evictedCount area * idSize) ≡ areaSize - evictedCount area * idSize = rw (length-drop regionAt area) (omega arith) in
+      rw (drop-drop (length (drop regionAt area) - evictedCount area * idSize) regionAt area, n)
 
   pub area-given : (call : Call) (ids continuation stored peers view : List ℕ)
-      → Given (headIn area) (drop 2560 area) call ids stored peers view state (callOf call ids continuation stored peers view)
+      → Given (headIn area) (drop regionAt area) call ids stored peers view state (callOf call ids continuation stored peers view)
   unfolding decode pendingOf headIn callOf numbersOf
   area-given call ids continuation stored peers view =
       record {
@@ -82,13 +83,13 @@ module _ (area : List ℕ) (l : length area ≡ 65536) (f : Bytes area) (ok : we
         itsView = refl;
       }
 
-  pub area-tracked : (clock : ℕ) → state .lastClock ≤ clock → Tracked (headIn area) clock (drop 2560 area)
+  pub area-tracked : (clock : ℕ) → state .lastClock ≤ clock → Tracked (headIn area) clock (drop regionAt area)
   unfolding decode pendingOf headIn
   area-tracked clock later =
       let w : Well state = area-well in
-      let rs : List Request = requestsIn (pendingCount area) (drop 2560 area) in
+      let rs : List Request = requestsIn (pendingCount area) (drop regionAt area) in
       record {
-        size = rw (length-drop 2560 area) (omega arith);
+        size = rw (length-drop regionAt area) (omega arith);
         held = region-held ∙ ap (regionOf rs) evicted-held;
         few = formed area ok .tracked;
         order = formed area ok .idsRise;

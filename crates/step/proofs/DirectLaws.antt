@@ -10,7 +10,7 @@ use Rattle.fields.specs.Facts.{Bytes}
 use Rattle.fields.specs.Overwrite.{overwritten}
 use Rattle.fields.proofs.OverwriteLaws.{length-overwritten, drop-after}
 use Rattle.fields.proofs.EntriesLaws.{length-entries}
-use Rattle.model.specs.Image.{decode, idSize}
+use Rattle.model.specs.Image.{decode}
 use Rattle.model.specs.Lists.{idsIn}
 use Rattle.model.specs.Calls as calls
 use Rattle.model.specs.Demand3.{InWidth}
@@ -34,6 +34,7 @@ use Rattle.step.proofs.AreaLaws.{area-well}
 use Rattle.step.proofs.FillingLaws.{few-fit}
 use Rattle.step.proofs.EndLaws.{untouched, full-fails, done-fits}
 use Rattle.step.proofs.StepLaws.{too-stalled, finishes}
+use Rattle.model.specs.Layout.{idSize, mostBytes, regionAt}
 
 -- what is answered where there is room
 performed : (at batch : ℕ) (w : Worked) → fits w ≡ true
@@ -82,8 +83,8 @@ module _ (area commands : List ℕ) (c : calls.Call) (p : Plan) (g : givenRefusa
   pub direct-stalled : 256 < p .head .stalled → untouched area commands c g 11 ≡ calls.step area commands c
   direct-stalled = too-stalled area commands c p g f seen _ (performed 0 0 w room)
 
-  module _ (counts : Counts) (d : Finished counts ≡ performedAs 0 0 w) (l : p .head .stalled ≤ 256) (width : InWidth c) (few : counts .at ≤ 49152) where
-    pub direct-finishes : (image out state′ commands′ : List ℕ) (answer : calls.Answer) → take 2560 image ≡ take 2560 area → drop 2560 image ≡ regionOf (w .pending) (w .evicted)
+  module _ (counts : Counts) (d : Finished counts ≡ performedAs 0 0 w) (l : p .head .stalled ≤ 256) (width : InWidth c) (few : counts .at ≤ mostBytes) where
+    pub direct-finishes : (image out state′ commands′ : List ℕ) (answer : calls.Answer) → take regionAt image ≡ take regionAt area → drop regionAt image ≡ regionOf (w .pending) (w .evicted)
         → out ≡ overwritten 0 (sentBytes 0 (w .sendings)) commands
         → length (sentBytes (counts .batch) (said (listedPeer (p .says)))) ≤ 16
         → ((peers : List ℕ) → length peers ≡ head .stalled → take 2048 (drop 512 image) ≡ placesOf peers

@@ -13,7 +13,7 @@ use Rattle.fields.specs.Entries.{joined}
 use Rattle.fields.proofs.ZeroLaws.{length-zeros}
 use Rattle.fields.proofs.OverwriteLaws.{drop-take}
 use Rattle.model.specs.State.{State}
-use Rattle.model.specs.Image.{encode, peerSize}
+use Rattle.model.specs.Image.{encode}
 use Rattle.model.proofs.ImageLaws.{Sized, headerFree, fromStalled, take-header, drop-header}
 use Rattle.image.specs.declared.head.Head.{Head}
 use Rattle.image.specs.Heads.{headBytes, headOf}
@@ -23,10 +23,11 @@ use Rattle.work.specs.Worked.{regionOf}
 use Rattle.step.specs.Stalling.{placesOf, stalledThen}
 use Rattle.step.proofs.PlacesLaws.{Stalls}
 use Rattle.step.specs.Finished.{completed}
+use Rattle.model.specs.Layout.{areaSize, peerSize, regionAt}
 
 -- ---- header and places written into the image
 
-pub completed-by : (h : Head) (places image : List ℕ) → length image ≡ 65536 → length places ≡ 2048
+pub completed-by : (h : Head) (places image : List ℕ) → length image ≡ areaSize → length places ≡ 2048
     → overwritten 0 (headBytes h) (putMid 512 2048 image places) ≡ completed h places image
 unfolding overwritten completed
 completed-by h places image l n =
@@ -38,18 +39,18 @@ completed-by h places image l n =
     let e : drop 74 front ≡ take 438 (drop 74 image) = drop-take 74 438 image in
     rw (a, d, e, drop-drop 2048 512 image)
 
-pub completes : (stalling : Stalling) (count : ℕ) (h : Head) (image places image′ : List ℕ) → length image ≡ 65536 → length places ≡ length (midOf 512 2048 image)
+pub completes : (stalling : Stalling) (count : ℕ) (h : Head) (image places image′ : List ℕ) → length image ≡ areaSize → length places ≡ length (midOf 512 2048 image)
     → Stalls stalling count (midOf 512 2048 image) places → image′ ≡ overwritten 0 (headBytes h) (putMid 512 2048 image places)
     → (peers : List ℕ) → length peers ≡ count → take 2048 (drop 512 image) ≡ placesOf peers → image′ ≡ completed h (placesOf (stalledThen stalling peers)) image
 completes stalling count h image places image′ l n s w peers m e =
-    let k : length places ≡ 2048 = n ∙ mid-len 512 2560 image (omega arith) in
+    let k : length places ≡ 2048 = n ∙ mid-len 512 regionAt image (omega arith) in
     w ∙ completed-by h places image l k ∙ ap (λ (x : List ℕ). completed h x image) (s peers m e)
 
 -- ---- the image of a state
 
 pub completed-encode : (st st′ : State) (z : Sized st) (z′ : Sized st′) (image : List ℕ)
     → take 438 (drop 74 image) ≡ take 438 (drop 74 (encode st))
-    → drop 2560 image ≡ regionOf (st′ .pending) (st′ .sync .evicted)
+    → drop regionAt image ≡ regionOf (st′ .pending) (st′ .sync .evicted)
     → completed (headOf st′) (placesOf (st′ .sync .stalledPeers)) image ≡ encode st′
 unfolding completed placesOf regionOf
 completed-encode st st′ z z′ image e r =

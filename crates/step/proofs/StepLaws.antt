@@ -50,6 +50,7 @@ use Rattle.step.proofs.AreaLaws.{area-well, area-encode, places-held}
 use Rattle.step.proofs.CarriedLaws.{carried-pending, carried-evicted, carried-bytes, carried-retried, carried-abandoned, carried-forgotten, carried-fresh, carried-fits, outcome-is, seen-is, stalled-is, stalled-count, head-after}
 use Rattle.step.proofs.FinishedLaws.{completed-encode}
 use Rattle.step.proofs.EndLaws.{untouched, few, ends-9, ends-10, ends-11, passes, ends-finished, full-fails, done-fits}
+use Rattle.model.specs.Layout.{areaSize, mostBytes, regionAt}
 
 -- ---- a part of two lists that begin alike, and records by their fields
 
@@ -93,7 +94,7 @@ module _ (st : State) (c : calls.Call) (p : Plan) where
   fresh-few = either (λ (n : ℕ). n ≤ length (st .sync .evicted)) (isCheckBy (p .work)) (length (st .sync .evicted)) 0 (omega arith) (omega arith)
 
 abbrev Few : Counts → Type 0
-Few counts = (counts .pending ≤ 1024) × ((counts .evicted ≤ 1024) × ((counts .retried ≤ 1024) × ((counts .fresh ≤ 1024) × ((counts .abandoned ≤ 1024) × (counts .forgotten ≤ 1024)))))
+Few counts = (counts .pending ≤ trackedLimit) × ((counts .evicted ≤ trackedLimit) × ((counts .retried ≤ trackedLimit) × ((counts .fresh ≤ trackedLimit) × ((counts .abandoned ≤ trackedLimit) × (counts .forgotten ≤ trackedLimit)))))
 
 stalled-then : (st : State) (c : calls.Call) (s : Stalling) (peers : List ℕ) → st .sync .stalledPeers ≡ peers → stalledThen s peers ≡ stalledBy st c s
 stalled-then st c Stay peers e = sym e
@@ -152,8 +153,8 @@ module _ (area commands : List ℕ) (c : calls.Call) (p : Plan) (g : givenRefusa
         counts-few : Few counts
         unfolding fits carriedBy workedBy
         counts-few =
-            let t : length (old .pending) + length (old .sync .evicted) ≤ 1024 = well .tracked in
-            let u : length (w .pending) + length (w .evicted) ≤ 1024 = leb-true (length (w .pending) + length (w .evicted)) trackedLimit (done-fits 0 0 w counts d .0) in
+            let t : length (old .pending) + length (old .sync .evicted) ≤ trackedLimit = well .tracked in
+            let u : length (w .pending) + length (w .evicted) ≤ trackedLimit = leb-true (length (w .pending) + length (w .evicted)) trackedLimit (done-fits 0 0 w counts d .0) in
             rw counts-are
             (omega arith, (omega arith, (omega (arith, count-few old c p delivery.retried), (omega (arith, fresh-few old c p), (omega (arith, count-few old c p delivery.abandoned), omega (arith, count-few old c p delivery.forgotten))))))
 
@@ -168,7 +169,7 @@ module _ (area commands : List ℕ) (c : calls.Call) (p : Plan) (g : givenRefusa
         end-is : counts .at + length (sentBytes (counts .batch) (said (listedPeer (p .says)))) ≡ length (stepBytes old (argsOf c))
         end-is = rw (bytes-are, length-append (sentBytes 0 (w .sendings)), at-is)
 
-        place-few : counts .at ≤ 49152
+        place-few : counts .at ≤ mostBytes
         place-few = omega (arith, end-is, step-bytes-most old c well width not-refused-call)
 
         -- the stalled set before and after
@@ -184,13 +185,13 @@ module _ (area commands : List ℕ) (c : calls.Call) (p : Plan) (g : givenRefusa
             omega (arith, stalled-count old c p f)
 
         -- what finishing requires
-        pub finish-ready : (head : Head) → head ≡ headIn area → ((stalledCountThen (p .stalling) (head .stalled) ≤ 256) × (counts .at ≤ 49152)) × Few counts
+        pub finish-ready : (head : Head) → head ≡ headIn area → ((stalledCountThen (p .stalling) (head .stalled) ≤ 256) × (counts .at ≤ mostBytes)) × Few counts
         finish-ready head h = ((room-stalled head h, place-few), counts-few)
 
         -- the image
-        module _ (image : List ℕ) (front : take 2560 image ≡ take 2560 area) (back : drop 2560 image ≡ regionOf (w .pending) (w .evicted)) where
+        module _ (image : List ℕ) (front : take regionAt image ≡ take regionAt area) (back : drop regionAt image ≡ regionOf (w .pending) (w .evicted)) where
           places-kept : take 2048 (drop 512 image) ≡ placesOf (old .sync .stalledPeers)
-          places-kept = part-same 512 2048 2560 image area (omega arith) front ∙ places-held area (given-facts .stateSize) bytes (given-facts .image)
+          places-kept = part-same 512 2048 regionAt image area (omega arith) front ∙ places-held area (given-facts .stateSize) bytes (given-facts .image)
 
           image-finished : completed (counted (p .head) (counts .pending) (counts .evicted)) (placesOf (stalledThen (p .stalling) (old .sync .stalledPeers))) image ≡ encode new
           image-finished =
@@ -199,13 +200,13 @@ module _ (area commands : List ℕ) (c : calls.Call) (p : Plan) (g : givenRefusa
               let s : stalledThen (p .stalling) (old .sync .stalledPeers) ≡ new .sync .stalledPeers = stalled-then old c (p .stalling) (old .sync .stalledPeers) refl ∙ stalled-is old c p f in
               let r : regionOf (w .pending) (w .evicted) ≡ regionOf (new .pending) (new .sync .evicted) = rw (carried-pending old c p f, carried-evicted old c p f) in
               let e₁ : take 438 (drop 74 image) ≡ take 438 (drop 74 (encode old)) =
-              part-same 74 438 2560 image area (omega arith) front ∙ ap (λ (x : List ℕ). take 438 (drop 74 x)) (sym (area-encode area (given-facts .stateSize) bytes (given-facts .image))) in
+              part-same 74 438 regionAt image area (omega arith) front ∙ ap (λ (x : List ℕ). take 438 (drop 74 x)) (sym (area-encode area (given-facts .stateSize) bytes (given-facts .image))) in
               ap (λ (x : Head). completed x (placesOf (stalledThen (p .stalling) (old .sync .stalledPeers))) image) h
               ∙ ap (λ (x : List ℕ). completed (headOf new) (placesOf x) image) s
               ∙ completed-encode old new (well-sized old well) (well-sized new (step-well old c well width not-refused-call)) image e₁ (back ∙ r)
 
         -- the commands
-        commands-finished : (out out₁ commands′ : List ℕ) → 65536 ≤ length out → out₁ ≡ overwritten 0 (sentBytes 0 (w .sendings)) out
+        commands-finished : (out out₁ commands′ : List ℕ) → areaSize ≤ length out → out₁ ≡ overwritten 0 (sentBytes 0 (w .sendings)) out
             → commands′
             ≡ take (counts .at + length (sentBytes (counts .batch) (said (listedPeer (p .says))))) (overwritten (counts .at) (sentBytes (counts .batch) (said (listedPeer (p .says)))) out₁)
             ++ drop (counts .at + length (sentBytes (counts .batch) (said (listedPeer (p .says))))) commands
@@ -228,8 +229,8 @@ module _ (area commands : List ℕ) (c : calls.Call) (p : Plan) (g : givenRefusa
             e ∙ same-answer (outcome-is old c p f) retried′ fresh′ abandoned′ forgotten′ pending′ evicted′ end-is
 
         -- Both areas and the answer.
-        pub finishes : (head : Head) → head ≡ headIn area → (image out out₁ state′ commands′ : List ℕ) (answer : calls.Answer) → take 2560 image ≡ take 2560 area → drop 2560 image ≡ regionOf (w .pending) (w .evicted)
-            → 65536 ≤ length out → out₁ ≡ overwritten 0 (sentBytes 0 (w .sendings)) out
+        pub finishes : (head : Head) → head ≡ headIn area → (image out out₁ state′ commands′ : List ℕ) (answer : calls.Answer) → take regionAt image ≡ take regionAt area → drop regionAt image ≡ regionOf (w .pending) (w .evicted)
+            → areaSize ≤ length out → out₁ ≡ overwritten 0 (sentBytes 0 (w .sendings)) out
             → ((peers : List ℕ) → length peers ≡ head .stalled → take 2048 (drop 512 image) ≡ placesOf peers
             → state′ ≡ completed (counted (p .head) (counts .pending) (counts .evicted)) (placesOf (stalledThen (p .stalling) peers)) image)
             → commands′

@@ -29,6 +29,7 @@ use Rattle.refusals.specs.Refusals.{givenRefusal}
 use Rattle.refusals.proofs.RefusalLaws.{Given, given}
 use Rattle.refusals.proofs.ReadyLaws.{Ready, ready}
 use Rattle.step.proofs.AreaLaws.{area-tracked, area-given}
+use Rattle.model.specs.Layout.{areaSize, idListSize, idSize, regionAt}
 
 -- ---- the last part of a list
 
@@ -68,18 +69,18 @@ module _ (call : Call) (ids continuation stored peers view : List ℕ) where
     facts : Given area (length commands) c
     facts = given area (length commands) c g
 
-    pub area-long : length area ≡ 65536
+    pub area-long : length area ≡ areaSize
     area-long = facts .stateSize
 
-    pub commands-long : 65536 ≤ length commands
+    pub commands-long : areaSize ≤ length commands
     commands-long = facts .commandsSize
 
-    pub lists-whole : (length ids % 32 ≡ 0) × ((length ids ≤ 32768) × (continuationFits continuation ≡ true))
+    pub lists-whole : (length ids % idSize ≡ 0) × ((length ids ≤ idListSize) × (continuationFits continuation ≡ true))
     unfolding callOf idsFit listFits
     lists-whole =
-        let whole : Bool = eqb (length ids % 32) 0 in
-        let few : Bool = leb (length ids) 32768 in
-        (eqb-true (length ids % 32) 0 (and-left whole few (facts .ids)), (leb-true (length ids) 32768 (and-right whole few (facts .ids)), facts .continuation))
+        let whole : Bool = eqb (length ids % idSize) 0 in
+        let few : Bool = leb (length ids) idListSize in
+        (eqb-true (length ids % idSize) 0 (and-left whole few (facts .ids)), (leb-true (length ids) idListSize (and-right whole few (facts .ids)), facts .continuation))
 
     pub stored-fit : pairsFit stored ≡ true
     unfolding callOf
@@ -90,19 +91,19 @@ module _ (call : Call) (ids continuation stored peers view : List ℕ) where
     view-fits = facts .view
 
     module _ (bytes : Bytes area) (image : List ℕ) (head : Head) (e : image ≡ area) (h : head ≡ headIn area) where
-      region-is : midOf 2560 (length image - 2560) image ≡ drop 2560 area
-      region-is = tail-all 2560 image ∙ ap (drop 2560) e
+      region-is : midOf regionAt (length image - regionAt) image ≡ drop regionAt area
+      region-is = tail-all regionAt image ∙ ap (drop regionAt) e
 
-      pub work-tracked : Tracked head (call .clock) (midOf 2560 (length image - 2560) image)
+      pub work-tracked : Tracked head (call .clock) (midOf regionAt (length image - regionAt) image)
       unfolding callOf
       work-tracked = rw (region-is, h) (area-tracked area area-long bytes (facts .image) (call .clock) (facts .clock))
 
-      pub work-given : worked.Given head (midOf 2560 (length image - 2560) image) call ids stored peers view (decode area) c
+      pub work-given : worked.Given head (midOf regionAt (length image - regionAt) image) call ids stored peers view (decode area) c
       work-given = rw (region-is, h) (area-given area area-long bytes (facts .image) call ids continuation stored peers view)
 
     -- what a plan requires, and that it follows the model's
     module _ (head : Head) (h : head ≡ headIn area) where
-      pub plan-ready : ((viewFits view ≡ true) × ((length ids % 32 ≡ 0) × (length (take 2048 (drop 512 area)) ≡ 2048)))
+      pub plan-ready : ((viewFits view ≡ true) × ((length ids % idSize ≡ 0) × (length (take 2048 (drop 512 area)) ≡ 2048)))
           × ((head .stalled ≤ 256) × ((head .send .last ≤ call .clock) × (head .progress ≤ call .clock)))
       unfolding callOf
       plan-ready =

@@ -4,9 +4,9 @@ use mathlib.Core.List.{List, [], _∷_, _++_}
 use mathlib.Core.Option.{Option, none, some}
 use lib.ListN.{take, drop}
 use Rattle.model.specs.Requests.{Sending, syncInfo}
-use Rattle.model.specs.Image.{stalledAt, regionAt}
 use Rattle.image.specs.declared.head.Head.{Head}
 use Rattle.image.specs.Heads.{headBytes}
+use Rattle.model.specs.Layout.{regionAt, stalledAt}
 
 -- the sync info that goes out last, if one does
 abbrev pub said : Option ℕ → List Sending

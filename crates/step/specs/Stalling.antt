@@ -6,9 +6,9 @@ use Rattle.fields.specs.Number.{toBe}
 use Rattle.fields.specs.Zero.{zeros}
 use Rattle.fields.specs.Entries.{joined}
 use Rattle.model.specs.Protocol.{stalledLimit}
-use Rattle.model.specs.Image.{peerSize}
 use Rattle.plan.specs.declared.Stalling.{Stalling}
 use Rattle.plan.specs.declared.Stalling.the-variants.{Stay, Empty, Join}
+use Rattle.model.specs.Layout.{peerSize}
 
 -- the 256 places of the stalled set
 unfoldable pub placesOf : List ℕ → List ℕ

@@ -9,6 +9,7 @@ ghost use Rattle.image.specs.Heads.{headIn};
 ghost use Rattle.plan.specs.Plans.{callOf, Follows};
 ghost use Rattle.refusals.specs.Refusals.{givenRefusal};
 ghost use Rattle.step.specs.Answers.{answerOf};
+ghost use Rattle.model.specs.Layout.{areaSize};
 use crate::finish::Answer;
 use image::head::Head;
 use plan::Call;
@@ -17,7 +18,7 @@ use work::Performed;
 
 // Room for the commands of a step.
 fn room() -> [u8; 65536]
-    ensures { λ r. ⌜ length r ≡ 65536 ⌝ }
+    ensures { λ r. ⌜ length r ≡ areaSize ⌝ }
 {
     [0u8; 65536]
 }
@@ -38,7 +39,7 @@ fn work_in(
     view: &[u8],
 ) -> Answer
     requires { ⌜ givenRefusal (now state) (length (now commands)) (callOf call (now ids) (now continuation) (now stored) (now peers) (now view)) ≡ 0 ⌝ }
-    requires { ⌜ (now image ≡ now state) × ((65536 ≤ length (now out)) × (head ≡ headIn (now state))) ⌝ }
+    requires { ⌜ (now image ≡ now state) × ((areaSize ≤ length (now out)) × (head ≡ headIn (now state))) ⌝ }
     requires { ⌜ Follows (decode (now state)) (callOf call (now ids) (now continuation) (now stored) (now peers) (now view)) plan ⌝ }
     requires { ⌜ plan .seen ≡ true ⌝ }
     ensures { λ r. ⌜ record { answer = answerOf r; state = now (state .exit); commands = now (commands .exit) } ≡ calls.step (now (state .entry)) (now (commands .entry)) (callOf call (now (ids .entry)) (now (continuation .entry)) (now (stored .entry)) (now (peers .entry)) (now (view .entry))) ⌝ }

@@ -10,6 +10,7 @@ ghost use Rattle.plan.specs.Plans.{callOf, Follows};
 ghost use Rattle.refusals.specs.Refusals.{givenRefusal};
 ghost use Rattle.step.specs.Answers.{answerOf};
 ghost use Rattle.step.specs.Filling.{mayOverfill};
+ghost use Rattle.model.specs.Layout.{idSize};
 use crate::finish::Answer;
 use image::head::Head;
 use plan::Call;
@@ -32,7 +33,7 @@ pub fn step_directly(
     requires { ⌜ givenRefusal (now state) (length (now commands)) (callOf call (now ids) (now continuation) (now stored) (now peers) (now view)) ≡ 0 ⌝ }
     requires { ⌜ head ≡ headIn (now state) ⌝ }
     requires { ⌜ Follows (decode (now state)) (callOf call (now ids) (now continuation) (now stored) (now peers) (now view)) plan ⌝ }
-    requires { ⌜ (plan .seen ≡ true) × (mayOverfill (head .pending + head .evicted) (length (now ids) / 32) (plan .work) ≡ false) ⌝ }
+    requires { ⌜ (plan .seen ≡ true) × (mayOverfill (head .pending + head .evicted) (length (now ids) / idSize) (plan .work) ≡ false) ⌝ }
     ensures { λ r. ⌜ record { answer = answerOf r; state = now (state .exit); commands = now (commands .exit) } ≡ calls.step (now (state .entry)) (now (commands .entry)) (callOf call (now (ids .entry)) (now (continuation .entry)) (now (stored .entry)) (now (peers .entry)) (now (view .entry))) ⌝ }
 {
     let after = plan.head;

@@ -12,9 +12,10 @@ ghost use Rattle.commands.specs.Sent.{sentBytes};
 ghost use Rattle.step.specs.Answers.{answerOf};
 ghost use Rattle.step.specs.Stalling.{placesOf, stalledThen, stalledCountThen};
 ghost use Rattle.step.specs.Finished.{said, counted, completed};
+ghost use Rattle.model.specs.Layout.{areaSize, mostBytes};
+ghost use Rattle.model.specs.Protocol.{trackedLimit};
 use plan::Plan;
 use work::Counts;
-
 
 // Nine numbers, in the order of docs/LAYOUT.md.
 #[repr(C)]
@@ -74,9 +75,9 @@ pub fn settle(
     counts: Counts,
     none: &[u8],
 ) -> Answer
-    requires { ⌜ (length (now image) ≡ 65536) × (65536 ≤ length (now out)) ⌝ }
-    requires { ⌜ (length (now none) ≡ 0) × ((stalledCountThen (plan .stalling) count ≤ 256) × (counts .at ≤ 49152)) ⌝ }
-    requires { ⌜ (counts .pending ≤ 1024) × ((counts .evicted ≤ 1024) × ((counts .retried ≤ 1024) × ((counts .fresh ≤ 1024) × ((counts .abandoned ≤ 1024) × (counts .forgotten ≤ 1024))))) ⌝ }
+    requires { ⌜ (length (now image) ≡ areaSize) × (areaSize ≤ length (now out)) ⌝ }
+    requires { ⌜ (length (now none) ≡ 0) × ((stalledCountThen (plan .stalling) count ≤ 256) × (counts .at ≤ mostBytes)) ⌝ }
+    requires { ⌜ (counts .pending ≤ trackedLimit) × ((counts .evicted ≤ trackedLimit) × ((counts .retried ≤ trackedLimit) × ((counts .fresh ≤ trackedLimit) × ((counts .abandoned ≤ trackedLimit) × (counts .forgotten ≤ trackedLimit))))) ⌝ }
     ensures { λ _. ⌜ ((old : List ℕ) → length old ≡ count → take 2048 (drop 512 (now (image .entry))) ≡ placesOf old → now (image .exit) ≡ completed (counted (plan .head) (counts .pending) (counts .evicted)) (placesOf (stalledThen (plan .stalling) old)) (now (image .entry))) ⌝ }
     ensures { λ _. ⌜ now (out .exit) ≡ overwritten (counts .at) (sentBytes (counts .batch) (said (listedPeer (plan .says)))) (now (out .entry)) ⌝ }
     ensures { λ r. ⌜ answerOf r ≡ record { number = 0; outcome = plan .outcome; retried = counts .retried; fresh = counts .fresh; abandoned = counts .abandoned; forgotten = counts .forgotten; pending = counts .pending; evicted = counts .evicted; length = counts .at + length (sentBytes (counts .batch) (said (listedPeer (plan .says)))) } ⌝ }
@@ -100,9 +101,9 @@ pub fn finish(
     counts: Counts,
     none: &[u8],
 ) -> Answer
-    requires { ⌜ (length (now state) ≡ 65536) × ((length (now image) ≡ 65536) × ((65536 ≤ length (now commands)) × (65536 ≤ length (now out)))) ⌝ }
-    requires { ⌜ (length (now none) ≡ 0) × ((stalledCountThen (plan .stalling) count ≤ 256) × (counts .at ≤ 49152)) ⌝ }
-    requires { ⌜ (counts .pending ≤ 1024) × ((counts .evicted ≤ 1024) × ((counts .retried ≤ 1024) × ((counts .fresh ≤ 1024) × ((counts .abandoned ≤ 1024) × (counts .forgotten ≤ 1024))))) ⌝ }
+    requires { ⌜ (length (now state) ≡ areaSize) × ((length (now image) ≡ areaSize) × ((areaSize ≤ length (now commands)) × (areaSize ≤ length (now out)))) ⌝ }
+    requires { ⌜ (length (now none) ≡ 0) × ((stalledCountThen (plan .stalling) count ≤ 256) × (counts .at ≤ mostBytes)) ⌝ }
+    requires { ⌜ (counts .pending ≤ trackedLimit) × ((counts .evicted ≤ trackedLimit) × ((counts .retried ≤ trackedLimit) × ((counts .fresh ≤ trackedLimit) × ((counts .abandoned ≤ trackedLimit) × (counts .forgotten ≤ trackedLimit))))) ⌝ }
     ensures { λ _. ⌜ ((old : List ℕ) → length old ≡ count → take 2048 (drop 512 (now (image .entry))) ≡ placesOf old → now (state .exit) ≡ completed (counted (plan .head) (counts .pending) (counts .evicted)) (placesOf (stalledThen (plan .stalling) old)) (now (image .entry))) ⌝ }
     ensures { λ _. ⌜ now (commands .exit) ≡ take (counts .at + length (sentBytes (counts .batch) (said (listedPeer (plan .says))))) (overwritten (counts .at) (sentBytes (counts .batch) (said (listedPeer (plan .says)))) (now (out .entry))) ++ drop (counts .at + length (sentBytes (counts .batch) (said (listedPeer (plan .says))))) (now (commands .entry)) ⌝ }
     ensures { λ r. ⌜ answerOf r ≡ record { number = 0; outcome = plan .outcome; retried = counts .retried; fresh = counts .fresh; abandoned = counts .abandoned; forgotten = counts .forgotten; pending = counts .pending; evicted = counts .evicted; length = counts .at + length (sentBytes (counts .batch) (said (listedPeer (plan .says)))) } ⌝ }

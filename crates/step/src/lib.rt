@@ -17,6 +17,7 @@ ghost use Rattle.plan.specs.Plans.{callOf};
 ghost use Rattle.refusals.specs.Refusals.{givenRefusal};
 ghost use Rattle.step.specs.Answers.{answerOf};
 use crate::finish::Answer;
+use model::layout::ID_SIZE;
 use plan::Call;
 
 // A step that none of 1 to 8 refuses.
@@ -40,7 +41,7 @@ pub fn run(
     }
     let work = plan.work;
     let held = head.pending + head.evicted;
-    if crate::overfill::may_overfill(work, held, ids.len() / 32) {
+    if crate::overfill::may_overfill(work, held, ids.len() / ID_SIZE) {
         return crate::copied::work_out(
             state,
             commands,

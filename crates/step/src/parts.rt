@@ -8,6 +8,7 @@ ghost use Rattle.peers.specs.Peers.{listedPeer};
 ghost use Rattle.commands.specs.Sent.{sentBytes};
 ghost use Rattle.step.specs.Stalling.{placesOf, stalledThen, stalledCountThen};
 ghost use Rattle.step.specs.Finished.{said, counted, completed};
+ghost use Rattle.model.specs.Layout.{areaSize};
 use image::head::Head;
 use peers::Listed;
 use plan::Stalling;
@@ -27,7 +28,7 @@ pub fn say(out: &mut [u8], says: Listed, at: usize, batch: u16, none: &[u8]) -> 
 
 // The image after a step on whose scratch the work was done: stalled places, and the header with the counts.
 pub fn complete(image: &mut [u8], count: usize, stalling: Stalling, head: Head, counts: Counts)
-    requires { ⌜ (length (now image) ≡ 65536) × (stalledCountThen stalling count ≤ 256) ⌝ }
+    requires { ⌜ (length (now image) ≡ areaSize) × (stalledCountThen stalling count ≤ 256) ⌝ }
     ensures { λ _. ⌜ ((peers : List ℕ) → length peers ≡ count → take 2048 (drop 512 (now (image .entry))) ≡ placesOf peers → now (image .exit) ≡ completed (counted head (counts .pending) (counts .evicted)) (placesOf (stalledThen stalling peers)) (now (image .entry))) ⌝ }
 {
     crate::stalling::stall(&mut image[512..2560], count, stalling);

@@ -6,8 +6,8 @@ ghost use mathlib.Core.List.{List, [], _∷_, _++_};
 ghost use Prim.Native.Nat.{ℕ, _≤_, _<_};
 ghost use lib.ListN.{length};
 ghost use Rattle.step.specs.Stalling.{placesOf, stalledThen, stalledCountThen};
-use plan::Stalling;
 use peers::stalled::Stalled;
+use plan::Stalling;
 
 // A peer that joins stands behind those that were there.
 fn join(places: &mut [u8], count: usize, peer: u64)

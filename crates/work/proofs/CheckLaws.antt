@@ -22,7 +22,7 @@ use Rattle.model.specs.Requests.{Sending}
 use Rattle.model.specs.Sections.{Item}
 use Rattle.model.specs.Check.{retries, retrySendings}
 use Rattle.model.specs.Lists.{peersIn}
-use Rattle.model.specs.Image.{recordSize, requestOf}
+use Rattle.model.specs.Image.{requestOf}
 use Rattle.model.specs.Calls as calls
 use Rattle.model.proofs.ArgumentLaws.{peers-well}
 use Rattle.model.proofs.SendingLaws.{retries-sent-well, sendings-bytes, retries-weight, retries-count}
@@ -37,13 +37,14 @@ use Rattle.check_timeouts.specs.declared.check.Checked.{Checked}
 use Rattle.plan.specs.declared.Call.{Call}
 use Rattle.plan.specs.declared.Work.the-variants.{Check}
 use Rattle.plan.specs.Plans.{retriedBy}
-use Rattle.work.specs.Worked.{regionSize, regionOf, Tracked, Given, Worked, actedBy, countBy, workedBy, fits, performedAs, Performs}
+use Rattle.work.specs.Worked.{regionOf, Tracked, Given, Worked, actedBy, countBy, workedBy, fits, performedAs, Performs}
 use Rattle.work.specs.Checking.{checkedPending, checkedSendings, judgedCount, checkedCounts}
 use Rattle.work.specs.declared.Counts.{Counts}
 use Rattle.work.specs.declared.Performed.the-variants.{Done as Finished}
 use Rattle.work.proofs.RegionLaws.{Stands, tracked-stands, stands-size, stands-requests, stands-holding, stands-cleared}
 use Rattle.work.proofs.WorkedLaws.{length-requests, length-evicted, settings-given, clock-given, gate-given}
 use Rattle.work.proofs.RetriedLaws.{types-below, retries-few, retries-in-width, after-rising, after-length, after-few, after-recorded, below, types-at, retried-items}
+use Rattle.model.specs.Layout.{idSize, recordSize, regionSize}
 
 module _ (head : Head) (call : Call) (peers region : List ℕ) (t : Tracked head (call .clock) region) (f : Bytes region) (fp : Bytes peers) (k : call .clock < 2 ^ 64) where
   abbrev pending : List Request
@@ -96,10 +97,10 @@ module _ (head : Head) (call : Call) (peers region : List ℕ) (t : Tracked head
     pub table-size : length table ≡ regionSize
     table-size = stands-size after evicted table table-stands
 
-    pub places-inside : All (λ (place : ℕ). place * 54 + 54 ≤ length table) places
+    pub places-inside : All (λ (place : ℕ). place * recordSize + recordSize ≤ length table) places
     places-inside =
         rw hp
-        (all-weaker (λ (place : ℕ). place < length after) (λ (place : ℕ). place * 54 + 54 ≤ length table) (λ place h. omega (arith, table-size, table-stands .few))
+        (all-weaker (λ (place : ℕ). place < length after) (λ (place : ℕ). place * recordSize + recordSize ≤ length table) (λ place h. omega (arith, table-size, table-stands .few))
         (retriedPlaces settings (call .clock) pending 0) (below gate settings (call .clock) (peersIn peers) pending (stands .rise) table held))
 
     pub places-narrow : All (λ (place : ℕ). requestOf (entry recordSize place table) .typeId < 256) places
@@ -115,7 +116,7 @@ module _ (head : Head) (call : Call) (peers region : List ℕ) (t : Tracked head
         (ho : out′ ≡ overwritten at (sentBytes batch (retrySendings (cond gate (map (λ (place : ℕ). itemOf (requestOf (entry recordSize place table))) places) []))) out)
         (ha : at′ ≡ at + length (sentBytes batch (retrySendings (cond gate (map (λ (place : ℕ). itemOf (requestOf (entry recordSize place table))) places) []))))
         (hb : batch′ ≡ batch + length (retrySendings (cond gate (map (λ (place : ℕ). itemOf (requestOf (entry recordSize place table))) places) [])))
-        (hc : cleared ≡ overwritten (length table - head .evicted * 32) (zeros (head .evicted * 32)) table) where
+        (hc : cleared ≡ overwritten (length table - head .evicted * idSize) (zeros (head .evicted * idSize)) table) where
       cleared-is : cleared ≡ regionOf (checkedPending head call peers region) []
       unfolding checkedPending
       cleared-is = hc ∙ (rw (length-evicted (head .evicted) region) at (stands-cleared after evicted table table-stands .held))

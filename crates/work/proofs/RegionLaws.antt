@@ -18,7 +18,7 @@ use Rattle.fields.proofs.EntriesLaws.{Wide, length-entries, entries-wide, entri
 use Rattle.fields.proofs.RisingLaws.{rising-ascending, ascending-rising}
 use Rattle.model.specs.Protocol.{Id, trackedLimit}
 use Rattle.model.specs.Delivery.{Request, idsOf}
-use Rattle.model.specs.Image.{idSize, recordSize, requestOf, requestBytes}
+use Rattle.model.specs.Image.{requestOf, requestBytes}
 use Rattle.model.proofs.Well.{WellId, RisingIds}
 use Rattle.model.proofs.RecordLaws.{Recorded, records-wide, requests-of-records, records-rise, ids-rise}
 use Rattle.model.proofs.CommandLaws.{ids-wide}
@@ -26,7 +26,8 @@ use Rattle.image.specs.declared.head.Head.{Head}
 use Rattle.commands.specs.Pending.{requestsIn, holding}
 use Rattle.commands.proofs.RecordedLaws.{entries-recorded}
 use Rattle.delivery.specs.Region.{evictedIn, endingWith}
-use Rattle.work.specs.Worked.{regionSize, regionOf, Tracked}
+use Rattle.work.specs.Worked.{regionOf, Tracked}
+use Rattle.model.specs.Layout.{idSize, recordSize, regionSize}
 
 -- ---- the region of some records and ids
 

@@ -13,7 +13,6 @@ use Rattle.fields.proofs.EntriesLaws.{length-entries}
 use Rattle.model.specs.Protocol.{Id, isAmong, trackedLimit}
 use Rattle.model.specs.Delivery.{Request, markReceived, pendingAfterEviction, evictedAfterEviction, purgeAll, purgePeer}
 use Rattle.model.specs.State.{State}
-use Rattle.model.specs.Image.{idSize}
 use Rattle.model.specs.Sections.{batchesOf}
 use Rattle.model.specs.Check.{retrySendings}
 use Rattle.model.specs.Lists.{idsIn}
@@ -32,6 +31,7 @@ use Rattle.work.specs.Worked.{Tracked, Given, actedBy, countBy, workedBy
 use Rattle.work.specs.declared.Performed.the-variants.{Done as Finished, Full}
 use Rattle.work.proofs.RegionLaws.{Stands, stands-ending}
 use Rattle.work.proofs.WorkedLaws.{quiet, quiet-done, length-evicted, stands, taken-stands, kept-stands, taken-done, peer-given}
+use Rattle.model.specs.Layout.{idSize}
 
 -- ---- what each comes to
 
@@ -68,9 +68,9 @@ module _ (head : Head) (clock : ℕ) (region : List ℕ) (t : Tracked head clock
     abbrev grown : List Id
     grown = evictedAfterEviction (idsIn ids) evicted
 
-    length-grown : length grown ≡ head .evicted + length ids / 32
+    length-grown : length grown ≡ head .evicted + length ids / idSize
     unfolding evictedAfterEviction idsIn
-    length-grown = length-append evicted (idsIn ids) ∙ rw (length-evicted (head .evicted) region, length-entries idSize (length ids / 32) ids)
+    length-grown = length-append evicted (idsIn ids) ∙ rw (length-evicted (head .evicted) region, length-entries idSize (length ids / idSize) ids)
 
     grown-well : All WellId grown
     unfolding evictedAfterEviction
@@ -85,7 +85,7 @@ module _ (head : Head) (clock : ℕ) (region : List ℕ) (t : Tracked head clock
         stands-ending remaining evicted (holding (head .pending) remaining region) remaining-stands grown grown-well
         (rw (length-grown, length-evicted (head .evicted) region) (omega arith)) room
 
-    schedule-full : scheduled.Full ≡ scheduledAs 1024 remaining grown → Performs at batch (quiet remaining grown) out Full after out
+    schedule-full : scheduled.Full ≡ scheduledAs trackedLimit remaining grown → Performs at batch (quiet remaining grown) out Full after out
     unfolding scheduledAs performedAs fits
     schedule-full = go (leb (length remaining + length grown) trackedLimit) refl
       where
@@ -94,14 +94,14 @@ module _ (head : Head) (clock : ℕ) (region : List ℕ) (t : Tracked head clock
         go true e h = let z : _≡_ {A = ℕ} 0 1 = cc in absurd (omega arith)
         go false e h = record { answered = rw e; left = λ y. absurd (false≢true (sym e ∙ y)); written = λ y. absurd (false≢true (sym e ∙ y)) }
 
-    schedule-done : (left gone : ℕ) → scheduled.Pending left ≡ scheduledAs 1024 remaining grown → gone ≡ head .evicted + length ids / 32
-        → after ≡ regionThen 1024 (head .pending) remaining grown region
+    schedule-done : (left gone : ℕ) → scheduled.Pending left ≡ scheduledAs trackedLimit remaining grown → gone ≡ head .evicted + length ids / idSize
+        → after ≡ regionThen trackedLimit (head .pending) remaining grown region
         → Performs at batch (quiet remaining grown) out (Finished (record { pending = left; evicted = gone; retried = 0; fresh = 0; abandoned = 0; forgotten = 0; at = at; batch = batch })) after out
     unfolding scheduledAs regionThen
     schedule-done left gone = go (leb (length remaining + length grown) trackedLimit) refl
       where
         go : (b : Bool) → leb (length remaining + length grown) trackedLimit ≡ b → scheduled.Pending left ≡ cond b (scheduled.Pending (length remaining)) scheduled.Full
-            → gone ≡ head .evicted + length ids / 32
+            → gone ≡ head .evicted + length ids / idSize
             → after ≡ cond b (endingWith grown (holding (head .pending) remaining region)) region
             → Performs at batch (quiet remaining grown) out (Finished (record { pending = left; evicted = gone; retried = 0; fresh = 0; abandoned = 0; forgotten = 0; at = at; batch = batch })) after out
         go true e h k q =
@@ -137,14 +137,14 @@ module _ (head : Head) (call : Call) (region ids stored peers view : List ℕ) (
         (taken-done head clock region t f (purgePeer (head .peer) (requestsIn (head .pending) region)) at batch left after out (kept-stands head clock region t f (λ (r : Request). not (eqb (r .peer) (head .peer)))) a h)
 
   module _ (fi : Bytes ids) (after out : List ℕ) (answer : schedule.Evicted)
-      (made : answer ≡ scheduledAs 1024 (pendingAfterEviction (idsIn ids) (requestsIn (head .pending) region)) (evictedAfterEviction (idsIn ids) (evictedIn (head .evicted) region))) where
+      (made : answer ≡ scheduledAs trackedLimit (pendingAfterEviction (idsIn ids) (requestsIn (head .pending) region)) (evictedAfterEviction (idsIn ids) (evictedIn (head .evicted) region))) where
     pub evicts-too-many : answer ≡ scheduled.Full → Performs at batch (workedBy st c downloaded Evicted) out Full after out
     evicts-too-many a =
         rw (evicted-worked st c downloaded (requestsIn (head .pending) region) (evictedIn (head .evicted) region) (g .pending) (g .evicted) ids (g .itsIds))
         (schedule-full head clock region t f ids fi at batch after out (sym a ∙ made))
 
-    pub evicts : (left gone : ℕ) → answer ≡ scheduled.Pending left → gone ≡ head .evicted + length ids / 32
-        → after ≡ regionThen 1024 (head .pending) (pendingAfterEviction (idsIn ids) (requestsIn (head .pending) region)) (evictedAfterEviction (idsIn ids) (evictedIn (head .evicted) region)) region
+    pub evicts : (left gone : ℕ) → answer ≡ scheduled.Pending left → gone ≡ head .evicted + length ids / idSize
+        → after ≡ regionThen trackedLimit (head .pending) (pendingAfterEviction (idsIn ids) (requestsIn (head .pending) region)) (evictedAfterEviction (idsIn ids) (evictedIn (head .evicted) region)) region
         → Performs at batch (workedBy st c downloaded Evicted) out (Finished (record { pending = left; evicted = gone; retried = 0; fresh = 0; abandoned = 0; forgotten = 0; at = at; batch = batch })) after out
     evicts left gone a b h =
         rw (evicted-worked st c downloaded (requestsIn (head .pending) region) (evictedIn (head .evicted) region) (g .pending) (g .evicted) ids (g .itsIds))

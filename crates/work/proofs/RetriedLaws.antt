@@ -18,7 +18,7 @@ use Rattle.model.specs.Settings.{Settings}
 use Rattle.model.specs.Delivery.{Request, Verdict, waiting, retried, abandoned, forgotten, verdict, verdictNumber, judged, restarted, checkTimeouts, idsOf}
 use Rattle.model.specs.Sections.{Item}
 use Rattle.model.specs.Check.{retryTarget, retryOf, retries}
-use Rattle.model.specs.Image.{recordSize, requestOf, typesNarrow}
+use Rattle.model.specs.Image.{requestOf, typesNarrow}
 use Rattle.model.proofs.Well.{RisingIds}
 use Rattle.model.proofs.Widths.{WellPeer, WellItem}
 use Rattle.model.proofs.RecordLaws.{Recorded, narrow-type}
@@ -28,6 +28,7 @@ use Rattle.retries.specs.Items.{itemOf}
 use Rattle.check_timeouts.specs.Checked.{pendingAfterCheck, placedAfter, retriedPlaces}
 use Rattle.check_timeouts.specs.Turn.{restartedTo}
 use Rattle.check_timeouts.proofs.RetryLaws.{staysTo, checkedTo, length-checked, pending-after}
+use Rattle.model.specs.Layout.{recordSize}
 
 pub types-below : (es : List (List ℕ)) → Wide recordSize es → All Bytes es → typesNarrow es ≡ true → All (λ (r : Request). r .typeId < 256) (map requestOf es)
 types-below [] w f h = tt

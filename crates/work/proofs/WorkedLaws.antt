@@ -17,7 +17,7 @@ use Rattle.fields.proofs.EntriesLaws.{length-entries}
 use Rattle.model.specs.Protocol.{Id, trackedLimit}
 use Rattle.model.specs.Delivery.{Request, idsOf}
 use Rattle.model.specs.State.{State}
-use Rattle.model.specs.Image.{idSize, recordSize, requestOf}
+use Rattle.model.specs.Image.{requestOf}
 use Rattle.model.specs.Sections.{batchesOf}
 use Rattle.model.specs.Check.{retrySendings}
 use Rattle.model.specs.Calls as calls
@@ -36,6 +36,7 @@ use Rattle.plan.specs.Plans.{numbersOf, retriedBy}
 use Rattle.work.specs.Worked.{regionOf, Tracked, Given, Worked, actedBy, countBy, workedBy, fits, performedAs, Performs}
 use Rattle.work.specs.declared.Performed.the-variants.{Done as Finished}
 use Rattle.work.proofs.RegionLaws.{Stands, tracked-stands, stands-holding}
+use Rattle.model.specs.Layout.{idSize, recordSize}
 
 -- a work that sends nothing and counts nothing
 abbrev pub quiet : List Request → List Id → Worked

@@ -14,7 +14,7 @@ use Rattle.model.specs.Delivery.{Request, Verdict, retried, abandoned, forgotte
 use Rattle.model.specs.State.{State}
 use Rattle.model.specs.Requests.{Sending, Done, performAll}
 use Rattle.model.specs.Check.{markAllRetried, retrySendings}
-use Rattle.model.specs.Image.{areaSize, regionAt, recordSize, idSize, requestBytes, typesNarrow}
+use Rattle.model.specs.Image.{requestBytes, typesNarrow}
 use Rattle.model.specs.Calls as calls
 use Rattle.image.specs.declared.head.Head.{Head}
 use Rattle.image.specs.Heads.{headOf}
@@ -26,10 +26,7 @@ use Rattle.plan.specs.declared.Work.{Work}
 use Rattle.plan.specs.Plans.{numbersOf, isCheckBy, remainingBy, retriedBy, evictedBy, actsBy}
 use Rattle.work.specs.declared.Performed.{Performed}
 use Rattle.work.specs.declared.Performed.the-variants.{Done as Finished, Full}
-
--- how many bytes the region has
-abbrev pub regionSize : ℕ
-regionSize = areaSize - regionAt
+use Rattle.model.specs.Layout.{idSize, recordSize, regionSize}
 
 -- the region that holds these requests and ids: docs/LAYOUT.md, "State area"
 unfoldable pub regionOf : List Request → List Id → List ℕ

@@ -11,17 +11,21 @@ ghost use Rattle.commands.specs.Sent.{sentBytes};
 ghost use Rattle.work.specs.Worked.{regionOf, Tracked, Given, Performs, workedBy};
 ghost use Rattle.work.specs.Checking.{checkedPending, checkedSendings, checkedCounts};
 ghost use Rattle.plan.specs.declared.Work.the-variants as works;
-use image::head::Head;
-use plan::Call;
+ghost use Rattle.model.specs.Layout.{idSize, mostBatches, mostBytes};
+ghost use Rattle.model.specs.Protocol.{trackedLimit};
 use crate::Counts;
 use crate::Performed;
+use image::head::Head;
+use model::layout::ID_SIZE;
+use model::layout::TRACKED_LIMIT;
+use plan::Call;
 
 // The evicted ids at the region's end.
 fn clear_evicted(region: &mut [u8], evicted: usize)
-    requires { ⌜ evicted * 32 ≤ length (now region) ⌝ }
-    ensures { λ _. ⌜ now (region .exit) ≡ overwritten (length (now (region .entry)) - evicted * 32) (zeros (evicted * 32)) (now (region .entry)) ⌝ }
+    requires { ⌜ evicted * idSize ≤ length (now region) ⌝ }
+    ensures { λ _. ⌜ now (region .exit) ≡ overwritten (length (now (region .entry)) - evicted * idSize) (zeros (evicted * idSize)) (now (region .entry)) ⌝ }
 {
-    let size = evicted * 32;
+    let size = evicted * ID_SIZE;
     spans::moving::clear(region, region.len() - size, size);
 }
 
@@ -37,7 +41,7 @@ fn check_noting(
     batch: u16,
 ) -> Counts
     requires { ⌜ Tracked head (call .clock) (now region) ⌝ }
-    requires { ⌜ (length (now places) ≡ 1024) × ((at + 49152 ≤ length (now out)) × (batch + 1026 < 65536)) ⌝ }
+    requires { ⌜ (length (now places) ≡ trackedLimit) × ((at + mostBytes ≤ length (now out)) × (batch + mostBatches < 65536)) ⌝ }
     ensures { λ r. ⌜ r ≡ checkedCounts head call (now (peers .entry)) (now (region .entry)) at batch ⌝ }
     ensures { λ _. ⌜ now (region .exit) ≡ regionOf (checkedPending head call (now (peers .entry)) (now (region .entry))) [] ⌝ }
     ensures { λ _. ⌜ now (out .exit) ≡ overwritten at (sentBytes batch (checkedSendings head call (now (peers .entry)) (now (region .entry)))) (now (out .entry)) ⌝ }
@@ -77,12 +81,12 @@ pub fn check_region(
     batch: u16,
 ) -> Counts
     requires { ⌜ Tracked head (call .clock) (now region) ⌝ }
-    requires { ⌜ (at + 49152 ≤ length (now out)) × (batch + 1026 < 65536) ⌝ }
+    requires { ⌜ (at + mostBytes ≤ length (now out)) × (batch + mostBatches < 65536) ⌝ }
     ensures { λ r. ⌜ r ≡ checkedCounts head call (now (peers .entry)) (now (region .entry)) at batch ⌝ }
     ensures { λ _. ⌜ now (region .exit) ≡ regionOf (checkedPending head call (now (peers .entry)) (now (region .entry))) [] ⌝ }
     ensures { λ _. ⌜ now (out .exit) ≡ overwritten at (sentBytes batch (checkedSendings head call (now (peers .entry)) (now (region .entry)))) (now (out .entry)) ⌝ }
 {
-    let mut places = [0u16; 1024];
+    let mut places = [0u16; TRACKED_LIMIT];
     check_noting(region, head, call, peers, &mut places, out, at, batch)
 }
 
@@ -97,7 +101,7 @@ pub fn check(
     batch: u16,
 ) -> Performed
     requires { ⌜ Tracked head (call .clock) (now region) ⌝ }
-    requires { ⌜ (at + 49152 ≤ length (now out)) × (batch + 1026 < 65536) ⌝ }
+    requires { ⌜ (at + mostBytes ≤ length (now out)) × (batch + mostBatches < 65536) ⌝ }
     ensures { λ r. ⌜ ((st : State) (c : calls.Call) (ids stored view : List ℕ) → Given head (now (region .entry)) call ids stored (now (peers .entry)) view st c → (downloaded : ℕ) → Performs at batch (workedBy st c downloaded works.Check) (now (out .entry)) r (now (region .exit)) (now (out .exit))) ⌝ }
 {
     Performed::Done(check_region(region, head, call, peers, out, at, batch))

@@ -9,11 +9,13 @@ ghost use Rattle.model.specs.Calls as calls;
 ghost use Rattle.work.specs.Worked.{Tracked, Given, Performs, workedBy};
 ghost use Rattle.plan.specs.declared.Work.the-variants as works;
 ghost use mathlib.Core.List.{List};
-use delivery::evict::Evicted;
-use image::head::Head;
-use plan::Call;
+ghost use Rattle.model.specs.Layout.{idListSize, idSize};
 use crate::Counts;
 use crate::Performed;
+use delivery::evict::Evicted;
+use image::head::Head;
+use model::layout::ID_SIZE;
+use plan::Call;
 
 // Received ids leave pending.
 pub fn received(
@@ -25,7 +27,7 @@ pub fn received(
     batch: u16,
 ) -> Performed
     requires { ⌜ Tracked head (call .clock) (now region) ⌝ }
-    requires { ⌜ (length (now ids) % 32 ≡ 0) × (length (now ids) ≤ 32768) ⌝ }
+    requires { ⌜ (length (now ids) % idSize ≡ 0) × (length (now ids) ≤ idListSize) ⌝ }
     ensures { λ r. ⌜ ((st : State) (c : calls.Call) (stored peers view out : List ℕ) → Given head (now (region .entry)) call (now (ids .entry)) stored peers view st c → (downloaded : ℕ) → Performs at batch (workedBy st c downloaded works.Received) out r (now (region .exit)) out) ⌝ }
 {
     let count = head.pending;
@@ -52,7 +54,7 @@ pub fn evicted(
     batch: u16,
 ) -> Performed
     requires { ⌜ Tracked head (call .clock) (now region) ⌝ }
-    requires { ⌜ (length (now ids) % 32 ≡ 0) × (length (now ids) ≤ 32768) ⌝ }
+    requires { ⌜ (length (now ids) % idSize ≡ 0) × (length (now ids) ≤ idListSize) ⌝ }
     ensures { λ r. ⌜ ((st : State) (c : calls.Call) (stored peers view out : List ℕ) → Given head (now (region .entry)) call (now (ids .entry)) stored peers view st c → (downloaded : ℕ) → Performs at batch (workedBy st c downloaded works.Evicted) out r (now (region .exit)) out) ⌝ }
 {
     let gone = head.evicted;
@@ -60,7 +62,7 @@ pub fn evicted(
         Evicted::Full => Performed::Full,
         Evicted::Pending(stay) => Performed::Done(Counts {
             pending: stay,
-            evicted: gone + ids.len() / 32,
+            evicted: gone + ids.len() / ID_SIZE,
             retried: 0,
             fresh: 0,
             abandoned: 0,

@@ -8,13 +8,12 @@ use lib.ListN.{length}
 use lib.Dec.{eqb}
 use Rattle.fields.specs.Facts.{Bytes}
 use Rattle.fields.proofs.EntriesLaws.{length-entries}
-use Rattle.model.specs.Protocol.{Id}
+use Rattle.model.specs.Protocol.{Id, trackedLimit}
 use Rattle.model.specs.Delivery.{Request}
 use Rattle.model.specs.State.{State}
 use Rattle.model.specs.Requests.{ask, performAll}
 use Rattle.model.specs.Sections.{batchesOf}
 use Rattle.model.specs.Check.{retrySendings}
-use Rattle.model.specs.Image.{idSize}
 use Rattle.model.specs.Lists.{idsIn, pairsIn}
 use Rattle.model.specs.Calls as calls
 use Rattle.model.proofs.ArgumentLaws.{ids-well}
@@ -31,6 +30,7 @@ use Rattle.work.proofs.RegionLaws.{tracked-stands}
 use Rattle.work.proofs.WorkedLaws.{length-requests, length-evicted, clock-given, gate-given}
 use Rattle.work_asks.specs.Asked.{unasked, Asks}
 use Rattle.work_asks.proofs.AskedLaws.{asking, first-done}
+use Rattle.model.specs.Layout.{idListSize, idSize, mostBytes}
 
 -- ---- what it comes to
 
@@ -40,9 +40,9 @@ module _ (st : State) (c : calls.Call) (downloaded gate clock : ℕ) (p : List R
   unfolding workedBy actedBy countBy retriedBy retrySendings batchesOf
   ids-worked peer typeid ids stored ht hi hs = rw (hp, he, hg, hc, ht, hi, hs)
 
-ids-few : (ids : List ℕ) → length ids ≤ 32768 → length (idsIn ids) ≤ 1024
+ids-few : (ids : List ℕ) → length ids ≤ idListSize → length (idsIn ids) ≤ trackedLimit
 unfolding idsIn
-ids-few ids h = rw (length-entries idSize (length ids / 32) ids) (omega arith)
+ids-few ids h = rw (length-entries idSize (length ids / idSize) ids) (omega arith)
 
 -- ---- the state and the call that are given
 
@@ -51,7 +51,7 @@ module _ (head : Head) (call : Call) (region ids stored peers view : List ℕ) (
   unfolding numbersOf
   type-given = ap (λ (n : Call). n .typeid) (g .numbers)
 
-  module _ (t : Tracked head (call .clock) region) (f : Bytes region) (k : call .clock < 2 ^ 64) (at batch downloaded peer : ℕ) (hp : peer < 2 ^ 64) (out : List ℕ) (room : at + 49152 ≤ length out)
+  module _ (t : Tracked head (call .clock) region) (f : Bytes region) (k : call .clock < 2 ^ 64) (at batch downloaded peer : ℕ) (hp : peer < 2 ^ 64) (out : List ℕ) (room : at + mostBytes ≤ length out)
       (r : Performed) (after out′ : List ℕ) (before : Counts) where
     abbrev p : List Request
     p = requestsIn (head .pending) region
@@ -62,7 +62,7 @@ module _ (head : Head) (call : Call) (region ids stored peers view : List ℕ) (
     abbrev gate : Bool
     gate = eqb (call .gate) 1
 
-    pub asks-ids : call .typeid < 2 ^ 8 → Bytes ids → length ids ≤ 32768 → before ≡ unasked (head .pending) (head .evicted) at batch
+    pub asks-ids : call .typeid < 2 ^ 8 → Bytes ids → length ids ≤ idListSize → before ≡ unasked (head .pending) (head .evicted) at batch
         → Asks gate (call .clock) (ask (call .typeid) peer (pairsIn stored) (idsIn ids) ∷ []) before region out r after out′
         → Performs at batch (workedBy st c downloaded (Ids peer)) out r after out′
     asks-ids ht fi few b a =

@@ -18,6 +18,7 @@ use Rattle.model.specs.Sections.{Item, Batch, join, adjacent, batchesOf, itemBe
 use Rattle.model.specs.Calls.{pairBytes}
 use Rattle.model.proofs.RecordLaws.{Recorded}
 use Rattle.request_announced.specs.ByType.{pairItem, asksByType}
+use Rattle.model.specs.Layout.{idSize, pairSize}
 
 -- ---- all of one peer
 
@@ -64,8 +65,8 @@ orphan-asks peer stored rs =
     ap (λ (is : List Item). map (λ (b : Batch). ask (b .typeId) (b .peer) stored (b .ids)) (batchesOf is)) (orphan-items peer rs)
     ∙ asks-peer peer stored (batchesOf items) (batches-peer peer items (items-peer peer rs))
 
-pub orphans-wide : (peer : ℕ) (rs : List Request) → All Recorded rs → Wide 33 (orphanPairs (orphansOf peer rs))
+pub orphans-wide : (peer : ℕ) (rs : List Request) → All Recorded rs → Wide pairSize (orphanPairs (orphansOf peer rs))
 unfolding orphansOf
 orphans-wide peer rs w =
-    all-map Recorded (λ (x : List ℕ). length x ≡ 33) (λ (r : Request). pairBytes (r .typeId) (r .id)) (λ r q. let l : length (r .id) ≡ 32 = q .id .long in omega arith) (orphansOf peer rs)
+    all-map Recorded (λ (x : List ℕ). length x ≡ pairSize) (λ (r : Request). pairBytes (r .typeId) (r .id)) (λ r q. let l : length (r .id) ≡ idSize = q .id .long in omega arith) (orphansOf peer rs)
     (all-kept Recorded (λ (r : Request). eqb (r .peer) peer && not (isTransaction (r .typeId))) rs w)

@@ -9,24 +9,25 @@ use Rattle.fields.specs.Entries.{joined}
 use Rattle.fields.proofs.OverwriteLaws.{front-read-back}
 use Rattle.fields.proofs.EntriesLaws.{Wide, length-joined, entries-joined}
 use Rattle.model.specs.Lists.{entriesOf}
+use Rattle.model.specs.Layout.{pairSize}
 
-module _ (ps : List (List ℕ)) (w : Wide 33 ps) where
-  length-pairs : length (joined ps) ≡ length ps * 33
-  length-pairs = length-joined 33 ps w
+module _ (ps : List (List ℕ)) (w : Wide pairSize ps) where
+  length-pairs : length (joined ps) ≡ length ps * pairSize
+  length-pairs = length-joined pairSize ps w
 
-  all-pairs : entriesOf 33 (joined ps) ≡ ps
+  all-pairs : entriesOf pairSize (joined ps) ≡ ps
   all-pairs =
-      let n : length (joined ps) / 33 ≡ length ps = omega (arith, length-pairs) in
-      rw n (rw (append-nil (joined ps)) at (entries-joined 33 ps [] w))
+      let n : length (joined ps) / pairSize ≡ length ps = omega (arith, length-pairs) in
+      rw n (rw (append-nil (joined ps)) at (entries-joined pairSize ps [] w))
 
   module _ (number : ℕ) (room pairs : List ℕ) (h : number ≡ length ps) (e : pairs ≡ overwritten 0 (joined ps) room) where
-    front-is : take (number * 33) pairs ≡ joined ps
+    front-is : take (number * pairSize) pairs ≡ joined ps
     front-is =
-        let n : number * 33 ≡ length (joined ps) = omega (arith, length-pairs) in
+        let n : number * pairSize ≡ length (joined ps) = omega (arith, length-pairs) in
         rw (e, n) (front-read-back (joined ps) room)
 
-    pub front-length : length (take (number * 33) pairs) ≡ number * 33
+    pub front-length : length (take (number * pairSize) pairs) ≡ number * pairSize
     front-length = ap length front-is ∙ omega (arith, length-pairs)
 
-    pub front-pairs : entriesOf 33 (take (number * 33) pairs) ≡ ps
-    front-pairs = ap (entriesOf 33) front-is ∙ all-pairs
+    pub front-pairs : entriesOf pairSize (take (number * pairSize) pairs) ≡ ps
+    front-pairs = ap (entriesOf pairSize) front-is ∙ all-pairs

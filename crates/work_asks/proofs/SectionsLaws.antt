@@ -36,6 +36,7 @@ use Rattle.work.proofs.RegionLaws.{Stands, tracked-stands}
 use Rattle.work.proofs.WorkedLaws.{length-requests, length-evicted, taken-stands, clock-given, gate-given}
 use Rattle.work_asks.specs.Asked.{unasked, Asks}
 use Rattle.work_asks.proofs.AskedLaws.{asking, first-done}
+use Rattle.model.specs.Layout.{idSize, mostBytes, recordSize}
 
 -- ---- what each comes to
 
@@ -69,7 +70,7 @@ module _ (head : Head) (call : Call) (region ids stored peers view : List ℕ) (
   unfolding numbersOf
   height-given = ap (λ (n : Call). n .height) (g .numbers)
 
-  module _ (t : Tracked head (call .clock) region) (f : Bytes region) (k : call .clock < 2 ^ 64) (at batch downloaded peer : ℕ) (hp : peer < 2 ^ 64) (out : List ℕ) (room : at + 49152 ≤ length out)
+  module _ (t : Tracked head (call .clock) region) (f : Bytes region) (k : call .clock < 2 ^ 64) (at batch downloaded peer : ℕ) (hp : peer < 2 ^ 64) (out : List ℕ) (room : at + mostBytes ≤ length out)
       (r : Performed) (after out′ : List ℕ) (before : Counts) where
     abbrev p : List Request
     p = requestsIn (head .pending) region
@@ -105,6 +106,6 @@ module _ (head : Head) (call : Call) (region ids stored peers view : List ℕ) (
 
 -- ---- no request is pending
 
-pub none-rising : (table : List ℕ) → rising 32 (entries 54 0 table) ≡ true
+pub none-rising : (table : List ℕ) → rising idSize (entries recordSize 0 table) ≡ true
 unfolding rising
 none-rising table = refl

@@ -29,14 +29,15 @@ use Rattle.plan.specs.declared.Plan.{Plan}
 use Rattle.work.specs.declared.Performed.{Performed}
 use Rattle.work.specs.Worked.{Worked, workedBy, fits, performedAs, Performs}
 use Rattle.work_asks.specs.Carried.{announced, carriedBy}
+use Rattle.model.specs.Layout.{areaSize, chunkSize, idSize, mostBytes}
 
 -- ---- an announcement
 
-pub continuation-whole : (bytes : List ℕ) → continuationFits bytes ≡ true → (length bytes % 32 ≡ 0) × (length bytes ≤ 12800)
+pub continuation-whole : (bytes : List ℕ) → continuationFits bytes ≡ true → (length bytes % idSize ≡ 0) × (length bytes ≤ chunkSize)
 unfolding continuationFits listFits
 continuation-whole bytes h = (
-  eqb-true (length bytes % 32) 0 (and-left (eqb (length bytes % 32) 0) (leb (length bytes) 12800) h),
-  leb-true (length bytes) 12800 (and-right (eqb (length bytes % 32) 0) (leb (length bytes) 12800) h),
+  eqb-true (length bytes % idSize) 0 (and-left (eqb (length bytes % idSize) 0) (leb (length bytes) chunkSize) h),
+  leb-true (length bytes) chunkSize (and-right (eqb (length bytes % idSize) 0) (leb (length bytes) chunkSize) h),
 )
 
 no-ids : (bytes : List ℕ) → length bytes < 1 → idsIn bytes ≡ []
@@ -48,7 +49,7 @@ announced-some : (peer : ℕ) (ids : List Id) → 1 ≤ length ids → announced
 announced-some peer [] h = absurd (lt-irrefl 0 (omega arith))
 announced-some peer (id ∷ ids) h = refl
 
-announcement-long : (batch peer : ℕ) (bytes : List ℕ) → length bytes % 32 ≡ 0
+announcement-long : (batch peer : ℕ) (bytes : List ℕ) → length bytes % idSize ≡ 0
     → length (commandBytes (record { kind = 2; typeId = 101; batch = batch; peer = peer; ids = idsIn bytes })) ≡ 16 + length bytes
 unfolding commandBytes
 announcement-long batch peer bytes h = rw (joined-ids bytes h) (omega arith)
@@ -59,7 +60,7 @@ module _ (announces : Listed) (bytes out : List ℕ) where
   Announced out′ at batch =
       (out′ ≡ overwritten 0 (sentBytes 0 (announced (listedPeer announces) (idsIn bytes))) out)
       × (((at ≡ length (sentBytes 0 (announced (listedPeer announces) (idsIn bytes)))) × (batch ≡ length (announced (listedPeer announces) (idsIn bytes))))
-      × ((at + 49152 ≤ 65536) × (batch ≤ 1)))
+      × ((at + mostBytes ≤ 65536) × (batch ≤ 1)))
 
   pub nobody-told : announces ≡ Nobody → Announced out 0 0
   unfolding sentBytes
@@ -101,7 +102,7 @@ module _ (st : State) (c : calls.Call) (plan : Plan) where
   work = workedBy st c (plan .head .downloaded) (plan .work)
 
   pub carries : (bytes out out₁ out₂ region : List ℕ) (at batch : ℕ) (r : Performed) → c .continuation ≡ bytes → Announced (plan .announces) bytes out out₁ at batch
-      → 65536 ≤ length out → length out₁ ≡ length out → length out₂ ≡ length out₁
+      → areaSize ≤ length out → length out₁ ≡ length out → length out₂ ≡ length out₁
       → Performs at batch work out₁ r region out₂ → Performs 0 0 (carriedBy st c plan) out r region out₂
   unfolding carriedBy performedAs fits
   carries bytes out out₁ out₂ region at batch r same told′ room l₁ l₂ p =

@@ -20,6 +20,7 @@ use Rattle.heights.specs.Window.{itemPair}
 use Rattle.heights.proofs.MissingLaws.{window-pairs, pairs-wide}
 use Rattle.heights.proofs.ItemLaws.{items-most, window-peer}
 use Rattle.work_asks.proofs.PairLaws.{front-length, front-pairs}
+use Rattle.model.specs.Layout.{pairSize}
 
 pub no-pairs-fit : pairsFit [] ≡ true
 unfolding pairsFit listFits rising
@@ -40,7 +41,7 @@ module _ (bytes : List ℕ) (f : Bytes bytes) (fits : viewFits bytes ≡ true) (
   abbrev pub windowItems : List Item
   windowItems = windowWithin (min (downloaded + windowSize) chain - downloaded) (viewOf bytes) peer downloaded .items
 
-  pub window-wide : Wide 33 (map itemPair windowItems)
+  pub window-wide : Wide pairSize (map itemPair windowItems)
   window-wide =
       rw (window-pairs (min (downloaded + windowSize) chain - downloaded) (viewOf bytes) peer downloaded)
       (pairs-wide (min (downloaded + windowSize) chain - downloaded) (viewOf bytes) downloaded (view-well bytes f fits))
@@ -59,8 +60,8 @@ module _ (bytes : List ℕ) (f : Bytes bytes) (fits : viewFits bytes ≡ true) (
     pub window-few : number ≤ 576
     window-few = omega (arith, hn, items-most bytes f fits peer chain downloaded)
 
-    pub window-long : length (take (number * 33) pairs) ≡ number * 33
+    pub window-long : length (take (number * pairSize) pairs) ≡ number * pairSize
     window-long = front-length (map itemPair windowItems) window-wide number room pairs number-is hp
 
-    pub window-asked : asksByType peer (pairsIn []) (entriesOf 33 (take (number * 33) pairs)) ≡ requestSectionsFrom (viewOf bytes) chain downloaded (some peer) .acts
+    pub window-asked : asksByType peer (pairsIn []) (entriesOf pairSize (take (number * pairSize) pairs)) ≡ requestSectionsFrom (viewOf bytes) chain downloaded (some peer) .acts
     window-asked = rw (no-pairs, front-pairs (map itemPair windowItems) window-wide number room pairs number-is hp) window-asks

@@ -13,8 +13,12 @@ ghost use Rattle.model.specs.Requests.{ask};
 ghost use Rattle.model.specs.Lists.{idsIn, pairsIn, pairsFit, entriesOf};
 ghost use Rattle.request_announced.specs.ByType.{asksByType};
 ghost use Rattle.work_asks.specs.Asked.{answeredAs, unasked, Asks};
-use request_announced::request::Requested;
+ghost use Rattle.model.specs.Layout.{commandSize, idListSize, idSize, pairListSize, pairSize, recordSize, tableSize};
+ghost use Rattle.model.specs.Protocol.{trackedLimit};
+use model::layout::ID_LIST_SIZE;
+use model::layout::TRACKED_LIMIT;
 use plan::Call;
+use request_announced::request::Requested;
 use work::Counts;
 use work::Performed;
 
@@ -64,16 +68,16 @@ fn ask_list_with(
     rest: &mut [u8],
     out: &mut [u8],
 ) -> Performed
-    requires { ⌜ (length (now ids) % 32 ≡ 0) × ((length (now ids) ≤ 32768) × ((length (now ids) ≤ length (now rest)) × ((before .pending + before .evicted ≤ 1024) × (55296 ≤ length (now region))))) ⌝ }
-    requires { ⌜ rising 32 (entries 54 (before .pending) (now region)) ≡ true ⌝ }
+    requires { ⌜ (length (now ids) % idSize ≡ 0) × ((length (now ids) ≤ idListSize) × ((length (now ids) ≤ length (now rest)) × ((before .pending + before .evicted ≤ trackedLimit) × (tableSize ≤ length (now region))))) ⌝ }
+    requires { ⌜ rising idSize (entries recordSize (before .pending) (now region)) ≡ true ⌝ }
     requires { ⌜ pairsFit (now stored) ≡ true ⌝ }
-    requires { ⌜ (before .at + length (now ids) / 32 * 48 ≤ length (now out)) × (before .batch + 1 < 65536) ⌝ }
+    requires { ⌜ (before .at + length (now ids) / idSize * commandSize ≤ length (now out)) × (before .batch + 1 < 65536) ⌝ }
     ensures { λ r. ⌜ Asks (eqb (call .gate) 1) (call .clock) (ask typeid peer (pairsIn (now (stored .entry))) (idsIn (now (ids .entry))) ∷ []) before (now (region .entry)) (now (out .entry)) r (now (region .exit)) (now (out .exit)) ⌝ }
 {
     let asked = request_announced::request::request_announced(
         region,
         before.pending,
-        1024 - before.evicted,
+        TRACKED_LIMIT - before.evicted,
         call.gate == 1,
         call.clock,
         typeid,
@@ -99,14 +103,14 @@ pub fn ask_list(
     ids: &[u8],
     out: &mut [u8],
 ) -> Performed
-    requires { ⌜ (length (now ids) % 32 ≡ 0) × ((length (now ids) ≤ 32768) × ((before .pending + before .evicted ≤ 1024) × (55296 ≤ length (now region)))) ⌝ }
-    requires { ⌜ rising 32 (entries 54 (before .pending) (now region)) ≡ true ⌝ }
+    requires { ⌜ (length (now ids) % idSize ≡ 0) × ((length (now ids) ≤ idListSize) × ((before .pending + before .evicted ≤ trackedLimit) × (tableSize ≤ length (now region)))) ⌝ }
+    requires { ⌜ rising idSize (entries recordSize (before .pending) (now region)) ≡ true ⌝ }
     requires { ⌜ pairsFit (now stored) ≡ true ⌝ }
-    requires { ⌜ (before .at + length (now ids) / 32 * 48 ≤ length (now out)) × (before .batch + 1 < 65536) ⌝ }
+    requires { ⌜ (before .at + length (now ids) / idSize * commandSize ≤ length (now out)) × (before .batch + 1 < 65536) ⌝ }
     ensures { λ r. ⌜ Asks (eqb (call .gate) 1) (call .clock) (ask typeid peer (pairsIn (now (stored .entry))) (idsIn (now (ids .entry))) ∷ []) before (now (region .entry)) (now (out .entry)) r (now (region .exit)) (now (out .exit)) ⌝ }
 {
     if ids.len() <= 1024 {
-        let mut few = [0u8; 1024];
+        let mut few = [0u8; TRACKED_LIMIT];
         return ask_list_with(
             region,
             before,
@@ -119,7 +123,7 @@ pub fn ask_list(
             out,
         );
     }
-    let mut rest = [0u8; 32768];
+    let mut rest = [0u8; ID_LIST_SIZE];
     ask_list_with(
         region,
         before,
@@ -143,16 +147,16 @@ pub fn ask_pairs(
     pairs: &[u8],
     out: &mut [u8],
 ) -> Performed
-    requires { ⌜ (length (now pairs) % 33 ≡ 0) × ((length (now pairs) ≤ 33792) × ((before .pending + before .evicted ≤ 1024) × (55296 ≤ length (now region)))) ⌝ }
-    requires { ⌜ rising 32 (entries 54 (before .pending) (now region)) ≡ true ⌝ }
+    requires { ⌜ (length (now pairs) % pairSize ≡ 0) × ((length (now pairs) ≤ pairListSize) × ((before .pending + before .evicted ≤ trackedLimit) × (tableSize ≤ length (now region)))) ⌝ }
+    requires { ⌜ rising idSize (entries recordSize (before .pending) (now region)) ≡ true ⌝ }
     requires { ⌜ pairsFit (now stored) ≡ true ⌝ }
-    requires { ⌜ (before .at + length (now pairs) / 33 * 48 ≤ length (now out)) × (before .batch + length (now pairs) / 33 + 1 < 65536) ⌝ }
-    ensures { λ r. ⌜ Asks (eqb (call .gate) 1) (call .clock) (asksByType peer (pairsIn (now (stored .entry))) (entriesOf 33 (now (pairs .entry)))) before (now (region .entry)) (now (out .entry)) r (now (region .exit)) (now (out .exit)) ⌝ }
+    requires { ⌜ (before .at + length (now pairs) / pairSize * commandSize ≤ length (now out)) × (before .batch + length (now pairs) / pairSize + 1 < 65536) ⌝ }
+    ensures { λ r. ⌜ Asks (eqb (call .gate) 1) (call .clock) (asksByType peer (pairsIn (now (stored .entry))) (entriesOf pairSize (now (pairs .entry)))) before (now (region .entry)) (now (out .entry)) r (now (region .exit)) (now (out .exit)) ⌝ }
 {
     let asked = request_announced::by_type::request_by_type(
         region,
         before.pending,
-        1024 - before.evicted,
+        TRACKED_LIMIT - before.evicted,
         call.gate == 1,
         call.clock,
         peer,

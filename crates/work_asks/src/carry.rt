@@ -13,6 +13,7 @@ ghost use Rattle.peers.specs.Peers.{listedPeer};
 ghost use Rattle.commands.specs.Sent.{sentBytes};
 ghost use Rattle.work.specs.Worked.{Tracked, Given, Performs};
 ghost use Rattle.work_asks.specs.Carried.{announced, carriedBy};
+ghost use Rattle.model.specs.Layout.{areaSize, idListSize, idSize, mostBytes};
 use image::head::Head;
 use peers::Listed;
 use plan::Call;
@@ -27,10 +28,10 @@ struct Placed {
 
 // Continuation ids, if any, are announced before any reply.
 fn announce(out: &mut [u8], announces: Listed, continuation: &[u8]) -> Placed
-    requires { ⌜ (continuationFits (now continuation) ≡ true) × (65536 ≤ length (now out)) ⌝ }
+    requires { ⌜ (continuationFits (now continuation) ≡ true) × (areaSize ≤ length (now out)) ⌝ }
     ensures { λ _. ⌜ now (out .exit) ≡ overwritten 0 (sentBytes 0 (announced (listedPeer announces) (idsIn (now (continuation .entry))))) (now (out .entry)) ⌝ }
     ensures { λ r. ⌜ (r .at ≡ length (sentBytes 0 (announced (listedPeer announces) (idsIn (now (continuation .entry)))))) × (r .batch ≡ length (announced (listedPeer announces) (idsIn (now (continuation .entry))))) ⌝ }
-    ensures { λ r. ⌜ (r .at + 49152 ≤ 65536) × (r .batch ≤ 1) ⌝ }
+    ensures { λ r. ⌜ (r .at + mostBytes ≤ 65536) × (r .batch ≤ 1) ⌝ }
 {
     let Listed::Peer(peer) = announces else {
         return Placed { at: 0, batch: 0 };
@@ -56,8 +57,8 @@ pub fn carry_out(
     view: &[u8],
 ) -> Performed
     requires { ⌜ Tracked head (call .clock) (now region) ⌝ }
-    requires { ⌜ (length (now ids) % 32 ≡ 0) × ((length (now ids) ≤ 32768) × (continuationFits (now continuation) ≡ true)) ⌝ }
-    requires { ⌜ (pairsFit (now stored) ≡ true) × ((viewFits (now view) ≡ true) × (65536 ≤ length (now out))) ⌝ }
+    requires { ⌜ (length (now ids) % idSize ≡ 0) × ((length (now ids) ≤ idListSize) × (continuationFits (now continuation) ≡ true)) ⌝ }
+    requires { ⌜ (pairsFit (now stored) ≡ true) × ((viewFits (now view) ≡ true) × (areaSize ≤ length (now out))) ⌝ }
     ensures { λ r. ⌜ ((st : State) (c : calls.Call) → Given head (now (region .entry)) call (now (ids .entry)) (now (stored .entry)) (now (peers .entry)) (now (view .entry)) st c → c .continuation ≡ now (continuation .entry) → Performs 0 0 (carriedBy st c plan) (now (out .entry)) r (now (region .exit)) (now (out .exit))) ⌝ }
 {
     let announces = plan.announces;

@@ -9,7 +9,10 @@ ghost use Rattle.model.specs.Lists.{pairsFit};
 ghost use Rattle.model.specs.Calls as calls;
 ghost use Rattle.plan.specs.declared.Work.the-variants as works;
 ghost use Rattle.work.specs.Worked.{Tracked, Given, Performs, workedBy};
+ghost use Rattle.model.specs.Layout.{idListSize, mostBatches, mostBytes};
 use image::head::Head;
+use model::layout::ID_LIST_SIZE;
+use model::layout::ID_SIZE;
 use plan::Call;
 use work::Performed;
 
@@ -27,11 +30,11 @@ fn check_fresh_with(
     batch: u16,
 ) -> Performed
     requires { ⌜ Tracked head (call .clock) (now region) ⌝ }
-    requires { ⌜ (pairsFit (now stored) ≡ true) × (length (now fresh) ≡ 32768) ⌝ }
-    requires { ⌜ (at + 49152 ≤ length (now out)) × (batch + 1026 < 65536) ⌝ }
+    requires { ⌜ (pairsFit (now stored) ≡ true) × (length (now fresh) ≡ idListSize) ⌝ }
+    requires { ⌜ (at + mostBytes ≤ length (now out)) × (batch + mostBatches < 65536) ⌝ }
     ensures { λ r. ⌜ ((st : State) (c : calls.Call) (ids view : List ℕ) → Given head (now (region .entry)) call ids (now (stored .entry)) (now (peers .entry)) view st c → (downloaded : ℕ) → Performs at batch (workedBy st c downloaded (works.CheckFresh peer)) (now (out .entry)) r (now (region .exit)) (now (out .exit))) ⌝ }
 {
-    let size = head.evicted * 32;
+    let size = head.evicted * ID_SIZE;
     let from = region.len() - size;
     spans::moving::overwrite(fresh, 0, &region[from..]);
     let before = work::region_check::check_region(region, head, call, peers, out, at, batch);
@@ -52,13 +55,13 @@ pub fn check_fresh(
 ) -> Performed
     requires { ⌜ Tracked head (call .clock) (now region) ⌝ }
     requires { ⌜ pairsFit (now stored) ≡ true ⌝ }
-    requires { ⌜ (at + 49152 ≤ length (now out)) × (batch + 1026 < 65536) ⌝ }
+    requires { ⌜ (at + mostBytes ≤ length (now out)) × (batch + mostBatches < 65536) ⌝ }
     ensures { λ r. ⌜ ((st : State) (c : calls.Call) (ids view : List ℕ) → Given head (now (region .entry)) call ids (now (stored .entry)) (now (peers .entry)) view st c → (downloaded : ℕ) → Performs at batch (workedBy st c downloaded (works.CheckFresh peer)) (now (out .entry)) r (now (region .exit)) (now (out .exit))) ⌝ }
 {
     if head.evicted == 0 {
         return work::region_check::check(region, head, call, peers, out, at, batch);
     }
-    let mut fresh = [0u8; 32768];
+    let mut fresh = [0u8; ID_LIST_SIZE];
     check_fresh_with(
         region,
         head,

@@ -9,6 +9,7 @@ ghost use Rattle.model.specs.Lists.{pairsFit};
 ghost use Rattle.model.specs.Calls as calls;
 ghost use Rattle.plan.specs.declared.Work.the-variants as works;
 ghost use Rattle.work.specs.Worked.{Tracked, Given, Performs, workedBy};
+ghost use Rattle.model.specs.Layout.{idListSize, idSize, mostBatches, mostBytes};
 use image::head::Head;
 use plan::Call;
 use work::Performed;
@@ -26,9 +27,9 @@ pub fn ids(
     batch: u16,
 ) -> Performed
     requires { ⌜ Tracked head (call .clock) (now region) ⌝ }
-    requires { ⌜ (length (now ids) % 32 ≡ 0) × (length (now ids) ≤ 32768) ⌝ }
+    requires { ⌜ (length (now ids) % idSize ≡ 0) × (length (now ids) ≤ idListSize) ⌝ }
     requires { ⌜ pairsFit (now stored) ≡ true ⌝ }
-    requires { ⌜ (at + 49152 ≤ length (now out)) × (batch + 1026 < 65536) ⌝ }
+    requires { ⌜ (at + mostBytes ≤ length (now out)) × (batch + mostBatches < 65536) ⌝ }
     ensures { λ r. ⌜ ((st : State) (c : calls.Call) (peers view : List ℕ) → Given head (now (region .entry)) call (now (ids .entry)) (now (stored .entry)) peers view st c → (downloaded : ℕ) → Performs at batch (workedBy st c downloaded (works.Ids peer)) (now (out .entry)) r (now (region .exit)) (now (out .exit))) ⌝ }
 {
     let before = crate::asks::unasked_counts(head.pending, head.evicted, at, batch);

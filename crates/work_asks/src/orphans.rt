@@ -10,7 +10,10 @@ ghost use Rattle.model.specs.Lists.{pairsFit};
 ghost use Rattle.model.specs.Calls as calls;
 ghost use Rattle.plan.specs.declared.Work.the-variants as works;
 ghost use Rattle.work.specs.Worked.{Tracked, Given, Performs, workedBy};
+ghost use Rattle.model.specs.Layout.{mostBatches, mostBytes, pairListSize};
 use image::head::Head;
+use model::layout::PAIR_LIST_SIZE;
+use model::layout::PAIR_SIZE;
 use plan::Call;
 use work::Performed;
 
@@ -27,14 +30,14 @@ fn lose_ask_with(
     batch: u16,
 ) -> Performed
     requires { ⌜ Tracked head (call .clock) (now region) ⌝ }
-    requires { ⌜ (pairsFit (now stored) ≡ true) × (length (now pairs) ≡ 33792) ⌝ }
-    requires { ⌜ (at + 49152 ≤ length (now out)) × (batch + 1026 < 65536) ⌝ }
+    requires { ⌜ (pairsFit (now stored) ≡ true) × (length (now pairs) ≡ pairListSize) ⌝ }
+    requires { ⌜ (at + mostBytes ≤ length (now out)) × (batch + mostBatches < 65536) ⌝ }
     ensures { λ r. ⌜ ((st : State) (c : calls.Call) (ids peers view : List ℕ) → Given head (now (region .entry)) call ids (now (stored .entry)) peers view st c → (downloaded : ℕ) → Performs at batch (workedBy st c downloaded (works.LoseAsk peer)) (now (out .entry)) r (now (region .exit)) (now (out .exit))) ⌝ }
 {
     let number = delivery::orphans::orphans(region, head.pending, head.peer, pairs);
     let left = delivery::purge::purge_peer(region, head.pending, head.peer);
     let before = crate::asks::unasked_counts(left, head.evicted, at, batch);
-    let size = number * 33;
+    let size = number * PAIR_SIZE;
     crate::asks::ask_pairs(region, before, call, peer, stored, &pairs[..size], out)
 }
 
@@ -51,9 +54,9 @@ pub fn lose_ask(
 ) -> Performed
     requires { ⌜ Tracked head (call .clock) (now region) ⌝ }
     requires { ⌜ pairsFit (now stored) ≡ true ⌝ }
-    requires { ⌜ (at + 49152 ≤ length (now out)) × (batch + 1026 < 65536) ⌝ }
+    requires { ⌜ (at + mostBytes ≤ length (now out)) × (batch + mostBatches < 65536) ⌝ }
     ensures { λ r. ⌜ ((st : State) (c : calls.Call) (ids peers view : List ℕ) → Given head (now (region .entry)) call ids (now (stored .entry)) peers view st c → (downloaded : ℕ) → Performs at batch (workedBy st c downloaded (works.LoseAsk peer)) (now (out .entry)) r (now (region .exit)) (now (out .exit))) ⌝ }
 {
-    let mut pairs = [0u8; 33792];
+    let mut pairs = [0u8; PAIR_LIST_SIZE];
     lose_ask_with(region, head, call, peer, stored, &mut pairs, out, at, batch)
 }

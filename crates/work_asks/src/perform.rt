@@ -10,6 +10,7 @@ ghost use Rattle.model.specs.State.{State};
 ghost use Rattle.model.specs.Lists.{pairsFit, viewFits};
 ghost use Rattle.model.specs.Calls as calls;
 ghost use Rattle.work.specs.Worked.{Tracked, Given, Performs, workedBy};
+ghost use Rattle.model.specs.Layout.{idListSize, idSize, mostBatches, mostBytes};
 use image::head::Head;
 use plan::Call;
 use plan::Work;
@@ -31,9 +32,9 @@ pub fn perform(
     batch: u16,
 ) -> Performed
     requires { ⌜ Tracked head (call .clock) (now region) ⌝ }
-    requires { ⌜ (length (now ids) % 32 ≡ 0) × (length (now ids) ≤ 32768) ⌝ }
+    requires { ⌜ (length (now ids) % idSize ≡ 0) × (length (now ids) ≤ idListSize) ⌝ }
     requires { ⌜ (pairsFit (now stored) ≡ true) × (viewFits (now view) ≡ true) ⌝ }
-    requires { ⌜ (at + 49152 ≤ length (now out)) × (batch + 1026 < 65536) ⌝ }
+    requires { ⌜ (at + mostBytes ≤ length (now out)) × (batch + mostBatches < 65536) ⌝ }
     ensures { λ r. ⌜ ((st : State) (c : calls.Call) → Given head (now (region .entry)) call (now (ids .entry)) (now (stored .entry)) (now (peers .entry)) (now (view .entry)) st c → Performs at batch (workedBy st c downloaded work) (now (out .entry)) r (now (region .exit)) (now (out .exit))) ⌝ }
 {
     match work {

@@ -16,7 +16,11 @@ ghost use Rattle.model.specs.Calls as calls;
 ghost use Rattle.plan.specs.declared.Work.the-variants as works;
 ghost use Rattle.work.specs.Worked.{Tracked, Given, Performs, workedBy};
 ghost use Rattle.work_asks.specs.Asked.{Asks};
+ghost use Rattle.model.specs.Layout.{idSize, mostBatches, mostBytes, recordSize, tableSize, windowPairsSize};
+ghost use Rattle.model.specs.Protocol.{trackedLimit};
 use image::head::Head;
+use model::layout::PAIR_SIZE;
+use model::layout::WINDOW_PAIRS_SIZE;
 use plan::Call;
 use work::Counts;
 use work::Performed;
@@ -32,14 +36,14 @@ fn ask_missing(
     pairs: &mut [u8],
     out: &mut [u8],
 ) -> Performed
-    requires { ⌜ (before .pending + before .evicted ≤ 1024) × (55296 ≤ length (now region)) ⌝ }
-    requires { ⌜ rising 32 (entries 54 (before .pending) (now region)) ≡ true ⌝ }
-    requires { ⌜ (viewFits (now view) ≡ true) × (19008 ≤ length (now pairs)) ⌝ }
-    requires { ⌜ (before .at + 49152 ≤ length (now out)) × (before .batch + 1026 < 65536) ⌝ }
+    requires { ⌜ (before .pending + before .evicted ≤ trackedLimit) × (tableSize ≤ length (now region)) ⌝ }
+    requires { ⌜ rising idSize (entries recordSize (before .pending) (now region)) ≡ true ⌝ }
+    requires { ⌜ (viewFits (now view) ≡ true) × (windowPairsSize ≤ length (now pairs)) ⌝ }
+    requires { ⌜ (before .at + mostBytes ≤ length (now out)) × (before .batch + mostBatches < 65536) ⌝ }
     ensures { λ r. ⌜ Asks (eqb (call .gate) 1) (call .clock) (requestSectionsFrom (viewOf (now (view .entry))) (call .height) downloaded (some peer) .acts) before (now (region .entry)) (now (out .entry)) r (now (region .exit)) (now (out .exit)) ⌝ }
 {
     let number = heights::window::missing(view, call.height, downloaded, pairs);
-    let size = number * 33;
+    let size = number * PAIR_SIZE;
     crate::asks::ask_pairs(region, before, call, peer, &view[..0], &pairs[..size], out)
 }
 
@@ -52,13 +56,13 @@ fn ask_sections(
     view: &[u8],
     out: &mut [u8],
 ) -> Performed
-    requires { ⌜ (before .pending + before .evicted ≤ 1024) × (55296 ≤ length (now region)) ⌝ }
-    requires { ⌜ rising 32 (entries 54 (before .pending) (now region)) ≡ true ⌝ }
+    requires { ⌜ (before .pending + before .evicted ≤ trackedLimit) × (tableSize ≤ length (now region)) ⌝ }
+    requires { ⌜ rising idSize (entries recordSize (before .pending) (now region)) ≡ true ⌝ }
     requires { ⌜ viewFits (now view) ≡ true ⌝ }
-    requires { ⌜ (before .at + 49152 ≤ length (now out)) × (before .batch + 1026 < 65536) ⌝ }
+    requires { ⌜ (before .at + mostBytes ≤ length (now out)) × (before .batch + mostBatches < 65536) ⌝ }
     ensures { λ r. ⌜ Asks (eqb (call .gate) 1) (call .clock) (requestSectionsFrom (viewOf (now (view .entry))) (call .height) downloaded (some peer) .acts) before (now (region .entry)) (now (out .entry)) r (now (region .exit)) (now (out .exit)) ⌝ }
 {
-    let mut pairs = [0u8; 19008];
+    let mut pairs = [0u8; WINDOW_PAIRS_SIZE];
     ask_missing(
         region,
         before,
@@ -84,7 +88,7 @@ pub fn sections(
 ) -> Performed
     requires { ⌜ Tracked head (call .clock) (now region) ⌝ }
     requires { ⌜ viewFits (now view) ≡ true ⌝ }
-    requires { ⌜ (at + 49152 ≤ length (now out)) × (batch + 1026 < 65536) ⌝ }
+    requires { ⌜ (at + mostBytes ≤ length (now out)) × (batch + mostBatches < 65536) ⌝ }
     ensures { λ r. ⌜ ((st : State) (c : calls.Call) (ids stored peers : List ℕ) → Given head (now (region .entry)) call ids stored peers (now (view .entry)) st c → Performs at batch (workedBy st c downloaded (works.Sections peer)) (now (out .entry)) r (now (region .exit)) (now (out .exit))) ⌝ }
 {
     let before = crate::asks::unasked_counts(head.pending, head.evicted, at, batch);
@@ -105,7 +109,7 @@ pub fn purge_sections(
 ) -> Performed
     requires { ⌜ Tracked head (call .clock) (now region) ⌝ }
     requires { ⌜ viewFits (now view) ≡ true ⌝ }
-    requires { ⌜ (at + 49152 ≤ length (now out)) × (batch + 1026 < 65536) ⌝ }
+    requires { ⌜ (at + mostBytes ≤ length (now out)) × (batch + mostBatches < 65536) ⌝ }
     ensures { λ r. ⌜ ((st : State) (c : calls.Call) (ids stored peers : List ℕ) → Given head (now (region .entry)) call ids stored peers (now (view .entry)) st c → Performs at batch (workedBy st c downloaded (works.PurgeSections peer)) (now (out .entry)) r (now (region .exit)) (now (out .exit))) ⌝ }
 {
     delivery::purge::purge_all(region, head.pending);

@@ -5,6 +5,7 @@ use native.Mathlib.Nat.{mul-le-mul-right}
 use Rattle.mark_requested.proofs.ManyLaws.{still-sorted, too-many, few, copied-back}
 use Rattle.mark_requested.proofs.mark_many.Statement.{statement}
 use Rattle.mark_requested.proofs.mark_many.Tie as tie
+use Rattle.model.specs.Layout.{recordSize}
 
 sort-ids-requires : tie.Need-sort-ids-requires
 sort-ids-requires c κs = search needs
@@ -13,7 +14,7 @@ merge-requires : tie.Need-merge-requires
 merge-requires c κs = let s = c .before .before .before .before .before .before .before .before .before .before .before .before .before .before .before in
     let a = s .args in
     let o = c .before .before .before .before .before .before .before .sort-ids in
-    ((omega (arith, mul-le-mul-right 54 (s .pre .0 .1 .1 .0), s .pre .0 .1 .1 .1 .1), (s .pre .0 .1 .1 .0, (s .pre .0 .1 .1 .1 .0, (omega (arith, o .kept .1 .0, s .pre .1 .0 .0, s .pre .0 .1 .0), s .pre .1 .0 .1 .1)))), ((o .ensures .1, still-sorted (a .ids .now) (o .last .1 .0) (o .ensures .0)), s .pre .1 .1))
+    ((omega (arith, mul-le-mul-right recordSize (s .pre .0 .1 .1 .0), s .pre .0 .1 .1 .1 .1), (s .pre .0 .1 .1 .0, (s .pre .0 .1 .1 .1 .0, (omega (arith, o .kept .1 .0, s .pre .1 .0 .0, s .pre .0 .1 .0), s .pre .1 .0 .1 .1)))), ((o .ensures .1, still-sorted (a .ids .now) (o .last .1 .0) (o .ensures .0)), s .pre .1 .1))
 
 enum-told : tie.Need-enum-told
 enum-told c = search needs
@@ -33,7 +34,7 @@ copy-prefix-requires c κs = let s = c .before .before .before .before .before .
     let a = s .args in
     let o = c .before .before .before .before .before .before .before .before .before .before .before .before .before .before .before .sort-ids in
     let h = c .before .before .before .held .given in
-    let m = mul-le-mul-right 54 (few (a .clock) (a .typeid) (a .peer) (a .most) (a .count) (a .ids .now) (o .last .1 .0) (a .table .now) (o .ensures .0) (s .pre .1 .1) (h .0 .0) (c .before .before .before .before .before .before .before .merge .result) (h .1) (c .before .before .before .before .before .before .before .merge .ensures .0)) in
+    let m = mul-le-mul-right recordSize (few (a .clock) (a .typeid) (a .peer) (a .most) (a .count) (a .ids .now) (o .last .1 .0) (a .table .now) (o .ensures .0) (s .pre .1 .1) (h .0 .0) (c .before .before .before .before .before .before .before .merge .result) (h .1) (c .before .before .before .before .before .before .before .merge .ensures .0)) in
     (omega (arith, m, s .pre .1 .0 .1 .1, c .before .before .before .before .before .before .before .merge .kept .1 .1 .1 .1 .1 .1 .1 .1 .0), omega (arith, m, s .pre .0 .1 .1 .1 .1))
 
 same-length : tie.Need-same-length

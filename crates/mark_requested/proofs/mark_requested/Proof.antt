@@ -12,6 +12,7 @@ use Rattle.mark_requested.proofs.ManyLaws.{few-ids}
 use Rattle.mark_requested.proofs.SortedLaws.{room-long}
 use Rattle.mark_requested.proofs.mark_requested.Statement.{statement}
 use Rattle.mark_requested.proofs.mark_requested.Tie as tie
+use Rattle.model.specs.Layout.{idSize, recordSize}
 
 add-if1 : tie.Need-add-if1
 add-if1 c = search needs
@@ -19,16 +20,16 @@ add-if1 c = search needs
 mark-each-requires : tie.Need-mark-each-requires
 mark-each-requires c κs = let s = c .before .before .before .before in
     let a = s .args in
-    let n = length (a .ids .now) / 32 in
+    let n = length (a .ids .now) / idSize in
     let room : a .count + n ≤ a .most = leb-true (a .count + n) (a .most) (and-right (leb n 8) (leb (a .count + n) (a .most)) (c .before .if1 .taken)) in
-    ((s .pre .0 .0, omega (arith, mul-le-mul-right 54 room, s .pre .0 .1 .1 .1 .1)), s .pre .1)
+    ((s .pre .0 .0, omega (arith, mul-le-mul-right recordSize room, s .pre .0 .1 .1 .1 .1)), s .pre .1)
 
 same-length : tie.Need-same-length
 same-length c = search needs
 
 returns : tie.Need-returns
 returns c = let a = c .before .before .before .before .before .before .before .args in
-    let n = length (a .ids .now) / 32 in
+    let n = length (a .ids .now) / idSize in
     let room : a .count + n ≤ a .most = leb-true (a .count + n) (a .most) (and-right (leb n 8) (leb (a .count + n) (a .most)) (c .before .before .before .before .if1 .taken)) in
     few-ids (a .clock) (a .typeid) (a .peer) (a .most) (a .count) (a .ids .now) (a .table .now) (c .before .before .mark-each .last .0) (c .before .before .mark-each .result) room (c .before .before .mark-each .ensures)
 

@@ -10,6 +10,7 @@ use native.Mathlib.Omega.{arith}
 use Prim.Native.Nat.{_-_}
 use Rattle.check_timeouts.proofs.check.check_timeouts.Statement.{statement}
 use Rattle.check_timeouts.proofs.check.check_timeouts.Tie as tie
+use Rattle.model.specs.Layout.{recordSize}
 
 abbrev Inv-loop : tie.InvT-loop
 Inv-loop table₀ count settings clock gate peers places₀ aim counts₀ i₀ table places counts i = Checking (settingsOf settings) clock (aimedAt aim) count table₀ places₀ table places counts i
@@ -68,7 +69,7 @@ mul-clear-2 c = search needs
 clear-requires : tie.Need-clear-requires Inv-loop μ-loop
 clear-requires c κs = let l = c .before .before .loop in
     let s = c .before .before .before .before .before .before .before in
-    omega (arith, bytes-from 54 (s .args .count) (l .counts .pending) (omega (arith, l .inv .pending-le, l .inv .i-le)), l .inv .long, s .pre .0)
+    omega (arith, bytes-from recordSize (s .args .count) (l .counts .pending) (omega (arith, l .inv .pending-le, l .inv .i-le)), l .inv .long, s .pre .0)
 
 same-length : tie.Need-same-length Inv-loop μ-loop
 same-length c = search needs

@@ -1,7 +1,7 @@
 -- By the verdict; a retried record is moved and restarted where it goes (`moved-retried`).
 use Rattle.fields.specs.Entries.{entry}
 use Rattle.model.specs.Delivery.{verdict, waiting, retried, abandoned, forgotten}
-use Rattle.model.specs.Image.{recordSize, requestOf}
+use Rattle.model.specs.Image.{requestOf}
 use Rattle.settings.specs.Values.{settingsOf}
 use Rattle.check_timeouts.specs.Checked.{aimedAt}
 use Rattle.check_timeouts.specs.Turn.{verdictOf}
@@ -12,6 +12,7 @@ use native.Mathlib.Omega.{arith}
 use mathlib.Core.Path.{_≡_, refl, sym, ap, _∙_}
 use Rattle.check_timeouts.proofs.check.turn.Statement.{statement}
 use Rattle.check_timeouts.proofs.check.turn.Tie as tie
+use Rattle.model.specs.Layout.{recordSize}
 
 verdict-at-requires : tie.Need-verdict-at-requires
 verdict-at-requires c κs = search needs
@@ -36,7 +37,7 @@ retry-requires c κs = let s = c .before .before .before .before .before .before
     let a = s .args in
     let u = c .before .before .before .move-entry2 in
     let e = entry-moved (a .i) (a .counts .pending) (a .table .now) (u .last .0) (s .pre .1 .0 .0) (s .pre .0 .0) (u .ensures) in
-    (omega (arith, mul-le-mul-right 54 (s .pre .1 .0 .0), moved-length (a .i) (a .counts .pending) (a .table .now) (u .last .0) (s .pre .1 .0 .0) (s .pre .0 .0) (u .ensures)), rw e (s .pre .1 .1 .1))
+    (omega (arith, mul-le-mul-right recordSize (s .pre .1 .0 .0), moved-length (a .i) (a .counts .pending) (a .table .now) (u .last .0) (s .pre .1 .0 .0) (s .pre .0 .0) (u .ensures)), rw e (s .pre .1 .1 .1))
 
 cast-places : tie.Need-cast-places
 cast-places c = search needs

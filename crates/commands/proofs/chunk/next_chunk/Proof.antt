@@ -7,6 +7,7 @@ use lib.ListN.{length, drop, length-drop}
 use lib.Seq.{take-all}
 use Rattle.commands.proofs.chunk.next_chunk.Statement.{statement}
 use Rattle.commands.proofs.chunk.next_chunk.Tie as tie
+use Rattle.model.specs.Layout.{chunkSize}
 
 sub-if1 : tie.Need-sub-if1
 sub-if1 c = search needs
@@ -23,7 +24,7 @@ part-result-end c = search needs
 returns : tie.Need-returns
 returns c = let s = c .before .before in
     let l : length (drop (s .args .at) (s .args .ids .now)) ≡ length (s .args .ids .now) - s .args .at = length-drop (s .args .at) (s .args .ids .now) in
-    take-all (length (s .args .ids .now) - s .args .at) (drop (s .args .at) (s .args .ids .now)) (omega arith) ∙ sym (take-all 12800 (drop (s .args .at) (s .args .ids .now)) (omega (arith, c .before .if1 .taken)))
+    take-all (length (s .args .ids .now) - s .args .at) (drop (s .args .at) (s .args .ids .now)) (omega arith) ∙ sym (take-all chunkSize (drop (s .args .at) (s .args .ids .now)) (omega (arith, c .before .if1 .taken)))
 
 add-end : tie.Need-add-end
 add-end c = search needs
@@ -38,7 +39,7 @@ part-result-end-2 : tie.Need-part-result-end-2
 part-result-end-2 c = search needs
 
 returns-2 : tie.Need-returns-2
-returns-2 c = let e : c .before .before .args .at + 12800 - c .before .before .args .at ≡ 12800 = omega arith in rw e
+returns-2 c = let e : c .before .before .args .at + chunkSize - c .before .before .args .at ≡ chunkSize = omega arith in rw e
 
 pub next-chunk-spec : {M : Type 1} → statement M
 next-chunk-spec =

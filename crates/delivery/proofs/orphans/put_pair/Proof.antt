@@ -7,6 +7,7 @@ use lib.ListN.{getD, set, length-set}
 use Rattle.delivery.proofs.OrphanLaws.{pair-put}
 use Rattle.delivery.proofs.orphans.put_pair.Statement.{statement}
 use Rattle.delivery.proofs.orphans.put_pair.Tie as tie
+use Rattle.model.specs.Layout.{pairSize, recordSize}
 
 mul-from : tie.Need-mul-from
 mul-from c = search needs
@@ -31,12 +32,12 @@ put-id-requires c κs = (omega arith, rw length-set (omega arith))
 
 same-length : tie.Need-same-length
 same-length c = let a = c .before .before .before .before .before .before .before .args in
-    c .before .before .put-id .kept .1 .1 .0 ∙ length-set (a .pairs .now) (a .to * 33) _
+    c .before .before .put-id .kept .1 .1 .0 ∙ length-set (a .pairs .now) (a .to * pairSize) _
 
 returns : tie.Need-returns
 returns c = let s = c .before .before .before .before .before .before .before in
     let a = s .args in
-    pair-put (a .i) (a .table .now) (a .to) (a .pairs .now) (set (a .pairs .now) (a .to * 33) (getD (a .table .now) (a .i * 54 + 41) 0)) (c .before .before .put-id .last .1 .1 .0) (s .pre .0 .0) (s .pre .0 .1) (s .pre .1) refl (c .before .before .put-id .ensures)
+    pair-put (a .i) (a .table .now) (a .to) (a .pairs .now) (set (a .pairs .now) (a .to * pairSize) (getD (a .table .now) (a .i * recordSize + 41) 0)) (c .before .before .put-id .last .1 .1 .0) (s .pre .0 .0) (s .pre .0 .1) (s .pre .1) refl (c .before .before .put-id .ensures)
 
 pub put-pair-spec : {M : Type 1} → statement M
 put-pair-spec =

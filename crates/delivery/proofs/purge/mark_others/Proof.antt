@@ -13,10 +13,11 @@ use Rattle.delivery.specs.Others.{ofOther}
 use Rattle.delivery.proofs.OtherLaws.{others-turn, others-end}
 use Rattle.delivery.proofs.purge.mark_others.Statement.{statement}
 use Rattle.delivery.proofs.purge.mark_others.Tie as tie
+use Rattle.model.specs.Layout.{recordSize}
 
 abbrev Inv-loop : tie.InvT-loop
 Inv-loop table count peer marks₀ i₀ marks i =
-    (i ≤ count) × ((length marks ≡ length marks₀) × (marks ≡ overwritten 0 (take i (map (λ (e : List ℕ). cond (ofOther peer e) 1 0) (entries 54 count table))) marks₀))
+    (i ≤ count) × ((length marks ≡ length marks₀) × (marks ≡ overwritten 0 (take i (map (λ (e : List ℕ). cond (ofOther peer e) 1 0) (entries recordSize count table))) marks₀))
 
 abbrev μ-loop : tie.MeasureT-loop
 μ-loop table count peer marks₀ i₀ marks i = count - i

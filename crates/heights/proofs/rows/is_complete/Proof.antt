@@ -8,6 +8,7 @@ use Rattle.heights.specs.Rows.{rowAt}
 use Rattle.heights.proofs.RowLaws.{row-first, row-byte, length-row, complete-row}
 use Rattle.heights.proofs.rows.is_complete.Statement.{statement}
 use Rattle.heights.proofs.rows.is_complete.Tie as tie
+use Rattle.model.specs.Layout.{placeSize, rowSize}
 
 mul-at : tie.Need-mul-at
 mul-at c = search needs
@@ -41,8 +42,8 @@ returns c =
     let s = c .before .before .before .before in
     let i = s .args .i in
     let view = s .args .view .now in
-    complete-row (rowAt i view) (length-row i view (s .pre)) (getD view (i * 103 + 4) 0) (getD view (i * 103 + 4 + 34) 0) (getD view (i * 103 + 4 + 68) 0) (getD view (i * 103 + 4 + 102) 0)
-    (sym (row-first i view)) (sym (row-byte i view 34 (omega arith))) (sym (row-byte i view 68 (omega arith))) (sym (row-byte i view 102 (omega arith)))
+    complete-row (rowAt i view) (length-row i view (s .pre)) (getD view (i * rowSize + 4) 0) (getD view (i * rowSize + 4 + placeSize) 0) (getD view (i * rowSize + 4 + 68) 0) (getD view (i * rowSize + 4 + 102) 0)
+    (sym (row-first i view)) (sym (row-byte i view placeSize (omega arith))) (sym (row-byte i view 68 (omega arith))) (sym (row-byte i view 102 (omega arith)))
 
 pub is-complete-spec : {M : Type 1} → statement M
 is-complete-spec =

@@ -11,10 +11,11 @@ use Rattle.heights.proofs.WritingLaws.{Writing, writing-starts}
 use Rattle.heights.proofs.MissingLaws.{pairsWithin, window-room, pairs-end, pairs-outside, pairs-absent, count-few, height-room, height-turn, missing-written}
 use Rattle.heights.proofs.window.missing.Statement.{statement}
 use Rattle.heights.proofs.window.missing.Tie as tie
+use Rattle.model.specs.Layout.{pairSize}
 
 abbrev Inv-loop : tie.InvT-loop
 Inv-loop view chain downloaded pairs₀ first count end found₀ height₀ pairs found height =
-    Writing 33 0 (pairsWithin (min (downloaded + windowSize) chain - downloaded) (viewOf view) downloaded) (pairsWithin (end - height) (viewOf view) height) pairs₀ pairs found
+    Writing pairSize 0 (pairsWithin (min (downloaded + windowSize) chain - downloaded) (viewOf view) downloaded) (pairsWithin (end - height) (viewOf view) height) pairs₀ pairs found
 
 abbrev μ-loop : tie.MeasureT-loop
 μ-loop view chain downloaded pairs₀ first count end found₀ height₀ pairs found height = end - height
@@ -31,7 +32,7 @@ window-end-requires c κs = search needs
 loop-holds : tie.Need-loop-holds Inv-loop μ-loop
 loop-holds c =
     let a = c .before .before .before .before .before .args in
-    rw (c .window-end .ensures) (writing-starts 33 0 (pairsWithin (min (a .downloaded + windowSize) (a .chain) - a .downloaded) (viewOf (a .view .now)) (a .downloaded)) (a .pairs .now))
+    rw (c .window-end .ensures) (writing-starts pairSize 0 (pairsWithin (min (a .downloaded + windowSize) (a .chain) - a .downloaded) (viewOf (a .view .now)) (a .downloaded)) (a .pairs .now))
 
 add-next : tie.Need-add-next Inv-loop μ-loop
 add-next c = search needs

@@ -8,9 +8,10 @@ use Rattle.heights.proofs.WritingLaws.{Writing, writing-starts}
 use Rattle.heights.proofs.PlaceLaws.{row-done, place-within, row-room, row-turn}
 use Rattle.heights.proofs.window.put_row.Statement.{statement}
 use Rattle.heights.proofs.window.put_row.Tie as tie
+use Rattle.model.specs.Layout.{pairSize}
 
 abbrev Inv-loop : tie.InvT-loop
-Inv-loop view i pairs₀ to count found₀ k₀ pairs found k = Writing 33 to (rowPairs i view) (missingPairs (drop k (sectionsOf (rowAt i view)))) pairs₀ pairs found
+Inv-loop view i pairs₀ to count found₀ k₀ pairs found k = Writing pairSize to (rowPairs i view) (missingPairs (drop k (sectionsOf (rowAt i view)))) pairs₀ pairs found
 
 abbrev μ-loop : tie.MeasureT-loop
 μ-loop view i pairs₀ to count found₀ k₀ pairs found k = count - k
@@ -19,7 +20,7 @@ count-at-requires : tie.Need-count-at-requires Inv-loop μ-loop
 count-at-requires c κs = search needs
 
 loop-holds : tie.Need-loop-holds Inv-loop μ-loop
-loop-holds c = let s = c .before .before .before .args in writing-starts 33 (s .to) (rowPairs (s .i) (s .view .now)) (s .pairs .now)
+loop-holds c = let s = c .before .before .before .args in writing-starts pairSize (s .to) (rowPairs (s .i) (s .view .now)) (s .pairs .now)
 
 mul-put-place : tie.Need-mul-put-place Inv-loop μ-loop
 mul-put-place c = search needs

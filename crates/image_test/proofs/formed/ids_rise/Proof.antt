@@ -7,6 +7,7 @@ use lib.Seq.{take-all}
 use borrow.Author.Needs.{needs}
 use Rattle.image_test.proofs.formed.ids_rise.Statement.{statement}
 use Rattle.image_test.proofs.formed.ids_rise.Tie as tie
+use Rattle.model.specs.Layout.{regionAt}
 
 count-at-requires : tie.Need-count-at-requires
 count-at-requires c κs = search needs
@@ -26,7 +27,7 @@ is-rising-requires c κs = search needs
 returns : tie.Need-returns
 returns c =
     let area = c .before .before .before .before .args .area .now in
-    c .is-rising .ensures ∙ rw (c .before .before .count-at .ensures, take-all (length area - 2560) (drop 2560 area) (rw (length-drop 2560 area) (omega arith)))
+    c .is-rising .ensures ∙ rw (c .before .before .count-at .ensures, take-all (length area - regionAt) (drop regionAt area) (rw (length-drop regionAt area) (omega arith)))
 
 pub ids-rise-spec : {M : Type 1} → statement M
 ids-rise-spec =

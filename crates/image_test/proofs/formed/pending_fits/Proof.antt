@@ -8,6 +8,7 @@ use borrow.Author.Needs.{needs}
 use Rattle.image_test.proofs.TestLaws.{pending-read}
 use Rattle.image_test.proofs.formed.pending_fits.Statement.{statement}
 use Rattle.image_test.proofs.formed.pending_fits.Tie as tie
+use Rattle.model.specs.Layout.{regionAt}
 
 read-u64-requires : tie.Need-read-u64-requires
 read-u64-requires c κs = search needs
@@ -36,8 +37,8 @@ returns c =
     let settings = c .before .before .read-settings in
     let count = c .before .before .before .count-at in
     let clock = c .before .before .before .before .read-u64 in
-    let rest : take (length area - 2560) (drop 2560 area) ≡ drop 2560 area = take-all (length area - 2560) (drop 2560 area) (rw (length-drop 2560 area) (omega arith)) in
-    pending-read area (take (length area - 2560) (drop 2560 area)) (settings .result) (clock .result) (count .result) (settings .ensures) (clock .ensures) (count .ensures) rest (c .records-fit .result) (c .records-fit .ensures)
+    let rest : take (length area - regionAt) (drop regionAt area) ≡ drop regionAt area = take-all (length area - regionAt) (drop regionAt area) (rw (length-drop regionAt area) (omega arith)) in
+    pending-read area (take (length area - regionAt) (drop regionAt area)) (settings .result) (clock .result) (count .result) (settings .ensures) (clock .ensures) (count .ensures) rest (c .records-fit .result) (c .records-fit .ensures)
 
 pub pending-fits-spec : {M : Type 1} → statement M
 pending-fits-spec =

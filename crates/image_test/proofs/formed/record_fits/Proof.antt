@@ -8,6 +8,7 @@ use Rattle.settings.specs.Values.{settingsOf}
 use Rattle.image_test.proofs.TestLaws.{record-wide, record-late, record-checks}
 use Rattle.image_test.proofs.formed.record_fits.Statement.{statement}
 use Rattle.image_test.proofs.formed.record_fits.Tie as tie
+use Rattle.model.specs.Layout.{recordSize}
 
 mul-at : tie.Need-mul-at
 mul-at c = search needs
@@ -21,7 +22,7 @@ shared-slice-read-if1 c = search needs
 returns : tie.Need-returns
 returns c =
     let s = c .before .before .before .args in
-    let wide : getD (s .region .now) (s .i * 54 + 40) 0 ≡ 0 → ⊥ = c .if1 .taken in
+    let wide : getD (s .region .now) (s .i * recordSize + 40) 0 ≡ 0 → ⊥ = c .if1 .taken in
     sym (record-wide (settingsOf (s .settings)) (s .clock) (s .i) (s .region .now) (c .before .before .before .pre) wide)
 
 add-read-u64 : tie.Need-add-read-u64
@@ -50,7 +51,7 @@ shared-slice-read-most-requests : tie.Need-shared-slice-read-most-requests
 shared-slice-read-most-requests c = search needs
 
 cast-most-requests : tie.Need-cast-most-requests
-cast-most-requests c = omega (arith, c .shared-slice-known3 .given (c .before .before .before .before .before .before .before .args .i * 54 + 41))
+cast-most-requests c = omega (arith, c .shared-slice-known3 .given (c .before .before .before .before .before .before .before .args .i * recordSize + 41))
 
 most-requests-requires : tie.Need-most-requests-requires
 most-requests-requires c κs = search needs
@@ -59,7 +60,7 @@ returns-3 : tie.Need-returns-3
 returns-3 c =
     let s = c .before .before .before .before .before .before .before .before .args in
     let stamp = c .before .before .before .before .read-u64 in
-    let zero : getD (s .region .now) (s .i * 54 + 40) 0 ≡ 0 = c .before .before .before .before .before .if1 .left in
+    let zero : getD (s .region .now) (s .i * recordSize + 40) 0 ≡ 0 = c .before .before .before .before .before .if1 .left in
     let past : stamp .result ≤ s .clock = c .before .before .before .if2 .left in
     rw (c .before .before .read-u32 .ensures, c .most-requests .ensures) (record-checks (settingsOf (s .settings)) (s .clock) (s .i) (s .region .now) (c .before .before .before .before .before .before .before .before .pre) zero (rw (stamp .ensures) at past))
 

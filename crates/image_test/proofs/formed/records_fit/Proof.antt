@@ -10,9 +10,10 @@ use Rattle.settings.specs.Values.{settingsOf}
 use Rattle.image_test.proofs.TestLaws.{recordsFit, fits-next, fits-not, fits-end}
 use Rattle.image_test.proofs.formed.records_fit.Statement.{statement}
 use Rattle.image_test.proofs.formed.records_fit.Tie as tie
+use Rattle.model.specs.Layout.{recordSize}
 
 abbrev Inv-loop : tie.InvT-loop
-Inv-loop region count settings clock i₀ i = (i ≤ count) × (recordsFit (settingsOf settings) clock (drop i (entries 54 count region)) ≡ recordsFit (settingsOf settings) clock (entries 54 count region))
+Inv-loop region count settings clock i₀ i = (i ≤ count) × (recordsFit (settingsOf settings) clock (drop i (entries recordSize count region)) ≡ recordsFit (settingsOf settings) clock (entries recordSize count region))
 
 abbrev μ-loop : tie.MeasureT-loop
 μ-loop region count settings clock i₀ i = count - i

@@ -6,6 +6,7 @@ use Rattle.fields.specs.Facts.{Bytes}
 use Rattle.mark_requested.proofs.ChoiceLaws.{word-keeps, word-enters, keep-chosen, skip-chosen, enter-chosen}
 use Rattle.mark_requested.proofs.choosing.compare.Statement.{statement}
 use Rattle.mark_requested.proofs.choosing.compare.Tie as tie
+use Rattle.model.specs.Layout.{idSize}
 
 read-u64-requires : tie.Need-read-u64-requires
 read-u64-requires c κs = search needs
@@ -31,16 +32,16 @@ run-before-requires : tie.Need-run-before-requires
 run-before-requires c κs = search needs
 
 returns-3 : tie.Need-returns-3
-returns-3 c = let a = c .before .before .before .before .before .before .before .before .args in keep-chosen (take 32 (drop (a .p) (a .table .now))) (take 32 (drop (a .q) (a .ids .now))) (c .before .run-before .result) (c .before .run-before .ensures) (c .if3 .taken)
+returns-3 c = let a = c .before .before .before .before .before .before .before .before .args in keep-chosen (take idSize (drop (a .p) (a .table .now))) (take idSize (drop (a .q) (a .ids .now))) (c .before .run-before .result) (c .before .run-before .ensures) (c .if3 .taken)
 
 run-same-requires : tie.Need-run-same-requires
 run-same-requires c κs = search needs
 
 returns-4 : tie.Need-returns-4
-returns-4 c = let a = c .before .before .before .before .before .before .before .before .before .before .args in skip-chosen (take 32 (drop (a .p) (a .table .now))) (take 32 (drop (a .q) (a .ids .now))) (c .before .before .before .run-before .result) (c .before .before .before .run-before .ensures) (c .before .before .if3 .left) (c .before .run-same .result) (c .before .run-same .ensures) (c .if4 .taken)
+returns-4 c = let a = c .before .before .before .before .before .before .before .before .before .before .args in skip-chosen (take idSize (drop (a .p) (a .table .now))) (take idSize (drop (a .q) (a .ids .now))) (c .before .before .before .run-before .result) (c .before .before .before .run-before .ensures) (c .before .before .if3 .left) (c .before .run-same .result) (c .before .run-same .ensures) (c .if4 .taken)
 
 returns-5 : tie.Need-returns-5
-returns-5 c = let a = c .before .before .before .before .before .before .before .before .before .before .args in enter-chosen (take 32 (drop (a .p) (a .table .now))) (take 32 (drop (a .q) (a .ids .now))) (c .before .before .before .run-before .result) (c .before .before .before .run-before .ensures) (c .before .before .if3 .left) (c .before .run-same .result) (c .before .run-same .ensures) (c .if4 .left)
+returns-5 c = let a = c .before .before .before .before .before .before .before .before .before .before .args in enter-chosen (take idSize (drop (a .p) (a .table .now))) (take idSize (drop (a .q) (a .ids .now))) (c .before .before .before .run-before .result) (c .before .before .before .run-before .ensures) (c .before .before .if3 .left) (c .before .run-same .result) (c .before .run-same .ensures) (c .if4 .left)
 
 pub compare-spec : {M : Type 1} → statement M
 compare-spec =

@@ -10,6 +10,7 @@ use Rattle.mark_requested.specs.Marking.{newRequest}
 use Rattle.mark_requested.proofs.OneLaws.{one-pending, one-entered, gap-fits}
 use Rattle.mark_requested.proofs.entering.mark_one.Statement.{statement}
 use Rattle.mark_requested.proofs.entering.mark_one.Tie as tie
+use Rattle.model.specs.Layout.{recordSize}
 
 find-requires : tie.Need-find-requires
 find-requires c κs = let s = c .before .before .before in ((omega arith, (omega (arith, s .pre .0 .1), omega arith)), rw (s .pre .0 .0) (s .pre .1))
@@ -31,7 +32,7 @@ insert-requires c κs = let s = c .before .before .before .before .before .befor
     let a = s .args in
     let f : Bytes (a .table .now) = λ i. omega (arith, c .before .before .before .before .before .before .before .before .before .slice-known .given i) in
     let g = c .before .before .before .before .gap .given in
-    let l : length (requestBytes (newRequest (a .clock) (a .typeid) (a .peer) (a .id .now))) ≡ 54 = length-request (newRequest (a .clock) (a .typeid) (a .peer) (a .id .now)) (s .pre .0 .0) in
+    let l : length (requestBytes (newRequest (a .clock) (a .typeid) (a .peer) (a .id .now))) ≡ recordSize = length-request (newRequest (a .clock) (a .typeid) (a .peer) (a .id .now)) (s .pre .0 .0) in
     (gap-fits (a .clock) (a .typeid) (a .peer) (a .count) (a .id .now) (a .table .now) (s .pre .0 .0) (omega arith) f (s .pre .1) (g .0 .0) (sym (c .before .before .before .before .before .before .find .ensures) ∙ g .1), (ap length (c .before .before .new-record .ensures) ∙ l, omega (arith, s .pre .0 .1)))
 
 add-result : tie.Need-add-result

@@ -13,6 +13,7 @@ use Rattle.mark_requested.proofs.ChoiceLaws.{place-listed, keep-inside}
 use Rattle.mark_requested.proofs.TurnLaws.{kept-turn, skipped-turn, entered-turn}
 use Rattle.mark_requested.proofs.merging.turn.Statement.{statement}
 use Rattle.mark_requested.proofs.merging.turn.Tie as tie
+use Rattle.model.specs.Layout.{idSize, recordSize}
 
 next-choice-requires : tie.Need-next-choice-requires
 next-choice-requires c κs = search needs
@@ -38,7 +39,7 @@ part-overwrite-start c = search needs
 part-overwrite-end : tie.Need-part-overwrite-end
 part-overwrite-end c = let s = c .before .before .before .before .before .before .before .before .before in
     let a = s .args in
-    omega (arith, s .pre .0 .0, mul-le-mul-right 54 (keep-inside (a .count) (a .front .records) (a .table .now) (idsAt (a .ids .now) (drop (a .front .ids) (a .places .now))) (c .before .before .before .next-choice .result) (c .before .before .before .next-choice .ensures) (c .before .enum-told .given .1)))
+    omega (arith, s .pre .0 .0, mul-le-mul-right recordSize (keep-inside (a .count) (a .front .records) (a .table .now) (idsAt (a .ids .now) (drop (a .front .ids) (a .places .now))) (c .before .before .before .next-choice .result) (c .before .before .before .next-choice .ensures) (c .before .enum-told .given .1)))
 
 overwrite-requires : tie.Need-overwrite-requires
 overwrite-requires c κs = search needs
@@ -99,14 +100,14 @@ same-length c = search needs
 
 returns : tie.Need-returns
 returns c = let a = c .before .before .before .before .before .before .before .before .before .before .before .before .before .args in
-    let told = choiceAt (idsAt (a .ids .now) (drop (a .front .ids) (a .places .now))) (map requestOf (drop (a .front .records) (entries 54 (a .count) (a .table .now)))) in
-    let new = entry 32 (getD (a .places .now) (a .front .ids) 0) (a .ids .now) ++ drop 32 (a .blank .now) in
+    let told = choiceAt (idsAt (a .ids .now) (drop (a .front .ids) (a .places .now))) (map requestOf (drop (a .front .records) (entries recordSize (a .count) (a .table .now)))) in
+    let new = entry idSize (getD (a .places .now) (a .front .ids) 0) (a .ids .now) ++ drop idSize (a .blank .now) in
     kept-turn (c .before .before .before .before .before .before .before .next-choice .result) told (c .before .before .before .before .before .before .before .next-choice .ensures) (a .front) (a .table .now) (a .ids .now) new (a .room .now) (c .before .before .overwrite .last .0) (c .before .before .before .before .before .enum-told .given .1) (c .before .before .overwrite .ensures)
 
 returns-2 : tie.Need-returns-2
 returns-2 c = let a = c .before .before .before .before .before .before .before .before .args in
-    let told = choiceAt (idsAt (a .ids .now) (drop (a .front .ids) (a .places .now))) (map requestOf (drop (a .front .records) (entries 54 (a .count) (a .table .now)))) in
-    let new = entry 32 (getD (a .places .now) (a .front .ids) 0) (a .ids .now) ++ drop 32 (a .blank .now) in
+    let told = choiceAt (idsAt (a .ids .now) (drop (a .front .ids) (a .places .now))) (map requestOf (drop (a .front .records) (entries recordSize (a .count) (a .table .now)))) in
+    let new = entry idSize (getD (a .places .now) (a .front .ids) 0) (a .ids .now) ++ drop idSize (a .blank .now) in
     skipped-turn (c .before .before .next-choice .result) told (c .before .before .next-choice .ensures) (a .front) (a .table .now) (a .ids .now) new (a .room .now) (a .room .now) (c .enum-told2 .given .1) refl
 
 same-length-2 : tie.Need-same-length-2
@@ -114,7 +115,7 @@ same-length-2 c = search needs
 
 returns-3 : tie.Need-returns-3
 returns-3 c = let a = c .before .before .before .before .before .before .before .before .before .before .before .before .before .before .before .args in
-    let told = choiceAt (idsAt (a .ids .now) (drop (a .front .ids) (a .places .now))) (map requestOf (drop (a .front .records) (entries 54 (a .count) (a .table .now)))) in
+    let told = choiceAt (idsAt (a .ids .now) (drop (a .front .ids) (a .places .now))) (map requestOf (drop (a .front .records) (entries recordSize (a .count) (a .table .now)))) in
     entered-turn (c .before .before .before .before .before .before .before .before .before .next-choice .result) told (c .before .before .before .before .before .before .before .before .before .next-choice .ensures) (a .front) (c .before .before .before .before .before .wide .result) (getD (a .places .now) (a .front .ids) 0) (c .before .before .before .before .before .wide .ensures) (a .table .now) (a .ids .now) (a .blank .now) (a .room .now) (c .before .before .put-new .last .0) (c .before .before .before .before .before .before .before .enum-told3 .given .1) (c .before .before .put-new .ensures)
 
 pub turn-spec : {M : Type 1} → statement M

@@ -8,9 +8,10 @@ use Rattle.model.specs.Lists.{rowsFit}
 use Rattle.refusals.proofs.RowLaws.{rows-break, rows-go-on, rows-end}
 use Rattle.refusals.proofs.view.rows_fit.Statement.{statement}
 use Rattle.refusals.proofs.view.rows_fit.Tie as tie
+use Rattle.model.specs.Layout.{rowSize}
 
 abbrev Inv-loop : tie.InvT-loop
-Inv-loop rows count i₀ i = rowsFit (entries 103 count rows) ≡ rowsFit (drop i (entries 103 count rows))
+Inv-loop rows count i₀ i = rowsFit (entries rowSize count rows) ≡ rowsFit (drop i (entries rowSize count rows))
 
 abbrev μ-loop : tie.MeasureT-loop
 μ-loop rows count i₀ i = count - i

@@ -10,16 +10,18 @@ use Rattle.fields.proofs.ZeroLaws.{length-zeros}
 use Rattle.request_announced.proofs.FrontLaws.{front-places}
 use Rattle.request_announced.proofs.pairs.places_by_type.Statement.{statement}
 use Rattle.request_announced.proofs.pairs.places_by_type.Tie as tie
+use Rattle.model.specs.Layout.{pairSize}
+use Rattle.model.specs.Protocol.{trackedLimit}
 
 array-borrow-prefix-places : tie.Need-array-borrow-prefix-places
 array-borrow-prefix-places c = search needs
 
 slice-aggregate-fill : tie.Need-slice-aggregate-fill
-slice-aggregate-fill c = let s = c .before .before in sym (length-take-le (length (s .args .pairs .now) / 33) (zeros 1024) (omega (arith, s .pre, length-zeros 1024)))
+slice-aggregate-fill c = let s = c .before .before in sym (length-take-le (length (s .args .pairs .now) / pairSize) (zeros trackedLimit) (omega (arith, s .pre, length-zeros trackedLimit)))
 
 fill-requires : tie.Need-fill-requires
 fill-requires c κs = let s = c .before .before in
-    let l = length-take-le (length (s .args .pairs .now) / 33) (zeros 1024) (omega (arith, s .pre, length-zeros 1024)) in
+    let l = length-take-le (length (s .args .pairs .now) / pairSize) (zeros trackedLimit) (omega (arith, s .pre, length-zeros trackedLimit)) in
     (l, omega (arith, l, s .pre))
 
 returns : tie.Need-returns

@@ -14,6 +14,7 @@ use Rattle.request_announced.specs.Requested.{requestedAs, sentWithin}
 use Rattle.request_announced.proofs.RequestedLaws.{gate-shut, none-wanted, front-ids, front-long, few-wanted, wanted-done}
 use Rattle.request_announced.proofs.request.request_announced.Statement.{statement}
 use Rattle.request_announced.proofs.request.request_announced.Tie as tie
+use Rattle.model.specs.Layout.{idSize}
 
 returns : tie.Need-returns
 returns c = let s = c .before .before .before .before .before .before in
@@ -83,7 +84,7 @@ returns-3 c = let s = c .before .before .before .before .before .before .before 
     let w = c .before .before .before .before .before .before .before .before .before .before .before .wanted in
     let f : Bytes (a .ids .now) = λ i. omega (arith, c .before .before .before .before .before .before .before .before .before .before .before .before .before .before .before .before .before .shared-slice-known2 .given i) in
     let e = front-ids (a .typeid) (a .peer) (w .result) (pairsIn (a .stored .now)) (a .ids .now) (requestsIn (a .count) (a .table .now)) (a .rest .now) (w .last .1 .1 .1 .1 .1 .0) (omega (arith, s .fits)) (omega (arith, s .fits)) f (w .ensures .0) (w .ensures .1) in
-    let q = wanted-done (a .gate) (a .clock) (a .typeid) (a .peer) (pairsIn (a .stored .now)) (idsIn (a .ids .now)) (idsIn (take (w .result * 32) (w .last .1 .1 .1 .1 .1 .0))) (requestsIn (a .count) (a .table .now)) (not-false (a .gate) (c .before .before .before .before .before .before .before .before .before .before .before .before .before .before .if1 .left)) e in
+    let q = wanted-done (a .gate) (a .clock) (a .typeid) (a .peer) (pairsIn (a .stored .now)) (idsIn (a .ids .now)) (idsIn (take (w .result * idSize) (w .last .1 .1 .1 .1 .1 .0))) (requestsIn (a .count) (a .table .now)) (not-false (a .gate) (c .before .before .before .before .before .before .before .before .before .before .before .before .before .before .if1 .left)) e in
     let r = c .before .before .before .before .mark-and-send .ensures in (
       r .0 ∙ ap (requestedAs (a .most) (a .at) (a .batch)) q,
       (r .1 .0 ∙ ap (λ (done : Done). heldWithin (a .most) (a .count) (done .pending) (a .table .now)) q, r .1 .1 ∙ ap (λ (done : Done). sentWithin (a .most) (a .at) (a .batch) done (a .out .now)) q),

@@ -7,6 +7,7 @@ use lib.ListN.{length}
 use Rattle.request_announced.proofs.WantedLaws.{pair-key, pairs-rise, stored-as}
 use Rattle.request_announced.proofs.wanted.is_stored.Statement.{statement}
 use Rattle.request_announced.proofs.wanted.is_stored.Tie as tie
+use Rattle.model.specs.Layout.{pairSize}
 
 array-write-key : tie.Need-array-write-key
 array-write-key c = search needs
@@ -23,7 +24,7 @@ slice-aggregate-has-key c = search needs
 has-key-requires : tie.Need-has-key-requires
 has-key-requires c κs = let s = c .before .before .before .before .before .before in
     let e = pair-key (s .args .typeid) (s .args .id .now) (c .before .before .overwrite .last .0) (s .pre .0) (c .before .before .overwrite .ensures) in
-    let l : length (c .before .before .overwrite .last .0) ≡ 33 = ap length e ∙ ap suc (s .pre .0) in
+    let l : length (c .before .before .overwrite .last .0) ≡ pairSize = ap length e ∙ ap suc (s .pre .0) in
     ((omega arith, (omega arith, omega arith)), rw l (pairs-rise (s .args .stored .now) (s .pre .1)))
 
 returns : tie.Need-returns

@@ -10,15 +10,16 @@ use Rattle.commands.specs.Pending.{requestsIn}
 use Rattle.request_announced.proofs.WantedLaws.{isWanted, Wanting, want-starts, want-take, want-skip, want-all, part-long}
 use Rattle.request_announced.proofs.wanted.wanted.Statement.{statement}
 use Rattle.request_announced.proofs.wanted.wanted.Tie as tie
+use Rattle.model.specs.Layout.{idSize}
 
 abbrev Inv-loop : tie.InvT-loop
-Inv-loop table count stored typeid ids rest₀ number kept₀ i₀ rest kept i = Wanting (isWanted (requestsIn count table) typeid (pairsIn stored)) (length ids / 32) ids rest₀ rest kept i
+Inv-loop table count stored typeid ids rest₀ number kept₀ i₀ rest kept i = Wanting (isWanted (requestsIn count table) typeid (pairsIn stored)) (length ids / idSize) ids rest₀ rest kept i
 
 abbrev μ-loop : tie.MeasureT-loop
-μ-loop table count stored typeid ids rest₀ number kept₀ i₀ rest kept i = length ids / 32 - i
+μ-loop table count stored typeid ids rest₀ number kept₀ i₀ rest kept i = length ids / idSize - i
 
 loop-holds : tie.Need-loop-holds Inv-loop μ-loop
-loop-holds c = let a = c .before .before .before .before .args in want-starts (isWanted (requestsIn (a .count) (a .table .now)) (a .typeid) (pairsIn (a .stored .now))) (length (a .ids .now) / 32) (a .ids .now) (a .rest .now)
+loop-holds c = let a = c .before .before .before .before .args in want-starts (isWanted (requestsIn (a .count) (a .table .now)) (a .typeid) (pairsIn (a .stored .now))) (length (a .ids .now) / idSize) (a .ids .now) (a .rest .now)
 
 mul-start : tie.Need-mul-start Inv-loop μ-loop
 mul-start c = search needs
@@ -38,7 +39,7 @@ part-is-wanted-end c = search needs
 is-wanted-requires : tie.Need-is-wanted-requires Inv-loop μ-loop
 is-wanted-requires c κs = let s = c .before .before .before .before .before .before .before in
     let a = s .args in
-    ((part-long (c .before .before .loop .i) (length (a .ids .now) / 32) (a .ids .now) (c .before .loop-test .taken) (omega arith), (s .pre .0 .1 .1, s .pre .1 .1)), s .pre .1 .0)
+    ((part-long (c .before .before .loop .i) (length (a .ids .now) / idSize) (a .ids .now) (c .before .loop-test .taken) (omega arith), (s .pre .0 .1 .1, s .pre .1 .1)), s .pre .1 .0)
 
 mul-overwrite : tie.Need-mul-overwrite Inv-loop μ-loop
 mul-overwrite c = search needs
@@ -56,7 +57,7 @@ overwrite-requires : tie.Need-overwrite-requires Inv-loop μ-loop
 overwrite-requires c κs = let s = c .before .before .before .before .before .before .before .before .before .before .before in
     let a = s .args in
     let l = c .before .before .before .before .before .before .loop in
-    rw (part-long (l .i) (length (a .ids .now) / 32) (a .ids .now) (c .before .before .before .before .before .loop-test .taken) (omega arith)) (omega (arith, l .inv .c-le, l .inv .long, s .pre .0 .1 .0, c .before .before .before .before .before .loop-test .taken))
+    rw (part-long (l .i) (length (a .ids .now) / idSize) (a .ids .now) (c .before .before .before .before .before .loop-test .taken) (omega arith)) (omega (arith, l .inv .c-le, l .inv .long, s .pre .0 .1 .0, c .before .before .before .before .before .loop-test .taken))
 
 add-kept : tie.Need-add-kept Inv-loop μ-loop
 add-kept c = search needs
@@ -74,8 +75,8 @@ loop-again c = let s = c .before .before .before .before .before .before .before
     let f = c .before .is-wanted in
     let test = isWanted (requestsIn (a .count) (a .table .now)) (a .typeid) (pairsIn (a .stored .now)) in
     ⊎-elim
-    (λ u. want-take test (length (a .ids .now) / 32) (a .ids .now) (a .rest .now) (l .rest) (l .kept) (l .i) (l .inv) (c .before .before .before .loop-test .taken) (omega arith) (omega (arith, s .pre .0 .1 .0)) (f .result) (f .ensures) (u .0 .taken) (c .if1 .rest) (c .if1 .kept) (u .6 ∙ u .3 .ensures) (u .7))
-    (λ u. want-skip test (length (a .ids .now) / 32) (a .ids .now) (a .rest .now) (l .rest) (l .kept) (l .i) (l .inv) (c .before .before .before .loop-test .taken) (omega arith) (omega (arith, s .pre .0 .1 .0)) (f .result) (f .ensures) (u .0 .left) (c .if1 .rest) (c .if1 .kept) (u .1) (u .2))
+    (λ u. want-take test (length (a .ids .now) / idSize) (a .ids .now) (a .rest .now) (l .rest) (l .kept) (l .i) (l .inv) (c .before .before .before .loop-test .taken) (omega arith) (omega (arith, s .pre .0 .1 .0)) (f .result) (f .ensures) (u .0 .taken) (c .if1 .rest) (c .if1 .kept) (u .6 ∙ u .3 .ensures) (u .7))
+    (λ u. want-skip test (length (a .ids .now) / idSize) (a .ids .now) (a .rest .now) (l .rest) (l .kept) (l .i) (l .inv) (c .before .before .before .loop-test .taken) (omega arith) (omega (arith, s .pre .0 .1 .0)) (f .result) (f .ensures) (u .0 .left) (c .if1 .rest) (c .if1 .kept) (u .1) (u .2))
     (c .if1 .came)
 
 same-length : tie.Need-same-length Inv-loop μ-loop

@@ -63,6 +63,7 @@ use Rattle.retries.proofs.batches.fill as fill
 use Rattle.retries.proofs.batches.fill.Statement as stated
 use Rattle.retries.proofs.batches.fill.Code as code
 use Rattle.retries.proofs.batches.fill.Code.Mir as mir
+use Rattle.model.specs.Layout.{idSize}
 
 abbrev stayed : Stays (fill.ended .signature .params) (fill.ended .kept)
 stayed = (stay-slice (0 ∷ []) tt (plain (λ _. T.the-row)), (stay-none-slice (1 ∷ []) tt (plain (λ _. u8)) yes, (stay-none-slice (2 ∷ []) tt (plain (λ _. u16)) yes, tt)))
@@ -165,7 +166,7 @@ module _ {M : Type 1} (𝓤 : URA M) (H : Heap 𝓤) (A : Atoms 𝓤) (W : Given
   within : (s : State) → s .f < length ps → s .k < length (s .list)
   within s less = fill-within t ps ys s (ok .1) less
 
-  byte-fits : (s : State) → s .f < length ps → s .k * 32 < 2 ^ 64
+  byte-fits : (s : State) → s .f < length ps → s .k * idSize < 2 ^ 64
   byte-fits s less = place-fits (length (s .list)) (s .k) (subst (Room T.the-row) (sym (s .len)) room) (within s less)
 
   -- _0 the answer, _1 the list, _2 the table, _3 the places, _4 count, _5 first, _6 the batch, _7 a number, _8 the loop's test, _9 where an element lies

@@ -63,10 +63,11 @@ use Rattle.retries.proofs.batches.grouped.Key.{name as #grouped}
 use Rattle.retries.proofs.batches.grouped as grouped
 use Rattle.retries.proofs.batches.grouped.Statement as stated
 use Rattle.retries.proofs.batches.grouped.Code as code
+use Rattle.model.specs.Protocol.{trackedLimit}
 
 -- how many batches the array has
 abbrev N : ℕ
-N = 1024
+N = trackedLimit
 
 room-N : Room T.the-row N
 room-N = (lit< tt, lit< tt)

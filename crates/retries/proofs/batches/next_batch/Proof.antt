@@ -1,6 +1,6 @@
 -- Its end by `batch_end`, its target and type by the first record: `batch-as`.
 use Rattle.fields.specs.Entries.{entry}
-use Rattle.model.specs.Image.{recordSize, requestOf}
+use Rattle.model.specs.Image.{requestOf}
 use Rattle.fields.proofs.AllLaws.{all-at}
 use Rattle.retries.specs.Items.{Asked}
 use Rattle.retries.specs.Batches.{batchAt}
@@ -13,6 +13,7 @@ use mathlib.Core.Path.{_≡_, _∙_}
 use lib.ListN.{getD}
 use Rattle.retries.proofs.batches.next_batch.Statement.{statement}
 use Rattle.retries.proofs.batches.next_batch.Tie as tie
+use Rattle.model.specs.Layout.{recordSize}
 
 batch-end-requires : tie.Need-batch-end-requires
 batch-end-requires c κs = search needs

@@ -16,6 +16,7 @@ use mathlib.Core.Path.{ap, _∙_}
 use lib.ListN.{length, take}
 use Rattle.step.proofs.copied.work_in.Statement.{statement}
 use Rattle.step.proofs.copied.work_in.Tie as tie
+use Rattle.model.specs.Layout.{regionAt}
 
 sub-carry-out : tie.Need-sub-carry-out
 sub-carry-out c = let s = c .before .before .before .before .before .before .before .before .before in let a = s .args in omega (arith, area-long (a .call) (a .ids .now) (a .continuation .now) (a .stored .now) (a .peers .now) (a .view .now) (a .state .now) (a .commands .now) (s .pre .0), ap length (s .pre .1 .0 .0))
@@ -39,7 +40,7 @@ refused-requires : tie.Need-refused-requires
 refused-requires c κs = tt
 
 same-length : tie.Need-same-length
-same-length c = let a = c .before .before .before .before .before .before .before .before .before .before .before .before .before .before .before .before .before .before .before .args in same-len-mid 2560 (length (a .image .now) - 2560) (a .image .now) (c .before .before .before .before .before .before .before .carry-out .last .0) (c .before .before .before .before .before .before .before .carry-out .kept .0)
+same-length c = let a = c .before .before .before .before .before .before .before .before .before .before .before .before .before .before .before .before .before .before .before .args in same-len-mid regionAt (length (a .image .now) - regionAt) (a .image .now) (c .before .before .before .before .before .before .before .carry-out .last .0) (c .before .before .before .before .before .before .before .carry-out .kept .0)
 
 same-length-2 : tie.Need-same-length-2
 same-length-2 c = c .before .before .before .before .before .before .before .carry-out .kept .1 .0
@@ -51,7 +52,7 @@ refused-requires-2 : tie.Need-refused-requires-2
 refused-requires-2 c κs = tt
 
 same-length-3 : tie.Need-same-length-3
-same-length-3 c = let a = c .before .before .before .before .before .before .before .before .before .before .before .before .before .before .before .before .before .before .before .before .before .before .before .args in same-len-mid 2560 (length (a .image .now) - 2560) (a .image .now) (c .before .before .before .before .before .before .before .before .before .before .before .carry-out .last .0) (c .before .before .before .before .before .before .before .before .before .before .before .carry-out .kept .0)
+same-length-3 c = let a = c .before .before .before .before .before .before .before .before .before .before .before .before .before .before .before .before .before .before .before .before .before .before .before .args in same-len-mid regionAt (length (a .image .now) - regionAt) (a .image .now) (c .before .before .before .before .before .before .before .before .before .before .before .carry-out .last .0) (c .before .before .before .before .before .before .before .before .before .before .before .carry-out .kept .0)
 
 same-length-4 : tie.Need-same-length-4
 same-length-4 c = c .before .before .before .before .before .before .before .before .before .before .before .carry-out .kept .1 .0
@@ -66,7 +67,7 @@ finish-requires : tie.Need-finish-requires
 finish-requires c κs =
     let s = c .before .before .before .before .before .before .before .before .before .before .before .before .before .before .before .before .before .before .before .before .before .before .before .before .before .before .before in let a = s .args in
     let ready = finish-ready (a .state .now) (a .commands .now) (callOf (a .call) (a .ids .now) (a .continuation .now) (a .stored .now) (a .peers .now) (a .view .now)) (a .plan) (s .pre .0) (s .pre .1 .1 .0) (s .pre .1 .1 .1) (c .before .before .before .before .before .before .before .before .before .counts .given .0 .0) (sym (c .before .before .before .before .before .before .before .before .before .counts .given .1) ∙ (c .before .before .before .before .before .before .before .before .before .before .before .before .before .before .before .carry-out .ensures (decode (a .state .now)) (callOf (a .call) (a .ids .now) (a .continuation .now) (a .stored .now) (a .peers .now) (a .view .now)) (work-given (a .call) (a .ids .now) (a .continuation .now) (a .stored .now) (a .peers .now) (a .view .now) (a .state .now) (a .commands .now) (s .pre .0) (λ i. omega (arith, c .before .before .before .before .before .before .before .before .before .before .before .before .before .before .before .before .before .before .before .before .before .before .before .before .before .before .slice-known .given i)) (a .image .now) (a .head) (s .pre .1 .0 .0) (s .pre .1 .0 .1 .1)) (its-continuation (a .call) (a .ids .now) (a .continuation .now) (a .stored .now) (a .peers .now) (a .view .now))) .answered) (omega (arith, c .before .before .before .before .before .if1 .left)) (λ i. omega (arith, c .before .before .before .before .before .before .before .before .before .before .before .before .before .before .before .before .before .before .before .before .before .before .before .before .before .before .slice-known .given i)) (in-width (a .call) (a .ids .now) (a .continuation .now) (a .stored .now) (a .peers .now) (a .view .now) (omega (arith, s .good .1 .1 .1 .1 .1 .1 .0)) (omega (arith, s .good .1 .1 .1 .1 .1 .1 .0)) (omega (arith, s .good .1 .1 .1 .1 .1 .1 .0)) (omega (arith, s .good .1 .1 .1 .1 .1 .1 .0)) (omega (arith, s .good .1 .1 .1 .1 .1 .1 .0)) (omega (arith, s .good .1 .1 .1 .1 .1 .1 .0)) (λ i. omega (arith, c .before .before .before .before .before .before .before .before .before .before .before .before .before .before .before .before .before .before .before .before .before .before .shared-slice-known .given i)) (λ i. omega (arith, c .before .before .before .before .before .before .before .before .before .before .before .before .before .before .before .before .before .before .before .before .before .shared-slice-known2 .given i)) (λ i. omega (arith, c .before .before .before .before .before .before .before .before .before .before .before .before .before .before .before .before .before .before .before .before .shared-slice-known3 .given i)) (λ i. omega (arith, c .before .before .before .before .before .before .before .before .before .before .before .before .before .before .before .before .before .before .before .shared-slice-known4 .given i)) (λ i. omega (arith, c .before .before .before .before .before .before .before .before .before .before .before .before .before .before .before .before .before .before .shared-slice-known5 .given i))) (a .head) (s .pre .1 .0 .1 .1) in
-    ((area-long (a .call) (a .ids .now) (a .continuation .now) (a .stored .now) (a .peers .now) (a .view .now) (a .state .now) (a .commands .now) (s .pre .0), (same-len-mid 2560 (length (a .image .now) - 2560) (a .image .now) (c .before .before .before .before .before .before .before .before .before .before .before .before .before .before .before .carry-out .last .0) (c .before .before .before .before .before .before .before .before .before .before .before .before .before .before .before .carry-out .kept .0) ∙ ap length (s .pre .1 .0 .0) ∙ area-long (a .call) (a .ids .now) (a .continuation .now) (a .stored .now) (a .peers .now) (a .view .now) (a .state .now) (a .commands .now) (s .pre .0), (commands-long (a .call) (a .ids .now) (a .continuation .now) (a .stored .now) (a .peers .now) (a .view .now) (a .state .now) (a .commands .now) (s .pre .0), omega (arith, s .pre .1 .0 .1 .0, c .before .before .before .before .before .before .before .before .before .before .before .before .before .before .before .carry-out .kept .1 .0)))), ((refl, ready .0), ready .1))
+    ((area-long (a .call) (a .ids .now) (a .continuation .now) (a .stored .now) (a .peers .now) (a .view .now) (a .state .now) (a .commands .now) (s .pre .0), (same-len-mid regionAt (length (a .image .now) - regionAt) (a .image .now) (c .before .before .before .before .before .before .before .before .before .before .before .before .before .before .before .carry-out .last .0) (c .before .before .before .before .before .before .before .before .before .before .before .before .before .before .before .carry-out .kept .0) ∙ ap length (s .pre .1 .0 .0) ∙ area-long (a .call) (a .ids .now) (a .continuation .now) (a .stored .now) (a .peers .now) (a .view .now) (a .state .now) (a .commands .now) (s .pre .0), (commands-long (a .call) (a .ids .now) (a .continuation .now) (a .stored .now) (a .peers .now) (a .view .now) (a .state .now) (a .commands .now) (s .pre .0), omega (arith, s .pre .1 .0 .1 .0, c .before .before .before .before .before .before .before .before .before .before .before .before .before .before .before .carry-out .kept .1 .0)))), ((refl, ready .0), ready .1))
 
 same-length-5 : tie.Need-same-length-5
 same-length-5 c = c .before .before .before .before .before .before .before .before .finish .kept .0
@@ -75,7 +76,7 @@ same-length-6 : tie.Need-same-length-6
 same-length-6 c = c .before .before .before .before .before .before .before .before .finish .kept .1 .0
 
 same-length-7 : tie.Need-same-length-7
-same-length-7 c = let s = c .before .before .before .before .before .before .before .before .before .before .before .before .before .before .before .before .before .before .before .before .before .before .before .before .before .before .before .before .before .before .before .before .before .before .before .before in let a = s .args in c .before .before .before .before .before .before .before .before .finish .kept .1 .1 .0 ∙ same-len-mid 2560 (length (a .image .now) - 2560) (a .image .now) (c .before .before .before .before .before .before .before .before .before .before .before .before .before .before .before .before .before .before .before .before .before .before .before .before .carry-out .last .0) (c .before .before .before .before .before .before .before .before .before .before .before .before .before .before .before .before .before .before .before .before .before .before .before .before .carry-out .kept .0)
+same-length-7 c = let s = c .before .before .before .before .before .before .before .before .before .before .before .before .before .before .before .before .before .before .before .before .before .before .before .before .before .before .before .before .before .before .before .before .before .before .before .before in let a = s .args in c .before .before .before .before .before .before .before .before .finish .kept .1 .1 .0 ∙ same-len-mid regionAt (length (a .image .now) - regionAt) (a .image .now) (c .before .before .before .before .before .before .before .before .before .before .before .before .before .before .before .before .before .before .before .before .before .before .before .before .carry-out .last .0) (c .before .before .before .before .before .before .before .before .before .before .before .before .before .before .before .before .before .before .before .before .before .before .before .before .carry-out .kept .0)
 
 same-length-8 : tie.Need-same-length-8
 same-length-8 c = c .before .before .before .before .before .before .before .before .finish .kept .1 .1 .1 .0 ∙ c .before .before .before .before .before .before .before .before .before .before .before .before .before .before .before .before .before .before .before .before .before .before .before .before .carry-out .kept .1 .0
@@ -84,11 +85,11 @@ returns-3 : tie.Need-returns-3
 returns-3 c = let s = c .before .before .before .before .before .before .before .before .before .before .before .before .before .before .before .before .before .before .before .before .before .before .before .before .before .before .before .before .before .before .before .before .before .before .before .before in let a = s .args in let m = c .before .before .before .before .before .before .before .before .before .before .before .before .before .before .before .before .before .before .before .before .before .before .before .before .carry-out in
     let q = (c .before .before .before .before .before .before .before .before .before .before .before .before .before .before .before .before .before .before .before .before .before .before .before .before .carry-out .ensures (decode (a .state .now)) (callOf (a .call) (a .ids .now) (a .continuation .now) (a .stored .now) (a .peers .now) (a .view .now)) (work-given (a .call) (a .ids .now) (a .continuation .now) (a .stored .now) (a .peers .now) (a .view .now) (a .state .now) (a .commands .now) (s .pre .0) (λ i. omega (arith, c .before .before .before .before .before .before .before .before .before .before .before .before .before .before .before .before .before .before .before .before .before .before .before .before .before .before .before .before .before .before .before .before .before .before .before .slice-known .given i)) (a .image .now) (a .head) (s .pre .1 .0 .0) (s .pre .1 .0 .1 .1)) (its-continuation (a .call) (a .ids .now) (a .continuation .now) (a .stored .now) (a .peers .now) (a .view .now))) in
     let long = area-long (a .call) (a .ids .now) (a .continuation .now) (a .stored .now) (a .peers .now) (a .view .now) (a .state .now) (a .commands .now) (s .pre .0) in
-    let i : 2560 ≤ length (a .image .now) = omega (arith, long, ap length (s .pre .1 .0 .0)) in
+    let i : regionAt ≤ length (a .image .now) = omega (arith, long, ap length (s .pre .1 .0 .0)) in
     let fin = c .before .before .before .before .before .before .before .before .finish in
     let fit = done-fits 0 0 (carriedBy (decode (a .state .now)) (callOf (a .call) (a .ids .now) (a .continuation .now) (a .stored .now) (a .peers .now) (a .view .now)) (a .plan)) (c .before .before .before .before .before .before .before .before .before .before .before .before .before .before .before .before .before .before .counts .given .0 .0) (sym (c .before .before .before .before .before .before .before .before .before .before .before .before .before .before .before .before .before .before .counts .given .1) ∙ q .answered) .0 in
-    finishes (a .state .now) (a .commands .now) (callOf (a .call) (a .ids .now) (a .continuation .now) (a .stored .now) (a .peers .now) (a .view .now)) (a .plan) (s .pre .0) (s .pre .1 .1 .0) (s .pre .1 .1 .1) (c .before .before .before .before .before .before .before .before .before .before .before .before .before .before .before .before .before .before .counts .given .0 .0) (sym (c .before .before .before .before .before .before .before .before .before .before .before .before .before .before .before .before .before .before .counts .given .1) ∙ (c .before .before .before .before .before .before .before .before .before .before .before .before .before .before .before .before .before .before .before .before .before .before .before .before .carry-out .ensures (decode (a .state .now)) (callOf (a .call) (a .ids .now) (a .continuation .now) (a .stored .now) (a .peers .now) (a .view .now)) (work-given (a .call) (a .ids .now) (a .continuation .now) (a .stored .now) (a .peers .now) (a .view .now) (a .state .now) (a .commands .now) (s .pre .0) (λ i. omega (arith, c .before .before .before .before .before .before .before .before .before .before .before .before .before .before .before .before .before .before .before .before .before .before .before .before .before .before .before .before .before .before .before .before .before .before .before .slice-known .given i)) (a .image .now) (a .head) (s .pre .1 .0 .0) (s .pre .1 .0 .1 .1)) (its-continuation (a .call) (a .ids .now) (a .continuation .now) (a .stored .now) (a .peers .now) (a .view .now))) .answered) (omega (arith, c .before .before .before .before .before .before .before .before .before .before .before .before .before .before .if1 .left)) (λ i. omega (arith, c .before .before .before .before .before .before .before .before .before .before .before .before .before .before .before .before .before .before .before .before .before .before .before .before .before .before .before .before .before .before .before .before .before .before .before .slice-known .given i)) (in-width (a .call) (a .ids .now) (a .continuation .now) (a .stored .now) (a .peers .now) (a .view .now) (omega (arith, s .good .1 .1 .1 .1 .1 .1 .0)) (omega (arith, s .good .1 .1 .1 .1 .1 .1 .0)) (omega (arith, s .good .1 .1 .1 .1 .1 .1 .0)) (omega (arith, s .good .1 .1 .1 .1 .1 .1 .0)) (omega (arith, s .good .1 .1 .1 .1 .1 .1 .0)) (omega (arith, s .good .1 .1 .1 .1 .1 .1 .0)) (λ i. omega (arith, c .before .before .before .before .before .before .before .before .before .before .before .before .before .before .before .before .before .before .before .before .before .before .before .before .before .before .before .before .before .before .before .shared-slice-known .given i)) (λ i. omega (arith, c .before .before .before .before .before .before .before .before .before .before .before .before .before .before .before .before .before .before .before .before .before .before .before .before .before .before .before .before .before .before .shared-slice-known2 .given i)) (λ i. omega (arith, c .before .before .before .before .before .before .before .before .before .before .before .before .before .before .before .before .before .before .before .before .before .before .before .before .before .before .before .before .before .shared-slice-known3 .given i)) (λ i. omega (arith, c .before .before .before .before .before .before .before .before .before .before .before .before .before .before .before .before .before .before .before .before .before .before .before .before .before .before .before .before .shared-slice-known4 .given i)) (λ i. omega (arith, c .before .before .before .before .before .before .before .before .before .before .before .before .before .before .before .before .before .before .before .before .before .before .before .before .before .before .before .shared-slice-known5 .given i))) (a .head) (s .pre .1 .0 .1 .1) (putMid 2560 (length (a .image .now) - 2560) (a .image .now) (m .last .0)) (a .out .now) (m .last .1 .0) (fin .last .0) (fin .last .1 .0) (answerOf (fin .result))
-    (front-kept 2560 (a .image .now) (m .last .0) i ∙ ap (take 2560) (s .pre .1 .0 .0)) (tail-put 2560 (a .image .now) (m .last .0) i ∙ q .left fit) (s .pre .1 .0 .1 .0) (q .written fit) (fin .ensures .0) (fin .ensures .1 .0) (fin .ensures .1 .1)
+    finishes (a .state .now) (a .commands .now) (callOf (a .call) (a .ids .now) (a .continuation .now) (a .stored .now) (a .peers .now) (a .view .now)) (a .plan) (s .pre .0) (s .pre .1 .1 .0) (s .pre .1 .1 .1) (c .before .before .before .before .before .before .before .before .before .before .before .before .before .before .before .before .before .before .counts .given .0 .0) (sym (c .before .before .before .before .before .before .before .before .before .before .before .before .before .before .before .before .before .before .counts .given .1) ∙ (c .before .before .before .before .before .before .before .before .before .before .before .before .before .before .before .before .before .before .before .before .before .before .before .before .carry-out .ensures (decode (a .state .now)) (callOf (a .call) (a .ids .now) (a .continuation .now) (a .stored .now) (a .peers .now) (a .view .now)) (work-given (a .call) (a .ids .now) (a .continuation .now) (a .stored .now) (a .peers .now) (a .view .now) (a .state .now) (a .commands .now) (s .pre .0) (λ i. omega (arith, c .before .before .before .before .before .before .before .before .before .before .before .before .before .before .before .before .before .before .before .before .before .before .before .before .before .before .before .before .before .before .before .before .before .before .before .slice-known .given i)) (a .image .now) (a .head) (s .pre .1 .0 .0) (s .pre .1 .0 .1 .1)) (its-continuation (a .call) (a .ids .now) (a .continuation .now) (a .stored .now) (a .peers .now) (a .view .now))) .answered) (omega (arith, c .before .before .before .before .before .before .before .before .before .before .before .before .before .before .if1 .left)) (λ i. omega (arith, c .before .before .before .before .before .before .before .before .before .before .before .before .before .before .before .before .before .before .before .before .before .before .before .before .before .before .before .before .before .before .before .before .before .before .before .slice-known .given i)) (in-width (a .call) (a .ids .now) (a .continuation .now) (a .stored .now) (a .peers .now) (a .view .now) (omega (arith, s .good .1 .1 .1 .1 .1 .1 .0)) (omega (arith, s .good .1 .1 .1 .1 .1 .1 .0)) (omega (arith, s .good .1 .1 .1 .1 .1 .1 .0)) (omega (arith, s .good .1 .1 .1 .1 .1 .1 .0)) (omega (arith, s .good .1 .1 .1 .1 .1 .1 .0)) (omega (arith, s .good .1 .1 .1 .1 .1 .1 .0)) (λ i. omega (arith, c .before .before .before .before .before .before .before .before .before .before .before .before .before .before .before .before .before .before .before .before .before .before .before .before .before .before .before .before .before .before .before .shared-slice-known .given i)) (λ i. omega (arith, c .before .before .before .before .before .before .before .before .before .before .before .before .before .before .before .before .before .before .before .before .before .before .before .before .before .before .before .before .before .before .shared-slice-known2 .given i)) (λ i. omega (arith, c .before .before .before .before .before .before .before .before .before .before .before .before .before .before .before .before .before .before .before .before .before .before .before .before .before .before .before .before .before .shared-slice-known3 .given i)) (λ i. omega (arith, c .before .before .before .before .before .before .before .before .before .before .before .before .before .before .before .before .before .before .before .before .before .before .before .before .before .before .before .before .shared-slice-known4 .given i)) (λ i. omega (arith, c .before .before .before .before .before .before .before .before .before .before .before .before .before .before .before .before .before .before .before .before .before .before .before .before .before .before .before .shared-slice-known5 .given i))) (a .head) (s .pre .1 .0 .1 .1) (putMid regionAt (length (a .image .now) - regionAt) (a .image .now) (m .last .0)) (a .out .now) (m .last .1 .0) (fin .last .0) (fin .last .1 .0) (answerOf (fin .result))
+    (front-kept regionAt (a .image .now) (m .last .0) i ∙ ap (take regionAt) (s .pre .1 .0 .0)) (tail-put regionAt (a .image .now) (m .last .0) i ∙ q .left fit) (s .pre .1 .0 .1 .0) (q .written fit) (fin .ensures .0) (fin .ensures .1 .0) (fin .ensures .1 .1)
 
 pub work-in-spec : {M : Type 1} → statement M
 work-in-spec =

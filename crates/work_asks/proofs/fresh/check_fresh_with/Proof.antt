@@ -8,6 +8,7 @@ use Rattle.fields.specs.Facts.{Bytes}
 use Rattle.work_asks.proofs.FreshLaws.{up-to-end, fresh-long, behind-few, behind-size, behind-rising, behind-at, behind-batch, asks-fresh}
 use Rattle.work_asks.proofs.fresh.check_fresh_with.Statement.{statement}
 use Rattle.work_asks.proofs.fresh.check_fresh_with.Tie as tie
+use Rattle.model.specs.Layout.{idSize}
 
 mul-size : tie.Need-mul-size
 mul-size c = search needs
@@ -37,14 +38,14 @@ slice-aggregate-ask-list : tie.Need-slice-aggregate-ask-list
 slice-aggregate-ask-list c = let s = c .before .before .before .before .before .before .before .before .before .before .before .before .before .before .before .before .before .before .before .before .before in
     let a = s .args in
     let v = c .before .before .before .before .before .before .before .before .before .before .before .overwrite in
-    let e = up-to-end (v .last .0) (a .fresh .now) (a .region .now) (length (a .region .now) - (length (a .region .now) - a .head .evicted * 32)) (length (a .region .now) - a .head .evicted * 32) (omega arith) (v .ensures) in
+    let e = up-to-end (v .last .0) (a .fresh .now) (a .region .now) (length (a .region .now) - (length (a .region .now) - a .head .evicted * idSize)) (length (a .region .now) - a .head .evicted * idSize) (omega arith) (v .ensures) in
     sym (fresh-long (a .head .evicted) (a .region .now) (a .fresh .now) (v .last .0) (omega (arith, s .pre .0 .few, s .pre .0 .size)) e)
 
 ask-list-requires : tie.Need-ask-list-requires
 ask-list-requires c κs = let s = c .before .before .before .before .before .before .before .before .before .before .before .before .before .before .before .before .before .before .before .before .before .before in
     let a = s .args in
     let v = c .before .before .before .before .before .before .before .before .before .before .before .before .overwrite in
-    let e = up-to-end (v .last .0) (a .fresh .now) (a .region .now) (length (a .region .now) - (length (a .region .now) - a .head .evicted * 32)) (length (a .region .now) - a .head .evicted * 32) (omega arith) (v .ensures) in
+    let e = up-to-end (v .last .0) (a .fresh .now) (a .region .now) (length (a .region .now) - (length (a .region .now) - a .head .evicted * idSize)) (length (a .region .now) - a .head .evicted * idSize) (omega arith) (v .ensures) in
     let m = c .before .before .before .before .before .before .before .check-region in
     let f : Bytes (a .region .now) = λ i. omega (arith, c .before .before .before .before .before .before .before .before .before .before .before .before .before .before .before .before .before .before .before .before .before .slice-known .given i) in
     let fp : Bytes (a .peers .now) = λ i. omega (arith, c .before .before .before .before .before .before .before .before .before .before .before .before .before .before .before .before .before .before .before .shared-slice-known2 .given i) in
@@ -70,7 +71,7 @@ returns : tie.Need-returns
 returns c = let s = c .before .before .before .before .before .before .before .before .before .before .before .before .before .before .before .before .before .before .before .before .before .before .before .before .before .before .before in
     let a = s .args in
     let v = c .before .before .before .before .before .before .before .before .before .before .before .before .before .before .before .before .before .overwrite in
-    let e = up-to-end (v .last .0) (a .fresh .now) (a .region .now) (length (a .region .now) - (length (a .region .now) - a .head .evicted * 32)) (length (a .region .now) - a .head .evicted * 32) (omega arith) (v .ensures) in
+    let e = up-to-end (v .last .0) (a .fresh .now) (a .region .now) (length (a .region .now) - (length (a .region .now) - a .head .evicted * idSize)) (length (a .region .now) - a .head .evicted * idSize) (omega arith) (v .ensures) in
     let m = c .before .before .before .before .before .before .before .before .before .before .before .before .check-region in
     let f : Bytes (a .region .now) = λ i. omega (arith, c .before .before .before .before .before .before .before .before .before .before .before .before .before .before .before .before .before .before .before .before .before .before .before .before .before .before .slice-known .given i) in
     let fp : Bytes (a .peers .now) = λ i. omega (arith, c .before .before .before .before .before .before .before .before .before .before .before .before .before .before .before .before .before .before .before .before .before .before .before .before .shared-slice-known2 .given i) in

@@ -10,6 +10,7 @@ use Rattle.work.specs.declared.Counts.{Counts}
 use Rattle.work_asks.proofs.IdsLaws.{asks-ids}
 use Rattle.work_asks.proofs.ids.ids.Statement.{statement}
 use Rattle.work_asks.proofs.ids.ids.Tie as tie
+use Rattle.model.specs.Layout.{idSize, recordSize}
 
 unasked-counts-requires : tie.Need-unasked-counts-requires
 unasked-counts-requires c κs = search needs
@@ -19,7 +20,7 @@ ask-list-requires c κs = let s = c .before .before .before .before .before .bef
     let u = c .before .before .unasked-counts .ensures in (
       (s .pre .1 .0 .0, (s .pre .1 .0 .1, (omega (arith, ap (λ (x : Counts). x .pending) u, ap (λ (x : Counts). x .evicted) u, s .pre .0 .few), omega (arith, s .pre .0 .size)))),
       (
-        subst (λ (x : Counts). rising 32 (entries 54 (x .pending) (s .args .region .now)) ≡ true) (sym u) (s .pre .0 .order),
+        subst (λ (x : Counts). rising idSize (entries recordSize (x .pending) (s .args .region .now)) ≡ true) (sym u) (s .pre .0 .order),
         (s .pre .1 .1 .0, (omega (arith, ap (λ (x : Counts). x .at) u, s .pre .1), omega (arith, ap (λ (x : Counts). x .batch) u, s .pre .1))),
       ),
     )

@@ -11,6 +11,7 @@ use Rattle.fields.proofs.NumberLaws.{bytes-take}
 use Rattle.work_asks.proofs.LostLaws.{left-few, left-size, left-rising, orphans-few, orphans-long, asks-lost}
 use Rattle.work_asks.proofs.orphans.lose_ask_with.Statement.{statement}
 use Rattle.work_asks.proofs.orphans.lose_ask_with.Tie as tie
+use Rattle.model.specs.Layout.{idSize, pairSize, recordSize}
 
 orphans-requires : tie.Need-orphans-requires
 orphans-requires c κs = search needs
@@ -54,7 +55,7 @@ ask-pairs-requires c κs = let s = c .before .before .before .before .before .be
     let few = s .pre .0 .few in (
       (omega (arith, l), (omega (arith, l, n, few), (omega (arith, ap (λ (x : Counts). x .pending) u, ap (λ (x : Counts). x .evicted) u, left-few (a .head) (a .call .clock) (a .region .now) (s .pre .0) f (q .result) (q .last .0) (q .ensures .0) (q .ensures .1)), omega (arith, left-size (a .head) (a .call .clock) (a .region .now) (s .pre .0) f (q .result) (q .last .0) (q .ensures .0) (q .ensures .1))))),
       (
-        subst (λ (x : Counts). rising 32 (entries 54 (x .pending) (q .last .0)) ≡ true) (sym u) (left-rising (a .head) (a .call .clock) (a .region .now) (s .pre .0) f (q .result) (q .last .0) (q .ensures .0) (q .ensures .1)),
+        subst (λ (x : Counts). rising idSize (entries recordSize (x .pending) (q .last .0)) ≡ true) (sym u) (left-rising (a .head) (a .call .clock) (a .region .now) (s .pre .0) f (q .result) (q .last .0) (q .ensures .0) (q .ensures .1)),
         (s .pre .1 .0 .0, (omega (arith, ap (λ (x : Counts). x .at) u, l, n, few, s .pre .1 .1), omega (arith, ap (λ (x : Counts). x .batch) u, l, n, few, s .pre .1 .1))),
       ),
     )
@@ -81,7 +82,7 @@ returns c = let s = c .before .before .before .before .before .before .before .b
     let fp : Bytes (o .last .1 .1 .1 .0) = λ i. omega (arith, c .before .before .before .before .before .before .before .before .before .before .before .before .before .slice-known4 .given i) in
     λ st call ids peers view g downloaded.
     asks-lost (a .head) (a .call) (a .region .now) ids (a .stored .now) peers view st call g (s .pre .0) f k (a .at) (a .batch) downloaded (a .peer) hp (a .out .now) (s .pre .1 .1 .0) (m .result) (m .last .0) (m .last .1 .1 .1 .1 .1 .1 .0) (u .result)
-    (q .result) (o .result) (q .last .0) (a .pairs .now) (o .last .1 .1 .1 .0) (q .ensures .0) (q .ensures .1) (o .ensures .0) (o .ensures .1) (bytes-take (o .result * 33) (o .last .1 .1 .1 .0) fp) (u .ensures) (m .ensures)
+    (q .result) (o .result) (q .last .0) (a .pairs .now) (o .last .1 .1 .1 .0) (q .ensures .0) (q .ensures .1) (o .ensures .0) (o .ensures .1) (bytes-take (o .result * pairSize) (o .last .1 .1 .1 .0) fp) (u .ensures) (m .ensures)
 
 pub lose-ask-with-spec : {M : Type 1} → statement M
 lose-ask-with-spec =

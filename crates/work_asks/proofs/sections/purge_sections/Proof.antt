@@ -10,6 +10,7 @@ use Rattle.work.specs.declared.Counts.{Counts}
 use Rattle.work_asks.proofs.SectionsLaws.{none-rising, asks-after-purge}
 use Rattle.work_asks.proofs.sections.purge_sections.Statement.{statement}
 use Rattle.work_asks.proofs.sections.purge_sections.Tie as tie
+use Rattle.model.specs.Layout.{idSize, recordSize}
 
 purge-all-requires : tie.Need-purge-all-requires
 purge-all-requires c κs = search needs
@@ -23,7 +24,7 @@ ask-sections-requires c κs = let s = c .before .before .before .before .before 
     let m = c .before .before .before .before .before .purge-all in (
       (omega (arith, ap (λ (x : Counts). x .pending) u, ap (λ (x : Counts). x .evicted) u, s .pre .0 .few), omega (arith, m .kept, s .pre .0 .size)),
       (
-        subst (λ (x : Counts). rising 32 (entries 54 (x .pending) (m .last .0)) ≡ true) (sym u) (none-rising (m .last .0)),
+        subst (λ (x : Counts). rising idSize (entries recordSize (x .pending) (m .last .0)) ≡ true) (sym u) (none-rising (m .last .0)),
         (s .pre .1 .0, (omega (arith, ap (λ (x : Counts). x .at) u, s .pre .1 .1), omega (arith, ap (λ (x : Counts). x .batch) u, s .pre .1 .1))),
       ),
     )
