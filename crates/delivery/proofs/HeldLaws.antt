@@ -17,17 +17,18 @@ use Rattle.fields.proofs.FilterLaws.{length-kept}
 use Rattle.fields.proofs.MarkLaws.{kept-map, length-marks-left}
 use Rattle.fields.proofs.OverwriteLaws.{overwritten-next}
 use Rattle.fields.proofs.EntriesLaws.{Wide, length-entries, entries-wide, entries-bytes, joined-entries, joined-append, drop-replaced, length-replaced}
-use Rattle.moving.specs.Move.{moved}
-use Rattle.moving.proofs.MoveLaws.{length-part}
-use Rattle.model.specs.Protocol.{Id, isAmong}
+use Rattle.spans.specs.Move.{moved}
+use Rattle.spans.proofs.MoveLaws.{length-part}
+use Rattle.model.specs.Protocol.{Id, isAmong, trackedLimit}
 use Rattle.model.specs.Delivery.{Request, markReceived, pendingAfterEviction, evictedAfterEviction}
-use Rattle.model.specs.Image.{idSize, recordSize, requestOf}
+use Rattle.model.specs.Image.{requestOf}
 use Rattle.model.specs.Lists.{idsIn}
 use Rattle.model.proofs.RecordLaws.{records-of-requests}
-use Rattle.requests.specs.Pending.{requestsIn, holding}
+use Rattle.commands.specs.Pending.{requestsIn, holding}
 use Rattle.delivery.specs.Records.{unlisted}
 use Rattle.delivery.specs.Region.{evictedIn, endingWith, scheduledAs, regionThen}
 use Rattle.delivery.specs.declared.evict.Evicted.the-variants.{Pending, Full}
+use Rattle.model.specs.Layout.{idSize, recordSize, tableSize}
 
 module _ (count : ℕ) (table : List ℕ) where
   pub length-filtered : (test : Request → Bool) → length (kept (λ (e : List ℕ). test (requestOf e)) (entries recordSize count table)) ≡ length (kept test (requestsIn count table))
@@ -57,38 +58,38 @@ module _ (count : ℕ) (table : List ℕ) where
 
 -- ---- the evicted ids at the region's end
 
-length-after : (evicted : ℕ) (ids region : List ℕ) → length (evictedAfterEviction (idsIn ids) (evictedIn evicted region)) ≡ evicted + length ids / 32
+length-after : (evicted : ℕ) (ids region : List ℕ) → length (evictedAfterEviction (idsIn ids) (evictedIn evicted region)) ≡ evicted + length ids / idSize
 unfolding evictedAfterEviction idsIn
 length-after evicted ids region =
     length-append (evictedIn evicted region) (idsIn ids)
-    ∙ rw (length-entries idSize evicted (drop (length region - evicted * idSize) region), length-entries idSize (length ids / 32) ids)
+    ∙ rw (length-entries idSize evicted (drop (length region - evicted * idSize) region), length-entries idSize (length ids / idSize) ids)
 
-joined-ids : (ids : List ℕ) → length ids % 32 ≡ 0 → joined (idsIn ids) ≡ ids
+joined-ids : (ids : List ℕ) → length ids % idSize ≡ 0 → joined (idsIn ids) ≡ ids
 unfolding idsIn
 joined-ids ids h =
-    let e : length ids / 32 * 32 ≡ length ids = omega arith in
-    joined-entries idSize (length ids / 32) ids ∙ rw e (take-all (length ids) ids (omega arith))
+    let e : length ids / idSize * idSize ≡ length ids = omega arith in
+    joined-entries idSize (length ids / idSize) ids ∙ rw e (take-all (length ids) ids (omega arith))
 
-pub appended : (evicted at : ℕ) (ids region x y : List ℕ) → length ids % 32 ≡ 0 → evicted * 32 + length ids ≤ length region
-    → x ≡ moved (length region - evicted * 32) (length region - evicted * 32 - length ids) (evicted * 32) region
+pub appended : (evicted at : ℕ) (ids region x y : List ℕ) → length ids % idSize ≡ 0 → evicted * idSize + length ids ≤ length region
+    → x ≡ moved (length region - evicted * idSize) (length region - evicted * idSize - length ids) (evicted * idSize) region
     → at ≡ length region - length ids → y ≡ overwritten at ids x
     → y ≡ endingWith (evictedAfterEviction (idsIn ids) (evictedIn evicted region)) region
 unfolding endingWith evictedAfterEviction moved
 appended evicted at ids region x y h l p a q =
-    let from : ℕ = length region - evicted * 32 in
-    let to : ℕ = length region - evicted * 32 - length ids in
-    let block : List ℕ = take (evicted * 32) (drop from region) in
-    let lb : length block ≡ evicted * 32 = length-part from (evicted * 32) region (omega arith) in
+    let from : ℕ = length region - evicted * idSize in
+    let to : ℕ = length region - evicted * idSize - length ids in
+    let block : List ℕ = take (evicted * idSize) (drop from region) in
+    let lb : length block ≡ evicted * idSize = length-part from (evicted * idSize) region (omega arith) in
     let j : joined (evictedIn evicted region ++ idsIn ids) ≡ block ++ ids =
     joined-append (evictedIn evicted region) (idsIn ids) ∙ rw (joined-entries idSize evicted (drop from region), joined-ids ids h) in
-    let n : length (evictedIn evicted region ++ idsIn ids) ≡ evicted + length ids / 32 = length-after evicted ids region in
-    let t : length region - (evicted + length ids / 32) * 32 ≡ to = omega arith in
+    let n : length (evictedIn evicted region ++ idsIn ids) ≡ evicted + length ids / idSize = length-after evicted ids region in
+    let t : length region - (evicted + length ids / idSize) * idSize ≡ to = omega arith in
     let u : at ≡ to + length block = omega arith in
     q ∙ rw (u, p, n, t, j) (overwritten-next to block ids region (omega arith))
 
 -- ---- scheduling
 
-module _ (count evicted left : ℕ) (marks ids region : List ℕ) (m : length marks ≡ 1024) (c : count + evicted ≤ 1024) (h : 55296 ≤ length region)
+module _ (count evicted left : ℕ) (marks ids region : List ℕ) (m : length marks ≡ trackedLimit) (c : count + evicted ≤ trackedLimit) (h : tableSize ≤ length region)
     (a : left ≡ length (kept (λ (n : ℕ). eqb n 1) (take count marks)))
     (e : marked marks (entries recordSize count region) ≡ unlisted (idsIn ids) (entries recordSize count region)) where
   left-pending : left ≡ length (pendingAfterEviction (idsIn ids) (requestsIn count region))
@@ -98,13 +99,13 @@ module _ (count evicted left : ℕ) (marks ids region : List ℕ) (m : length ma
       let z : length (marked marks (entries recordSize count region)) ≡ length (kept (λ (n : ℕ). eqb n 1) (take count marks)) = rw k at (length-marks-left marks (entries recordSize count region) (omega arith)) in
       a ∙ sym z ∙ ap length e ∙ length-filtered count region (λ (r : Request). not (isAmong (r .id) (idsIn ids)))
 
-  pub scheduled-full : 1024 < left + evicted + length ids / 32
-      → (Full ≡ scheduledAs 1024 (pendingAfterEviction (idsIn ids) (requestsIn count region)) (evictedAfterEviction (idsIn ids) (evictedIn evicted region)))
-      × (region ≡ regionThen 1024 count (pendingAfterEviction (idsIn ids) (requestsIn count region)) (evictedAfterEviction (idsIn ids) (evictedIn evicted region)) region)
+  pub scheduled-full : trackedLimit < left + evicted + length ids / idSize
+      → (Full ≡ scheduledAs trackedLimit (pendingAfterEviction (idsIn ids) (requestsIn count region)) (evictedAfterEviction (idsIn ids) (evictedIn evicted region)))
+      × (region ≡ regionThen trackedLimit count (pendingAfterEviction (idsIn ids) (requestsIn count region)) (evictedAfterEviction (idsIn ids) (evictedIn evicted region)) region)
   unfolding scheduledAs regionThen
   scheduled-full o =
-      let b : leb (left + (evicted + length ids / 32)) 1024 ≡ false = lt-leb (left + (evicted + length ids / 32)) 1024 (omega arith) in
-      let s : leb (length (pendingAfterEviction (idsIn ids) (requestsIn count region)) + length (evictedAfterEviction (idsIn ids) (evictedIn evicted region))) 1024 ≡ false =
+      let b : leb (left + (evicted + length ids / idSize)) trackedLimit ≡ false = lt-leb (left + (evicted + length ids / idSize)) trackedLimit (omega arith) in
+      let s : leb (length (pendingAfterEviction (idsIn ids) (requestsIn count region)) + length (evictedAfterEviction (idsIn ids) (evictedIn evicted region))) trackedLimit ≡ false =
       rw (← left-pending, length-after evicted ids region) b in
       (rw s, rw s)
 
@@ -131,12 +132,12 @@ module _ (count evicted left : ℕ) (marks ids region : List ℕ) (m : length ma
         ap (drop (length region - evicted * idSize)) x′ ∙ drop-replaced recordSize count es region w (length region - evicted * idSize) (rw k (omega arith)) in
         rw (lx, d)
 
-    pub scheduled : left + evicted + length ids / 32 ≤ 1024
-        → (Pending left ≡ scheduledAs 1024 (pendingAfterEviction (idsIn ids) (requestsIn count region)) (evictedAfterEviction (idsIn ids) (evictedIn evicted region)))
-        × (y ≡ regionThen 1024 count (pendingAfterEviction (idsIn ids) (requestsIn count region)) (evictedAfterEviction (idsIn ids) (evictedIn evicted region)) region)
+    pub scheduled : left + evicted + length ids / idSize ≤ trackedLimit
+        → (Pending left ≡ scheduledAs trackedLimit (pendingAfterEviction (idsIn ids) (requestsIn count region)) (evictedAfterEviction (idsIn ids) (evictedIn evicted region)))
+        × (y ≡ regionThen trackedLimit count (pendingAfterEviction (idsIn ids) (requestsIn count region)) (evictedAfterEviction (idsIn ids) (evictedIn evicted region)) region)
     unfolding scheduledAs regionThen
     scheduled o =
-        let b : leb (left + (evicted + length ids / 32)) 1024 ≡ true = le-leb (left + (evicted + length ids / 32)) 1024 (omega arith) in
-        let s : leb (length (pendingAfterEviction (idsIn ids) (requestsIn count region)) + length (evictedAfterEviction (idsIn ids) (evictedIn evicted region))) 1024 ≡ true =
+        let b : leb (left + (evicted + length ids / idSize)) trackedLimit ≡ true = le-leb (left + (evicted + length ids / idSize)) trackedLimit (omega arith) in
+        let s : leb (length (pendingAfterEviction (idsIn ids) (requestsIn count region)) + length (evictedAfterEviction (idsIn ids) (evictedIn evicted region))) trackedLimit ≡ true =
         rw (← left-pending, length-after evicted ids region) b in
         (rw s (ap Pending left-pending), q ∙ rw (evicted-stay, s, ← held))

@@ -1,3 +1,5 @@
 pub mod CountLaws
-pub mod ListedLaws
 pub mod HeldLaws
+pub mod ListedLaws
+pub mod OtherLaws
+pub mod OrphanLaws

@@ -13,14 +13,14 @@ use Rattle.fields.proofs.AllLaws.{all-by-index, all-marked}
 use Rattle.fields.proofs.MarkLaws.{kept-all, kept-same-test, kept-kept, marked-unset}
 use Rattle.fields.proofs.OrderLaws.{same-sym, before-not-same}
 use Rattle.fields.proofs.RisingLaws.{rising-at}
-use Rattle.search.specs.Find.{found}
-use Rattle.search.specs.declared.find.Found.the-variants.{At, Gap}
-use Rattle.search.proofs.FindLaws.{at-inside, at-same, at-key, gap-absent}
+use Rattle.keys.specs.Find.{found}
+use Rattle.keys.specs.declared.find.Found.the-variants.{At, Gap}
+use Rattle.keys.proofs.FindLaws.{at-inside, at-same, at-key, gap-absent}
 use Rattle.model.specs.Protocol.{Id, isAmong}
-use Rattle.model.specs.Image.{idSize}
 use Rattle.model.specs.Lists.{idsIn}
-use Rattle.requests.proofs.RunLaws.{ids-from, ids-none}
+use Rattle.commands.proofs.RunLaws.{ids-from, ids-none}
 use Rattle.delivery.specs.Records.{unlisted}
+use Rattle.model.specs.Layout.{idSize}
 
 neither-of : (a b : Bool) → not (a || false) && not b ≡ not (a || b)
 neither-of true b = refl
@@ -74,11 +74,11 @@ module _ (id : List ℕ) (es : List (List ℕ)) (marks : List ℕ) (i : ℕ) (l 
 -- ---- one after another
 
 module _ (ids : List ℕ) (at : ℕ) where
-  pub listed-turn : (marks marks′ : List ℕ) (es : List (List ℕ)) → length ids % 32 ≡ 0 → at % 32 ≡ 0 → at < length ids
-      → marked marks′ es ≡ unlisted (take (at + 32 - at) (drop at ids) ∷ []) (marked marks es)
-      → unlisted (idsIn (drop (at + 32) ids)) (marked marks′ es) ≡ unlisted (idsIn (drop at ids)) (marked marks es)
+  pub listed-turn : (marks marks′ : List ℕ) (es : List (List ℕ)) → length ids % idSize ≡ 0 → at % idSize ≡ 0 → at < length ids
+      → marked marks′ es ≡ unlisted (take (at + idSize - at) (drop at ids) ∷ []) (marked marks es)
+      → unlisted (idsIn (drop (at + idSize) ids)) (marked marks′ es) ≡ unlisted (idsIn (drop at ids)) (marked marks es)
   listed-turn marks marks′ es h a o e =
-      rw (e, ids-from at ids h a o) (unlisted-cons (take (at + 32 - at) (drop at ids)) (idsIn (drop (at + 32) ids)) (marked marks es))
+      rw (e, ids-from at ids h a o) (unlisted-cons (take (at + idSize - at) (drop at ids)) (idsIn (drop (at + idSize) ids)) (marked marks es))
 
   pub listed-end : (es all : List (List ℕ)) → length ids ≤ at → unlisted (idsIn (drop at ids)) es ≡ all → es ≡ all
   listed-end es all h e =

@@ -1,2 +1,4 @@
 pub mod Records
 pub mod Region
+pub mod Others
+pub mod Orphans

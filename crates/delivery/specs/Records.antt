@@ -5,7 +5,7 @@ use mathlib.Core.List.{List}
 use lib.ListN.{take}
 use Rattle.fields.specs.Filter.{kept}
 use Rattle.model.specs.Protocol.{Id, isAmong}
-use Rattle.model.specs.Image.{idSize}
+use Rattle.model.specs.Layout.{idSize}
 
 -- the records whose id is none of these
 unfoldable pub unlisted : List Id → List (List ℕ) → List (List ℕ)

@@ -8,10 +8,10 @@ use Rattle.fields.specs.Overwrite.{overwritten}
 use Rattle.fields.specs.Entries.{entries, joined}
 use Rattle.model.specs.Protocol.{Id}
 use Rattle.model.specs.Delivery.{Request}
-use Rattle.model.specs.Image.{idSize}
-use Rattle.requests.specs.Pending.{holding}
+use Rattle.commands.specs.Pending.{holding}
 use Rattle.delivery.specs.declared.evict.Evicted.{Evicted}
 use Rattle.delivery.specs.declared.evict.Evicted.the-variants.{Pending, Full}
+use Rattle.model.specs.Layout.{idSize}
 
 -- the last `count` ids of the region
 abbrev pub evictedIn : ℕ → List ℕ → List Id

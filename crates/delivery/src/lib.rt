@@ -5,4 +5,6 @@
 // delivery_check, what concerns a peer in purge and orphans.
 pub mod evict;
 mod marks;
+pub mod orphans;
+pub mod purge;
 pub mod received;

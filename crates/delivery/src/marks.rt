@@ -9,15 +9,20 @@ ghost use Rattle.fields.specs.Entries.{entries, rising};
 ghost use Rattle.fields.specs.Filter.{kept, marked};
 ghost use Rattle.model.specs.Lists.{idsIn};
 ghost use Rattle.delivery.specs.Records.{unlisted};
-use search::find::Found;
+ghost use Rattle.model.specs.Layout.{idSize, recordSize};
+ghost use Rattle.model.specs.Protocol.{trackedLimit};
+use keys::find::Found;
+use model::layout::ID_SIZE;
+use model::layout::RECORD_SIZE;
+use model::layout::TRACKED_LIMIT;
 
 // Takes the mark from the record that has this id, by a binary search.
 pub fn unmark(table: &[u8], count: usize, id: &[u8], marks: &mut [u8])
-    requires { ⌜ (length (now id) ≡ 32) × ((count * 54 ≤ length (now table)) × (count ≤ length (now marks))) ⌝ }
-    requires { ⌜ rising 32 (entries 54 count (now table)) ≡ true ⌝ }
-    ensures { λ _. ⌜ marked (now (marks .exit)) (entries 54 count (now (table .entry))) ≡ unlisted (now (id .entry) ∷ []) (marked (now (marks .entry)) (entries 54 count (now (table .entry)))) ⌝ }
+    requires { ⌜ (length (now id) ≡ idSize) × ((count * recordSize ≤ length (now table)) × (count ≤ length (now marks))) ⌝ }
+    requires { ⌜ rising idSize (entries recordSize count (now table)) ≡ true ⌝ }
+    ensures { λ _. ⌜ marked (now (marks .exit)) (entries recordSize count (now (table .entry))) ≡ unlisted (now (id .entry) ∷ []) (marked (now (marks .entry)) (entries recordSize count (now (table .entry)))) ⌝ }
 {
-    match search::find::find(table, 54, count, id) {
+    match keys::find::find(table, RECORD_SIZE, count, id) {
         Found::At(i) => {
             marks[i] = 0;
         }
@@ -27,25 +32,25 @@ pub fn unmark(table: &[u8], count: usize, id: &[u8], marks: &mut [u8])
 
 // Takes the marks from all records whose id is listed.
 pub fn unmark_listed(table: &[u8], count: usize, ids: &[u8], marks: &mut [u8])
-    requires { ⌜ (length (now ids) % 32 ≡ 0) × ((count * 54 ≤ length (now table)) × (count ≤ length (now marks))) ⌝ }
-    requires { ⌜ rising 32 (entries 54 count (now table)) ≡ true ⌝ }
-    ensures { λ _. ⌜ marked (now (marks .exit)) (entries 54 count (now (table .entry))) ≡ unlisted (idsIn (now (ids .entry))) (marked (now (marks .entry)) (entries 54 count (now (table .entry)))) ⌝ }
+    requires { ⌜ (length (now ids) % idSize ≡ 0) × ((count * recordSize ≤ length (now table)) × (count ≤ length (now marks))) ⌝ }
+    requires { ⌜ rising idSize (entries recordSize count (now table)) ≡ true ⌝ }
+    ensures { λ _. ⌜ marked (now (marks .exit)) (entries recordSize count (now (table .entry))) ≡ unlisted (idsIn (now (ids .entry))) (marked (now (marks .entry)) (entries recordSize count (now (table .entry)))) ⌝ }
 {
     let mut at = 0;
     while at < ids.len() {
-        let end = at + 32;
+        let end = at + ID_SIZE;
         unmark(table, count, &ids[at..end], marks);
         at = end;
     }
 }
 
 // Marks for the records whose id is not listed.
-pub fn marks_of_unlisted(table: &[u8], count: usize, ids: &[u8]) -> [u8; 1024]
-    requires { ⌜ (length (now ids) % 32 ≡ 0) × ((count ≤ 1024) × (count * 54 ≤ length (now table))) ⌝ }
-    requires { ⌜ rising 32 (entries 54 count (now table)) ≡ true ⌝ }
-    ensures { λ r. ⌜ marked r (entries 54 count (now (table .entry))) ≡ unlisted (idsIn (now (ids .entry))) (entries 54 count (now (table .entry))) ⌝ }
+pub fn marks_of_unlisted(table: &[u8], count: usize, ids: &[u8]) -> [u8; TRACKED_LIMIT]
+    requires { ⌜ (length (now ids) % idSize ≡ 0) × ((count ≤ trackedLimit) × (count * recordSize ≤ length (now table))) ⌝ }
+    requires { ⌜ rising idSize (entries recordSize count (now table)) ≡ true ⌝ }
+    ensures { λ r. ⌜ marked r (entries recordSize count (now (table .entry))) ≡ unlisted (idsIn (now (ids .entry))) (entries recordSize count (now (table .entry))) ⌝ }
 {
-    let mut marks = [1u8; 1024];
+    let mut marks = [1u8; TRACKED_LIMIT];
     unmark_listed(table, count, ids, &mut marks);
     marks
 }

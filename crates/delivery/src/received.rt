@@ -6,15 +6,18 @@ ghost use lib.ListN.{length};
 ghost use Rattle.fields.specs.Entries.{entries, rising};
 ghost use Rattle.model.specs.Delivery.{markReceived};
 ghost use Rattle.model.specs.Lists.{idsIn};
-ghost use Rattle.requests.specs.Pending.{requestsIn, holding};
+ghost use Rattle.commands.specs.Pending.{requestsIn, holding};
+ghost use Rattle.model.specs.Layout.{idSize, recordSize};
+ghost use Rattle.model.specs.Protocol.{trackedLimit};
+use model::layout::RECORD_SIZE;
 
 // Takes the listed ids out of the table. Answers how many requests are left.
 pub fn mark_received(table: &mut [u8], count: usize, ids: &[u8]) -> usize
-    requires { ⌜ (length (now ids) % 32 ≡ 0) × ((count ≤ 1024) × (count * 54 ≤ length (now table))) ⌝ }
-    requires { ⌜ rising 32 (entries 54 count (now table)) ≡ true ⌝ }
+    requires { ⌜ (length (now ids) % idSize ≡ 0) × ((count ≤ trackedLimit) × (count * recordSize ≤ length (now table))) ⌝ }
+    requires { ⌜ rising idSize (entries recordSize count (now table)) ≡ true ⌝ }
     ensures { λ r. ⌜ r ≡ length (markReceived (idsIn (now (ids .entry))) (requestsIn count (now (table .entry)))) ⌝ }
     ensures { λ _. ⌜ now (table .exit) ≡ holding count (markReceived (idsIn (now (ids .entry))) (requestsIn count (now (table .entry)))) (now (table .entry)) ⌝ }
 {
     let marks = crate::marks::marks_of_unlisted(table, count, ids);
-    table::keep::keep(table, 54, count, &marks)
+    table::keep::keep(table, RECORD_SIZE, count, &marks)
 }

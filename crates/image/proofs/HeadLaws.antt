@@ -8,11 +8,12 @@ use Rattle.fields.specs.Number.{fromBe}
 use Rattle.fields.specs.Entries.{entries}
 use Rattle.fields.proofs.EntriesLaws.{length-entries}
 use Rattle.model.specs.State.{State}
-use Rattle.model.specs.Image.{areaSize, modeByte, headerBytes, requestOf, decode, settingsOf, stalledOf, pendingOf, evictedOf, stalledCount, pendingCount, evictedCount, wellFormed}
+use Rattle.model.specs.Image.{modeByte, headerBytes, requestOf, decode, settingsOf, stalledOf, pendingOf, evictedOf, stalledCount, pendingCount, evictedCount, wellFormed}
 use Rattle.model.proofs.HeaderLaws.{number-of-mode}
 use Rattle.model.proofs.FormedLaws.{formed}
 use Rattle.image.specs.declared.head.Head.{Head}
 use Rattle.image.specs.Heads.{headIn, headBytes, headOf}
+use Rattle.model.specs.Layout.{areaSize, idSize, recordSize, regionAt}
 
 -- ---- the header of a state
 
@@ -32,11 +33,11 @@ length-stalledOf area = length-map (entries 8 (stalledCount area) (drop 512 area
 
 length-pendingOf : (area : List ℕ) → length (pendingOf area) ≡ pendingCount area
 unfolding pendingOf
-length-pendingOf area = length-map (entries 54 (pendingCount area) (drop 2560 area)) requestOf ∙ length-entries 54 (pendingCount area) (drop 2560 area)
+length-pendingOf area = length-map (entries recordSize (pendingCount area) (drop regionAt area)) requestOf ∙ length-entries recordSize (pendingCount area) (drop regionAt area)
 
 length-evictedOf : (area : List ℕ) → length (evictedOf area) ≡ evictedCount area
 unfolding evictedOf
-length-evictedOf area = length-entries 32 (evictedCount area) (drop (areaSize - evictedCount area * 32) area)
+length-evictedOf area = length-entries idSize (evictedCount area) (drop (areaSize - evictedCount area * idSize) area)
 
 -- the header of a well-formed area is its state's
 pub head-decode : (area : List ℕ) → wellFormed area ≡ true → headOf (decode area) ≡ headIn area

@@ -1,1 +1,3 @@
 pub mod HeadLaws
+pub mod WrittenLaws
+pub mod OpenedLaws

@@ -6,8 +6,8 @@ ghost use mathlib.Core.Path.{_≡_};
 ghost use mathlib.Core.Bool.{true};
 ghost use Prim.Native.Nat.{_+_, _*_, _≤_, _<_};
 ghost use lib.ListN.{length};
-ghost use Rattle.keeping.specs.Kept.{Kept};
-use keeping::Keeper;
+ghost use Rattle.keeper_text.specs.Kept.{Kept};
+use keeper_text::keeping::Keeper;
 
 // What is kept between two reads: `held` bytes of a line stand at the front of the text.
 struct Reading {
@@ -30,7 +30,7 @@ fn answer(table: &mut [u8], keeper: Keeper, text: &mut [u8], size: usize, out: &
     requires { ⌜ Kept keeper (now table) × ((size ≤ length (now text)) × (length (now text) * 42 + 126 ≤ length (now out))) ⌝ }
     ensures { λ r. ⌜ (r .going ≡ true → Kept (r .keeper) (now (table .exit)) × (r .held < length (now (text .entry)))) ⌝ }
 {
-    let done = printing::answer_lines(table, keeper, &text[..size], out);
+    let done = keeper_text::printing::answer_lines(table, keeper, &text[..size], out);
     let written = done.written;
     io::write_all(1, &out[..written]);
     let used = done.used;
@@ -43,7 +43,7 @@ fn answer(table: &mut [u8], keeper: Keeper, text: &mut [u8], size: usize, out: &
             going: false,
         };
     }
-    moving::move_down(text, used, 0, held);
+    spans::moving::move_down(text, used, 0, held);
     Reading {
         keeper: next,
         held,
@@ -66,7 +66,7 @@ fn answer_last(table: &mut [u8], keeper: Keeper, text: &mut [u8], held: usize, o
 fn answer_all(table: &mut [u8], text: &mut [u8], out: &mut [u8])
     requires { ⌜ (55296 ≤ length (now table)) × ((0 < length (now text)) × (length (now text) * 42 + 126 ≤ length (now out))) ⌝ }
 {
-    let mut keeper = keeping::at_first();
+    let mut keeper = keeper_text::keeping::at_first();
     let mut held = 0;
     let mut turns = u64::MAX;
     while turns > 0 {

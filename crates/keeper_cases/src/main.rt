@@ -10,7 +10,7 @@ fn print(input: &[u8]) {
     }
     let mut table = io::large_buffer();
     let mut out = io::large_buffer();
-    let end = printing::print_all(&mut table, input, &mut out);
+    let end = keeper_text::printing::print_all(&mut table, input, &mut out);
     io::write_all(1, &out[..end]);
 }
 

@@ -1,1 +1,4 @@
 pub mod Decide
+pub mod Find
+pub mod Keys
+pub mod Within

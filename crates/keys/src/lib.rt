@@ -2,14 +2,16 @@
 //
 // Equal in meaning to a byte by byte comparison. Runs of 32 bytes cost the same wherever they differ; keys of a table,
 // whose first words nearly always differ, cost two loads.
+pub mod find;
+pub mod rising;
+pub mod unlike;
+pub mod words;
+
 ghost use mathlib.Core.Path.{_≡_};
 ghost use Prim.Native.Nat.{_+_, _≤_};
 ghost use lib.ListN.{length, take, drop};
 ghost use Rattle.fields.specs.Order.{before, same};
 ghost use Rattle.keys.specs.Decide.{Decides};
-
-pub mod unlike;
-
 use unlike::Words;
 
 // Where the `size` bytes of s from p on first differ from those of t from q on.

@@ -7,7 +7,7 @@ pub extern "C" fn leaf_copy(src: &[u8], dst: &mut [u8]) -> bool {
     if src.len() != dst.len() {
         return false;
     }
-    scratch::copy(src, dst);
+    spans::copying::copy(src, dst);
     true
 }
 
@@ -19,7 +19,7 @@ pub extern "C" fn leaf_copy_prefix(src: &[u8], count: usize, dst: &mut [u8]) -> 
     if dst.len() < count {
         return false;
     }
-    scratch::copy_prefix(src, count, dst);
+    spans::copying::copy_prefix(src, count, dst);
     true
 }
 
@@ -38,18 +38,18 @@ pub extern "C" fn leaf_scratch(src: &[u8]) -> Area {
         let none = no_area();
         return Area { bytes: none };
     }
-    let area = scratch::scratch(src);
+    let area = spans::copying::scratch(src);
     Area { bytes: area }
 }
 
 #[no_mangle]
 pub extern "C" fn leaf_is_zero(s: &[u8]) -> bool {
-    scratch::is_zero(s)
+    spans::copying::is_zero(s)
 }
 
 #[no_mangle]
 pub extern "C" fn leaf_fill_zero(s: &mut [u8]) {
-    scratch::fill_zero(s)
+    spans::copying::fill_zero(s)
 }
 
 #[no_mangle]

@@ -17,12 +17,13 @@ use Rattle.fields.proofs.EntriesLaws.{length-entries, entries-at, length-entry}
 use Rattle.fields.proofs.AllLaws.{all-map, all-at, all-weaker, either, entries-all}
 use Rattle.fields.proofs.OrderLaws.{and-left, and-right}
 use Rattle.model.specs.Sections.{absent, present}
-use Rattle.model.specs.Image.{idSize, peerSize}
-use Rattle.model.specs.Lists.{listFits, idsIn, peersIn, pairSize, pairOf, pairsIn, entriesOf, idsFit, continuationFits, pairsFit, viewFits, rowSize, placeSize, sectionOf, headerOf, usedPlaces, rowFits, rowsFit, firstHeight, rowCount, viewOf}
+use Rattle.model.specs.Lists.{listFits, idsIn, peersIn, pairOf, pairsIn, entriesOf, idsFit, continuationFits, pairsFit, viewFits, sectionOf, headerOf, usedPlaces, rowFits, rowsFit, firstHeight, rowCount, viewOf}
 use Rattle.model.specs.Calls.{Call, stepOf, argsOf, listsFit}
 use Rattle.model.specs.Demand3.{InWidth}
 use Rattle.model.proofs.Well.{WellId}
 use Rattle.model.proofs.Widths.{IfSome, WellPeer, WellHeight, WellPair, WellSection, WellHeader, WellView, WellStep, WellArgs}
+use Rattle.model.specs.Layout.{idSize, pairSize, peerSize, placeSize, rowSize}
+use Rattle.model.specs.Protocol.{trackedLimit}
 
 -- ---- lists
 
@@ -147,7 +148,7 @@ module _ (call : Call) (width : InWidth call) (fits : listsFit call ≡ true) wh
   pub step-of-well : WellStep (stepOf call)
   unfolding stepOf idsFit continuationFits
   step-of-well =
-      let few = ids-few 1024 (call .ids) ids-fit in
+      let few = ids-few trackedLimit (call .ids) ids-fit in
       let all = ids-well (call .ids) (width .ids) in
       either WellStep (eqb (call .kind) 1) _ _ tt
       (either WellStep (eqb (call .kind) 2) _ _ tt

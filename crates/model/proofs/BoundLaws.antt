@@ -36,9 +36,7 @@ use Rattle.model.proofs.PlanLaws.{WellPlan, plan-well}
 use Rattle.model.proofs.StepLaws.{retried-items-well, args-well, of-mode}
 use Rattle.model.proofs.CommandLaws.{commands-read-back}
 use Rattle.model.proofs.SendingLaws.{weight, actWeight, performed-sends-well, retries-sent-well, commands-well, sendings-bytes, performed-weight, performed-count, batches-weight, retries-weight, retries-count}
-
-abbrev pub mostBytes : ℕ
-mostBytes = 49152
+use Rattle.model.specs.Layout.{mostBytes}
 
 -- ---- the plans
 
@@ -114,7 +112,7 @@ module _ (st : State) (a : Args) (tracked : length (st .pending) + length (st .s
       answers-weight peer (continuation parsed (a .chainHeight) known peer ids) (raisedTip (st .sync .knownTip) known) (tipOutcome (eqb peer (st .sync .syncPeer)) (a .chainHeight) known)
       (continuation-weight parsed (a .chainHeight) known peer ids l)
 
-  hears-announced-weight : (peer typeId : ℕ) (ids : List Id) → length ids ≤ 1024 → total actWeight (hearsAnnounced st a peer typeId ids .acts) ≤ mostBytes
+  hears-announced-weight : (peer typeId : ℕ) (ids : List Id) → length ids ≤ trackedLimit → total actWeight (hearsAnnounced st a peer typeId ids .acts) ≤ mostBytes
   unfolding hearsAnnounced continues
   hears-announced-weight peer typeId [] l = go (eqb typeId headerType)
     where

@@ -12,10 +12,11 @@ use Rattle.fields.proofs.NumberLaws.{fromBe-toBe}
 use Rattle.fields.proofs.EntriesLaws.{Wide, length-joined, entries-joined}
 use Rattle.model.specs.Protocol.{Id}
 use Rattle.model.specs.Requests.{Command}
-use Rattle.model.specs.Image.{idSize, field}
-use Rattle.model.specs.Commands.{commandHeader, commandBytes, allCommandBytes, commandOf, commandsWithin, commandsIn}
+use Rattle.model.specs.Image.{field}
+use Rattle.model.specs.Commands.{commandBytes, allCommandBytes, commandOf, commandsWithin, commandsIn}
 use Rattle.model.proofs.Well.{WellId}
 use Rattle.model.proofs.Widths.{WellCommand}
+use Rattle.model.specs.Layout.{commandHeader, idSize}
 
 pub ids-wide : (ids : List Id) → All WellId ids → Wide idSize ids
 ids-wide [] h = tt

@@ -15,7 +15,7 @@ use Rattle.model.specs.Delivery.{idsOf}
 use Rattle.model.specs.State.{State, opened}
 use Rattle.model.specs.Events.{outcomeNumber}
 use Rattle.model.specs.Steps.{Args, plan, after, commands}
-use Rattle.model.specs.Image.{areaSize, encode, decode, pendingOf}
+use Rattle.model.specs.Image.{encode, decode, pendingOf}
 use Rattle.model.specs.Commands.{commandsIn}
 use Rattle.model.specs.Calls.{Call, argsOf, stepAnswer, stepBytes, callRefusal, stepRefusal, step, Opening, open'}
 use Rattle.model.specs.Book.{Book, emptyBook, bookAfter}
@@ -32,6 +32,7 @@ use Rattle.model.proofs.FateLaws.{open-ids}
 use Rattle.model.proofs.StayLaws.{Good, good-fair}
 use Rattle.model.proofs.AgreementLaws.{Agreement, step-agrees, opened-agrees}
 use Rattle.model.proofs.BalanceLaws.{ended-reasons}
+use Rattle.model.specs.Layout.{areaSize}
 
 -- What holds of a core in service: its area is the image of a state that agrees with the book.
 record InService (core : Core) : Type 0 where

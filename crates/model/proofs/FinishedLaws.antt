@@ -10,9 +10,10 @@ use borrow.Author.Tests.{leb-true, eqb-true}
 use Rattle.model.specs.Protocol.{trackedLimit, stalledLimit}
 use Rattle.model.specs.State.{State}
 use Rattle.model.specs.Steps.{plan, after}
-use Rattle.model.specs.Image.{areaSize, wellFormed, decode}
+use Rattle.model.specs.Image.{wellFormed, decode}
 use Rattle.model.specs.Lists.{peersFit, viewFits}
 use Rattle.model.specs.Calls.{Call, argsOf, unless, callFits, listsFit, resultRefusal, callRefusal, stepRefusal}
+use Rattle.model.specs.Layout.{areaSize}
 
 -- a test whose number is not the answer is passed
 pub held : (ok : Bool) (number others : ℕ) → 0 < number → unless ok number others ≡ 0 → (ok ≡ true) × (others ≡ 0)

@@ -13,8 +13,9 @@ use Rattle.fields.specs.Entries.{entries, rising}
 use Rattle.fields.proofs.OrderLaws.{and-left, and-right, same-eq, eq-same}
 use Rattle.model.specs.Protocol.{trackedLimit, stalledLimit}
 use Rattle.model.specs.State.{Mode, syncing, isMode, hasSyncPeer}
-use Rattle.model.specs.Image.{areaSize, idSize, peerSize, recordSize, stalledAt, regionAt, modeOf, bit, field, modeByte, lastClockOf, stalledCount, pendingCount, evictedCount, settingsOf, stalledOf, pendingOf, noneTwice, allFit, typesNarrow, marksFit, countsFit, clocksFit, unusedZero, wellFormed}
+use Rattle.model.specs.Image.{modeOf, bit, field, modeByte, lastClockOf, stalledCount, pendingCount, evictedCount, settingsOf, stalledOf, pendingOf, noneTwice, allFit, typesNarrow, marksFit, countsFit, clocksFit, unusedZero, wellFormed}
 use Rattle.model.proofs.HeaderLaws.{mark}
+use Rattle.model.specs.Layout.{areaSize, idSize, peerSize, recordSize, regionAt, stalledAt}
 
 -- all of the tests hold
 abbrev pub allTrue : List Bool → Bool

@@ -15,10 +15,11 @@ use Rattle.fields.proofs.EntriesLaws.{Wide, length-joined, entries-joined, join
 use Rattle.fields.proofs.PartLaws.{written, Fit, written-holds, holds-written, part-at, part-behind, part-joined, numbers-wide}
 use Rattle.model.specs.Protocol.{Id, stalledLimit, trackedLimit}
 use Rattle.model.specs.State.{State}
-use Rattle.model.specs.Image.{areaSize, idSize, peerSize, recordSize, stalledAt, regionAt, padded, headerBytes, requestBytes, encode}
+use Rattle.model.specs.Image.{padded, headerBytes, requestBytes, encode}
 use Rattle.model.proofs.Well.{Well, WellId}
 use Rattle.model.proofs.RecordLaws.{Recorded, well-recorded, records-wide}
 use Rattle.model.proofs.HeaderLaws.{mark, headerCells, Header, header-holds, holds-header, header-written, header-fit}
+use Rattle.model.specs.Layout.{areaSize, idSize, peerSize, recordSize, regionAt, stalledAt}
 
 -- ---- how much room each part takes
 

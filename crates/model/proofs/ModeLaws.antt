@@ -25,11 +25,11 @@ use Rattle.model.specs.Events.{Outcome, Continue, Synced, BehindPeer, Sy
 use Rattle.model.specs.Steps
 use Rattle.model.specs.Steps.{Step, Args, Plan, ofMode, planOf, remaining}
 use Rattle.model.specs.Lists.{peersIn, peersFit, listFits}
-use Rattle.model.specs.Image.{peerSize}
 use Rattle.model.specs.Book as book
 use Rattle.model.specs.Book.{Fate, open', ends}
 use Rattle.model.proofs.FateLaws.{remainingBy, remaining-open, remaining-ended, remaining-kept, remaining-checked}
 use Rattle.model.proofs.StepKindLaws.{fateBy, modeBy, quietMode}
+use Rattle.model.specs.Layout.{peerSize}
 
 -- with no peer listed none is chosen
 abbrev NoneFrom : List ℕ → Option ℕ → Type 0

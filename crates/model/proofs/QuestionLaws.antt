@@ -18,9 +18,10 @@ use Rattle.fields.proofs.OrderLaws.{before-transitive, before-or-same}
 use Rattle.model.specs.Protocol.{headerType, isTransaction, trackedLimit}
 use Rattle.model.specs.Delivery.{Request, orphansOf}
 use Rattle.model.specs.State.{State, hasSyncPeer}
-use Rattle.model.specs.Lists.{pairSize, listFits, pairsFit}
+use Rattle.model.specs.Lists.{listFits, pairsFit}
 use Rattle.model.specs.Calls.{pairBytes, insertedOnce, strictlyRising, questionPairs}
 use Rattle.model.proofs.Well.{Well, WellId, WellRequest, RisingIds}
+use Rattle.model.specs.Layout.{pairSize}
 
 -- ---- each pair once, in order
 

@@ -18,8 +18,9 @@ use Rattle.fields.proofs.PartLaws.{Cell, written, Fit, Holds, length-written, w
 use Rattle.model.specs.Protocol.{Id, isTransaction}
 use Rattle.model.specs.Settings.{Settings, mostRequests}
 use Rattle.model.specs.Delivery.{Request, idsOf}
-use Rattle.model.specs.Image.{idSize, recordSize, requestBytes, requestOf, requestFits, allFit, typesNarrow}
+use Rattle.model.specs.Image.{requestBytes, requestOf, requestFits, allFit, typesNarrow}
 use Rattle.model.proofs.Well.{WellId, WellRequest, RisingIds}
+use Rattle.model.specs.Layout.{idSize, recordSize}
 
 -- what follows the id
 abbrev pub requestCells : Request → List Cell

@@ -20,12 +20,13 @@ use Rattle.fields.proofs.PartLaws.{part-below, zero-part, numbers-read, numbers
 use Rattle.model.specs.Protocol.{Id, trackedLimit, stalledLimit}
 use Rattle.model.specs.Delivery.{idsOf}
 use Rattle.model.specs.State.{syncing, modeNumber, isMode, State}
-use Rattle.model.specs.Image.{areaSize, idSize, peerSize, recordSize, stalledAt, regionAt, bit, requestBytes, requestOf, lastClockOf, stalledCount, pendingCount, evictedCount, settingsOf, stalledOf, pendingOf, evictedOf, decode, encode, wellFormed}
+use Rattle.model.specs.Image.{bit, requestBytes, requestOf, lastClockOf, stalledCount, pendingCount, evictedCount, settingsOf, stalledOf, pendingOf, evictedOf, decode, encode, wellFormed}
 use Rattle.model.proofs.Well.{Well, WellId, WellRequest, WellSettings, RisingIds}
 use Rattle.model.proofs.RecordLaws.{Recorded, requests-of-records, records-of-requests, all-fit, types-narrow, records-well, records-rise, ids-rise}
 use Rattle.model.proofs.HeaderLaws.{Header, mode-narrow, mode-of-number, number-of-mode, bit-of, of-bit}
 use Rattle.model.proofs.FormedLaws.{Formed, formed, well-formed, modeIn, recordsIn, stalledFreeIn, regionFreeIn}
 use Rattle.model.proofs.ImageLaws.{headerFree, stalledEnd, stalledFree, pendingEnd, regionFree, Laid, well-sized, well-requests, laid-encode, well-laid, encode-length}
+use Rattle.model.specs.Layout.{areaSize, idSize, peerSize, recordSize, regionAt, stalledAt}
 
 -- ---- what an area that holds a state decodes to
 

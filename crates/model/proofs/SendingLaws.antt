@@ -15,13 +15,13 @@ use Rattle.model.specs.Delivery.{Request, isPending}
 use Rattle.model.specs.Requests.{Pair, isStored, Sending, request, announcement, syncInfo, Command, runsWithin, runs, commandsOf, commandsFrom, Act, ask, send, wanted, requestOf, perform, performAll}
 use Rattle.model.specs.Sections.{Item, Batch, batchesOf}
 use Rattle.model.specs.Check.{retrySendings}
-use Rattle.model.specs.Image.{idSize}
-use Rattle.model.specs.Commands.{commandHeader, commandBytes, allCommandBytes}
+use Rattle.model.specs.Commands.{commandBytes, allCommandBytes}
 use Rattle.model.proofs.Well.{WellId}
 use Rattle.model.proofs.Widths.{WellItem, WellList, WellBatch, WellSending, WellAct, WellCommand}
 use Rattle.model.proofs.PendingLaws.{wanted-well}
 use Rattle.model.proofs.BatchLaws.{batches-well, idCount, batches-ids, batches-count}
 use Rattle.model.proofs.CommandLaws.{length-command}
+use Rattle.model.specs.Layout.{commandHeader, idSize}
 
 -- ---- sendings within their widths
 

@@ -11,9 +11,10 @@ use Rattle.model.specs.Settings.{Settings, mostRequests}
 use Rattle.model.specs.Delivery.{Request, idsOf}
 use Rattle.model.specs.State.{Mode, syncing, isMode, hasSyncPeer, Sync, State}
 use Rattle.model.specs.Image.{noneTwice}
+use Rattle.model.specs.Layout.{idSize}
 
 pub record WellId (id : Id) : Type 0 where
-  pub long : length id ≡ 32
+  pub long : length id ≡ idSize
   pub bytes : Bytes id
 
 pub record WellRequest (settings : Settings) (lastClock : ℕ) (r : Request) : Type 0 where

@@ -5,7 +5,7 @@ use mathlib.Core.List.{List}
 use mathlib.Core.Option.{Option, none, some}
 use lib.ListN.{length}
 use Rattle.fields.specs.Facts.{All}
-use Rattle.model.specs.Protocol.{Id, headerType}
+use Rattle.model.specs.Protocol.{Id, headerType, trackedLimit}
 use Rattle.model.specs.Requests.{Pair, Sending, Act, Command}
 use Rattle.model.specs.Requests as requests
 use Rattle.model.specs.Sections.{Section, Header, absent, present, View, Item, Batch}
@@ -83,9 +83,9 @@ WellStep Steps.sectionTick = Unit {0}
 WellStep Steps.sendFailure = Unit {0}
 WellStep Steps.endOfStream = Unit {0}
 WellStep Steps.otherMessage = Unit {0}
-WellStep (Steps.neededModifier typeId ids) = (typeId < 2 ^ 8) × (All WellId ids × (length ids ≤ 1024))
+WellStep (Steps.neededModifier typeId ids) = (typeId < 2 ^ 8) × (All WellId ids × (length ids ≤ trackedLimit))
 WellStep (Steps.reorg fork) = Unit {0}
-WellStep (Steps.announced peer typeId ids) = WellList typeId peer ids × (length ids ≤ 1024)
+WellStep (Steps.announced peer typeId ids) = WellList typeId peer ids × (length ids ≤ trackedLimit)
 WellStep (Steps.syncInfo peer parsed tip ids) = (WellPeer peer × IfSome WellHeight tip) × (All WellId ids × (length ids ≤ 400))
 WellStep (Steps.lostPeer peer) = Unit {0}
 WellStep (Steps.received ids) = Unit {0}

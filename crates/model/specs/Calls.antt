@@ -15,9 +15,10 @@ use Rattle.model.specs.State.{State, opened, hasSyncPeer}
 use Rattle.model.specs.Events.{outcomeNumber}
 use Rattle.model.specs.Steps
 use Rattle.model.specs.Steps.{Step, Args, ofMode, plan, after, commands, countOf, freshCount}
-use Rattle.model.specs.Image.{areaSize, encode, decode, wellFormed}
+use Rattle.model.specs.Image.{encode, decode, wellFormed}
 use Rattle.model.specs.Lists.{idsIn, peersIn, pairsIn, viewOf, idsFit, continuationFits, pairsFit, peersFit, viewFits}
 use Rattle.model.specs.Commands.{allCommandBytes}
+use Rattle.model.specs.Layout.{areaSize}
 
 -- A step's arguments but for the areas, as they are handed in.
 pub record Call : Type 0 where

@@ -17,6 +17,7 @@ use Rattle.model.specs.Requests.{Pair, Act, ask, send, Command, commands
 use Rattle.model.specs.Sections.{View, Header, present, requestNextSections}
 use Rattle.model.specs.Events.{outcomeNumber, tipOutcome}
 use Rattle.model.specs.Steps.{Args, scheduledTick, plan}
+use Rattle.model.specs.Layout.{idSize}
 
 pub data Case : Type 0 where
   -- a check of one pending request, "Timeout 10,000": limit, type, stamp and checks of the request, clock
@@ -67,11 +68,11 @@ tickAt clock =
 unfoldable pub given : Case → List ℕ
 given (checked limit typeId stamp checks clock) =
     let settings : Settings = caseSettings limit in
-    let pending : List Request = record { id = zeros 32; typeId = typeId; peer = 7; stamp = stamp; checks = checks } ∷ [] in
+    let pending : List Request = record { id = zeros idSize; typeId = typeId; peer = 7; stamp = stamp; checks = checks } ∷ [] in
     length (judged settings clock retried pending) ∷ length (judged settings clock abandoned pending)
     ∷ length (judged settings clock forgotten pending) ∷ stampsAndChecks (checkTimeouts settings clock pending)
 given (tipped fromSyncPeer tip) = outcomeNumber (tipOutcome fromSyncPeer 50 (some tip)) ∷ []
-given (requested count) = map (λ (c : Command). length (c .ids)) (commandsFrom 0 (request 102 7 (replicate count (zeros 32)) ∷ []))
+given (requested count) = map (λ (c : Command). length (c .ids)) (commandsFrom 0 (request 102 7 (replicate count (zeros idSize)) ∷ []))
 given (windowed downloaded chainHeight) = askedHeights (requestNextSections heightView chainHeight downloaded (7 ∷ []) .acts)
 given (picked stalledPeers peers) = optionNumbers (selectPeer stalledPeers peers) ++ stalledAfterSelect stalledPeers peers
 given (ticked clock) = outcomeNumber (plan syncingState (tickAt clock) .outcome) ∷ []

@@ -6,10 +6,8 @@ use lib.ListN.{length, take, drop, getD}
 use Rattle.fields.specs.Number.{fromBe, toBe}
 use Rattle.fields.specs.Entries.{entries, joined}
 use Rattle.model.specs.Requests.{Command}
-use Rattle.model.specs.Image.{idSize, field}
-
-abbrev pub commandHeader : ℕ
-commandHeader = 16
+use Rattle.model.specs.Image.{field}
+use Rattle.model.specs.Layout.{commandHeader, idSize}
 
 unfoldable pub commandBytes : Command → List ℕ
 commandBytes c =

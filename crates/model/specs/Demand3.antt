@@ -7,11 +7,12 @@ use Rattle.fields.specs.Facts.{All, Bytes}
 use Rattle.model.specs.Protocol.{Id}
 use Rattle.model.specs.Settings.{Settings, patience, mostRequests}
 use Rattle.model.specs.Delivery.{Request, idsOf}
-use Rattle.model.specs.Image.{areaSize, pendingOf}
+use Rattle.model.specs.Image.{pendingOf}
 use Rattle.model.specs.Calls.{Call, Opening}
 use Rattle.model.specs.Book as book
 use Rattle.model.specs.Book.{Book, Stay, Ended, endedFor}
 use Rattle.model.specs.Runs.{Path, bookOf, lastReport, Core, Lent, calledAll, freshCore}
+use Rattle.model.specs.Layout.{areaSize}
 
 -- the clock of the last of some checks, or the entry where there are none
 abbrev pub lastOf : ℕ → List ℕ → ℕ

@@ -13,25 +13,7 @@ use Rattle.model.specs.Settings.{Settings, mostRequests}
 use Rattle.model.specs.Delivery.{Request}
 use Rattle.model.specs.State.{Mode, new, seeking, syncing, synced, ended, modeNumber, isMode, hasSyncPeer, SendClock, Sync, State}
 use Rattle.model.specs.Peers.{isListed}
-
-abbrev pub areaSize : ℕ
-areaSize = 65536
-
-abbrev pub idSize : ℕ
-idSize = 32
-
-abbrev pub peerSize : ℕ
-peerSize = 8
-
-abbrev pub recordSize : ℕ
-recordSize = 54
-
--- where the stalled peers and the region of pending and evicted start
-abbrev pub stalledAt : ℕ
-stalledAt = 512
-
-abbrev pub regionAt : ℕ
-regionAt = 2560
+use Rattle.model.specs.Layout.{areaSize, idSize, peerSize, recordSize, regionAt, stalledAt}
 
 unfoldable pub modeOf : ℕ → Mode
 modeOf n = cond (eqb n 0) new (cond (eqb n 1) seeking (cond (eqb n 2) syncing (cond (eqb n 3) synced ended)))

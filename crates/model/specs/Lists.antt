@@ -8,19 +8,10 @@ use lib.Dec.{eqb, leb, ltb}
 use Rattle.fields.specs.Number.{fromBe}
 use Rattle.fields.specs.Zero.{allZero}
 use Rattle.fields.specs.Entries.{entries, entry, rising}
-use Rattle.model.specs.Protocol.{Id}
+use Rattle.model.specs.Protocol.{Id, listLimit, continuationLimit, peerLimit}
 use Rattle.model.specs.Requests.{Pair}
 use Rattle.model.specs.Sections.{Section, Header, absent, present, View}
-use Rattle.model.specs.Image.{idSize, peerSize}
-
-abbrev pub pairSize : ℕ
-pairSize = 33
-
-abbrev pub placeSize : ℕ
-placeSize = 34
-
-abbrev pub rowSize : ℕ
-rowSize = 103
+use Rattle.model.specs.Layout.{idSize, pairSize, peerSize, placeSize, rowSize}
 
 -- whole entries, at most so many
 unfoldable pub listFits : ℕ → ℕ → List ℕ → Bool
@@ -44,30 +35,30 @@ pairsIn bytes = map pairOf (entriesOf pairSize bytes)
 
 -- "ids, 32 each, at most 1,024"
 unfoldable pub idsFit : List ℕ → Bool
-idsFit bytes = listFits idSize 1024 bytes
+idsFit bytes = listFits idSize listLimit bytes
 
 -- "(continuation 400)"
 unfoldable pub continuationFits : List ℕ → Bool
-continuationFits bytes = listFits idSize 400 bytes
+continuationFits bytes = listFits idSize continuationLimit bytes
 
 -- "stored pairs, type and id, strictly rising, at most 1,024"
 unfoldable pub pairsFit : List ℕ → Bool
-pairsFit bytes = listFits pairSize 1024 bytes && rising pairSize (entriesOf pairSize bytes)
+pairsFit bytes = listFits pairSize listLimit bytes && rising pairSize (entriesOf pairSize bytes)
 
 -- "peers, 8 bytes each, at most 128"
 unfoldable pub peersFit : List ℕ → Bool
-peersFit bytes = listFits peerSize 128 bytes
+peersFit bytes = listFits peerSize peerLimit bytes
 
 -- A row: "count 0 to 3 or 255 (header absent), then three places of type, id, stored 0 or 1; unused places zero".
 unfoldable pub sectionOf : List ℕ → Section
-sectionOf place = record { typeId = getD place 0 0; id = take idSize (drop 1 place); isStored = eqb (getD place 33 0) 1 }
+sectionOf place = record { typeId = getD place 0 0; id = take idSize (drop 1 place); isStored = eqb (getD place pairSize 0) 1 }
 
 unfoldable pub headerOf : List ℕ → Header
 headerOf row = cond (eqb (getD row 0 0) 255) absent (present (map sectionOf (entries placeSize (getD row 0 0) (drop 1 row))))
 
 abbrev pub flagsFit : List (List ℕ) → Bool
 flagsFit [] = true
-flagsFit (place ∷ places) = leb (getD place 33 0) 1 && flagsFit places
+flagsFit (place ∷ places) = leb (getD place pairSize 0) 1 && flagsFit places
 
 -- how many places of a row are used
 unfoldable pub usedPlaces : List ℕ → ℕ

@@ -43,3 +43,14 @@ trackedLimit = 1024
 -- "a stalled set of up to 256 peers"
 abbrev pub stalledLimit : ℕ
 stalledLimit = 256
+
+-- "ids, 32 each, at most 1,024 (continuation 400)", stored pairs "at most 1,024"
+abbrev pub listLimit : ℕ
+listLimit = 1024
+
+abbrev pub continuationLimit : ℕ
+continuationLimit = 400
+
+-- "peers, 8 bytes each, at most 128"
+abbrev pub peerLimit : ℕ
+peerLimit = 128

@@ -1,1 +1,2 @@
+pub mod StalledLaws
 pub mod PeerLaws

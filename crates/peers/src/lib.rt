@@ -1,13 +1,15 @@
 // The peers that a call lists, 8 bytes each.
+pub mod stalled;
+
 ghost use mathlib.Core.Path.{_≡_};
 ghost use mathlib.Core.Bool.{not};
 ghost use Prim.Native.Nat.{_≤_};
 ghost use Rattle.model.specs.Peers as model;
 ghost use Rattle.model.specs.Check.{retryTarget};
 ghost use Rattle.model.specs.Lists.{peersIn};
-ghost use Rattle.stalled.specs.Values.{stalledPeers};
-ghost use Rattle.peers.specs.Values.{listedPeer};
-use stalled::Stalled;
+ghost use Rattle.peers.specs.Stalled.{stalledPeers};
+ghost use Rattle.peers.specs.Peers.{listedPeer};
+use crate::stalled::Stalled;
 
 pub enum Listed {
     Peer(u64),

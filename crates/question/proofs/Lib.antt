@@ -1,2 +1,4 @@
+pub mod DistinctLaws
+pub mod PlaceLaws
 pub mod AnswerLaws
 pub mod QuestionLaws

@@ -13,18 +13,19 @@ use Rattle.fields.specs.Overwrite.{overwritten}
 use Rattle.fields.proofs.AllLaws.{either}
 use Rattle.fields.proofs.OverwriteLaws.{overwritten-nil}
 use Rattle.fields.proofs.EntriesLaws.{Wide, length-entries, entries-wide}
-use Rattle.model.specs.Protocol.{headerType}
+use Rattle.model.specs.Protocol.{headerType, trackedLimit}
 use Rattle.model.specs.Delivery.{Request, orphansOf}
 use Rattle.model.specs.State.{hasSyncPeer}
 use Rattle.model.specs.Image.{field, modeOf, typesNarrow, pendingCount, evictedCount, pendingOf, evictedOf, decode, wellFormed}
 use Rattle.model.specs.Lists.{entriesOf}
 use Rattle.model.specs.Calls.{pairBytes, strictlyRising, questionPairs}
 use Rattle.model.proofs.FormedLaws.{formed}
-use Rattle.requests.specs.Pending.{requestsIn}
+use Rattle.commands.specs.Pending.{requestsIn}
 use Rattle.image.specs.Heads.{headIn}
 use Rattle.image.specs.declared.head.Head.{Head}
 use Rattle.question.specs.Asked.{askedPairs}
 use Rattle.question.proofs.AnswerLaws.{headers-wide, pairs-back, orphans-few, orphans-wide}
+use Rattle.model.specs.Layout.{areaSize, idSize, pairSize, recordSize, regionAt}
 
 -- from an index to the end
 pub rest-all : (at : ℕ) (area : List ℕ) → take (length area - at) (drop at area) ≡ drop at area
@@ -34,40 +35,40 @@ module _ (area : List ℕ) (h : Head) (e : h ≡ headIn area) where
   -- ---- what a well-formed area says of its tables
 
   module _ (w : wellFormed area ≡ true) where
-    pub evicted-few : h .evicted ≤ 1024
+    pub evicted-few : h .evicted ≤ trackedLimit
     unfolding headIn
     evicted-few = let f = formed area w .tracked in rw e (omega arith)
 
-    pub pending-few : h .pending ≤ 1024
+    pub pending-few : h .pending ≤ trackedLimit
     unfolding headIn
     pending-few = let f = formed area w .tracked in rw e (omega arith)
 
-    pub types-narrow : typesNarrow (entries 54 (h .pending) (take (length area - 2560) (drop 2560 area))) ≡ true
+    pub types-narrow : typesNarrow (entries recordSize (h .pending) (take (length area - regionAt) (drop regionAt area))) ≡ true
     unfolding headIn
-    types-narrow = rw (rest-all 2560 area, e) (formed area w .narrow)
+    types-narrow = rw (rest-all regionAt area, e) (formed area w .narrow)
 
   -- ---- what the flag asks for
 
   module _ (flag : ℕ) (d pairs : List ℕ) where
     pub evicted-gathered : flag ≡ 0
-        → pairs ≡ overwritten 0 (joined (map (pairBytes headerType) (entries 32 (h .evicted) (take (length area - (65536 - h .evicted * 32)) (drop (65536 - h .evicted * 32) area))))) d
+        → pairs ≡ overwritten 0 (joined (map (pairBytes headerType) (entries idSize (h .evicted) (take (length area - (areaSize - h .evicted * idSize)) (drop (areaSize - h .evicted * idSize) area))))) d
         → (pairs ≡ overwritten 0 (joined (askedPairs (decode area) flag)) d) × (h .evicted ≡ length (askedPairs (decode area) flag))
     unfolding askedPairs decode headIn evictedOf
     evicted-gathered f p =
-        let rest : List ℕ = drop (65536 - h .evicted * 32) area in
-        let ids : List (List ℕ) = entries 32 (h .evicted) rest in
+        let rest : List ℕ = drop (areaSize - h .evicted * idSize) area in
+        let ids : List (List ℕ) = entries idSize (h .evicted) rest in
         let a : askedPairs (decode area) flag ≡ map (pairBytes headerType) ids = rw (eq-eqb flag 0 f, e) in
-        (p ∙ rw (rest-all (65536 - h .evicted * 32) area, a), sym (ap length a ∙ length-map ids (pairBytes headerType) ∙ length-entries 32 (h .evicted) rest))
+        (p ∙ rw (rest-all (areaSize - h .evicted * idSize) area, a), sym (ap length a ∙ length-map ids (pairBytes headerType) ∙ length-entries idSize (h .evicted) rest))
 
-    pub pending-gathered : (found : ℕ) → (flag ≡ 0 → ⊥) → found ≡ length (orphansOf (h .peer) (requestsIn (h .pending) (take (length area - 2560) (drop 2560 area))))
-        → pairs ≡ overwritten 0 (joined (map (λ (r : Request). pairBytes (r .typeId) (r .id)) (orphansOf (h .peer) (requestsIn (h .pending) (take (length area - 2560) (drop 2560 area)))))) d
+    pub pending-gathered : (found : ℕ) → (flag ≡ 0 → ⊥) → found ≡ length (orphansOf (h .peer) (requestsIn (h .pending) (take (length area - regionAt) (drop regionAt area))))
+        → pairs ≡ overwritten 0 (joined (map (λ (r : Request). pairBytes (r .typeId) (r .id)) (orphansOf (h .peer) (requestsIn (h .pending) (take (length area - regionAt) (drop regionAt area)))))) d
         → (pairs ≡ overwritten 0 (joined (askedPairs (decode area) flag)) d) × (found ≡ length (askedPairs (decode area) flag))
     unfolding askedPairs decode headIn pendingOf
     pending-gathered found f n p =
-        let orphans : List Request = orphansOf (h .peer) (requestsIn (h .pending) (drop 2560 area)) in
+        let orphans : List Request = orphansOf (h .peer) (requestsIn (h .pending) (drop regionAt area)) in
         let pair : Request → List ℕ = λ (r : Request). pairBytes (r .typeId) (r .id) in
         let a : askedPairs (decode area) flag ≡ map pair orphans = rw (ne-eqb flag 0 f, e) in
-        (p ∙ rw (rest-all 2560 area, a), n ∙ rw (rest-all 2560 area) (sym (ap length a ∙ length-map orphans pair)))
+        (p ∙ rw (rest-all regionAt area, a), n ∙ rw (rest-all regionAt area) (sym (ap length a ∙ length-map orphans pair)))
 
   -- ---- none, or those once and in order
 
@@ -88,38 +89,38 @@ module _ (area : List ℕ) (h : Head) (e : h ≡ headIn area) where
 
 module _ (area : List ℕ) (flag : ℕ) (w : wellFormed area ≡ true) where
   abbrev evicted : List (List ℕ)
-  evicted = entries 32 (evictedCount area) (drop (65536 - evictedCount area * 32) area)
+  evicted = entries idSize (evictedCount area) (drop (areaSize - evictedCount area * idSize) area)
 
-  few : length (askedPairs (decode area) flag) ≤ 1024
+  few : length (askedPairs (decode area) flag) ≤ trackedLimit
   unfolding askedPairs decode pendingOf evictedOf
   few =
       let f = formed area w .tracked in
       let pair : Request → List ℕ = λ (r : Request). pairBytes (r .typeId) (r .id) in
-      let orphans : List Request = orphansOf (field 48 8 area) (requestsIn (pendingCount area) (drop 2560 area)) in
-      let a : length (map (pairBytes headerType) evicted) ≡ evictedCount area = length-map evicted (pairBytes headerType) ∙ length-entries 32 (evictedCount area) (drop (65536 - evictedCount area * 32) area) in
+      let orphans : List Request = orphansOf (field 48 8 area) (requestsIn (pendingCount area) (drop regionAt area)) in
+      let a : length (map (pairBytes headerType) evicted) ≡ evictedCount area = length-map evicted (pairBytes headerType) ∙ length-entries idSize (evictedCount area) (drop (areaSize - evictedCount area * idSize) area) in
       let b : length (map pair orphans) ≡ length orphans = length-map orphans pair in
-      either (λ (es : List (List ℕ)). length es ≤ 1024) (eqb flag 0) (map (pairBytes headerType) evicted) (map pair orphans) (omega arith)
-      (omega (arith, orphans-few (field 48 8 area) (pendingCount area) (drop 2560 area)))
+      either (λ (es : List (List ℕ)). length es ≤ trackedLimit) (eqb flag 0) (map (pairBytes headerType) evicted) (map pair orphans) (omega arith)
+      (omega (arith, orphans-few (field 48 8 area) (pendingCount area) (drop regionAt area)))
 
-  pub asked-few : (count : ℕ) → count ≡ length (askedPairs (decode area) flag) → count ≤ 1024
+  pub asked-few : (count : ℕ) → count ≡ length (askedPairs (decode area) flag) → count ≤ trackedLimit
   asked-few count n = omega (arith, few)
 
-  asked-wide : length area ≡ 65536 → Wide 33 (askedPairs (decode area) flag)
+  asked-wide : length area ≡ areaSize → Wide pairSize (askedPairs (decode area) flag)
   unfolding askedPairs decode pendingOf evictedOf
   asked-wide l =
       let f = formed area w .tracked in
       let pair : Request → List ℕ = λ (r : Request). pairBytes (r .typeId) (r .id) in
-      let orphans : List Request = orphansOf (field 48 8 area) (requestsIn (pendingCount area) (drop 2560 area)) in
-      let m : evictedCount area * 32 ≤ length (drop (65536 - evictedCount area * 32) area) = rw (length-drop (65536 - evictedCount area * 32) area) (omega arith) in
-      let n : pendingCount area * 54 ≤ length (drop 2560 area) = rw (length-drop 2560 area) (omega arith) in
-      either (Wide 33) (eqb flag 0) (map (pairBytes headerType) evicted) (map pair orphans)
-      (headers-wide evicted (entries-wide 32 (evictedCount area) (drop (65536 - evictedCount area * 32) area) m)) (orphans-wide (field 48 8 area) (pendingCount area) (drop 2560 area) n)
+      let orphans : List Request = orphansOf (field 48 8 area) (requestsIn (pendingCount area) (drop regionAt area)) in
+      let m : evictedCount area * idSize ≤ length (drop (areaSize - evictedCount area * idSize) area) = rw (length-drop (areaSize - evictedCount area * idSize) area) (omega arith) in
+      let n : pendingCount area * recordSize ≤ length (drop regionAt area) = rw (length-drop regionAt area) (omega arith) in
+      either (Wide pairSize) (eqb flag 0) (map (pairBytes headerType) evicted) (map pair orphans)
+      (headers-wide evicted (entries-wide 32 (evictedCount area) (drop (areaSize - evictedCount area * idSize) area) m)) (orphans-wide (field 48 8 area) (pendingCount area) (drop regionAt area) n)
 
   -- the answer, from the pairs read back
-  pub answered : (count size : ℕ) (d pairs out o : List ℕ) → length area ≡ 65536 → questionPairs (decode area) flag ≡ strictlyRising (askedPairs (decode area) flag)
+  pub answered : (count size : ℕ) (d pairs out o : List ℕ) → length area ≡ areaSize → questionPairs (decode area) flag ≡ strictlyRising (askedPairs (decode area) flag)
       → count ≡ length (askedPairs (decode area) flag) → pairs ≡ overwritten 0 (joined (askedPairs (decode area) flag)) d
-      → o ≡ overwritten 0 (joined (strictlyRising (entriesOf 33 (take (count * 33) pairs)))) out → size ≡ length (joined (strictlyRising (entriesOf 33 (take (count * 33) pairs))))
+      → o ≡ overwritten 0 (joined (strictlyRising (entriesOf pairSize (take (count * pairSize) pairs)))) out → size ≡ length (joined (strictlyRising (entriesOf pairSize (take (count * pairSize) pairs))))
       → (o ≡ overwritten 0 (joined (questionPairs (decode area) flag)) out) × (size ≡ length (joined (questionPairs (decode area) flag)))
   answered count size d pairs out o l q n p eo es =
-      let b : strictlyRising (entriesOf 33 (take (count * 33) pairs)) ≡ questionPairs (decode area) flag = ap strictlyRising (pairs-back (askedPairs (decode area) flag) count d pairs (asked-wide l) n p) ∙ sym q in
+      let b : strictlyRising (entriesOf pairSize (take (count * pairSize) pairs)) ≡ questionPairs (decode area) flag = ap strictlyRising (pairs-back (askedPairs (decode area) flag) count d pairs (asked-wide l) n p) ∙ sym q in
       (eo ∙ ap (λ (ps : List (List ℕ)). overwritten 0 (joined ps) out) b, es ∙ ap (λ (ps : List (List ℕ)). length (joined ps)) b)

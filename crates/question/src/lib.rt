@@ -1,6 +1,8 @@
 // The question: the pairs of type and id that a check or a lost peer may read, strictly rising.
 //
 // n pairs cost n log n comparisons. The area is read only.
+pub mod rising;
+
 ghost use mathlib.Core.Path.{_≡_};
 ghost use mathlib.Core.Bool.{true};
 ghost use mathlib.Core.List.{map};
@@ -14,24 +16,28 @@ ghost use Rattle.model.specs.Image.{modeOf, decode, wellFormed};
 ghost use Rattle.model.specs.Calls.{pairBytes, questionPairs};
 ghost use Rattle.image.specs.Heads.{headIn};
 ghost use Rattle.question.specs.Asked.{askedPairs};
+ghost use Rattle.model.specs.Layout.{areaSize, idSize, pairListSize, pairSize};
 use image::head::Head;
+use model::layout::ID_SIZE;
+use model::layout::PAIR_LIST_SIZE;
+use model::layout::PAIR_SIZE;
 
 // Id i as a header's pair, at index i of the pairs.
 fn put_header(ids: &[u8], i: usize, pairs: &mut [u8])
-    requires { ⌜ (i * 32 + 32 ≤ length (now ids)) × (i * 33 + 33 ≤ length (now pairs)) ⌝ }
-    ensures { λ _. ⌜ now (pairs .exit) ≡ overwritten (i * 33) (pairBytes headerType (entry 32 i (now (ids .entry)))) (now (pairs .entry)) ⌝ }
+    requires { ⌜ (i * idSize + idSize ≤ length (now ids)) × (i * pairSize + pairSize ≤ length (now pairs)) ⌝ }
+    ensures { λ _. ⌜ now (pairs .exit) ≡ overwritten (i * pairSize) (pairBytes headerType (entry idSize i (now (ids .entry)))) (now (pairs .entry)) ⌝ }
 {
-    let from = i * 32;
-    let end = from + 32;
-    let at = i * 33;
+    let from = i * ID_SIZE;
+    let end = from + ID_SIZE;
+    let at = i * PAIR_SIZE;
     pairs[at] = 101;
-    moving::overwrite(pairs, at + 1, &ids[from..end]);
+    spans::moving::overwrite(pairs, at + 1, &ids[from..end]);
 }
 
 // The first `count` ids as pairs of headers.
 fn put_headers(ids: &[u8], count: usize, pairs: &mut [u8])
-    requires { ⌜ (count * 32 ≤ length (now ids)) × (count * 33 ≤ length (now pairs)) ⌝ }
-    ensures { λ _. ⌜ now (pairs .exit) ≡ overwritten 0 (joined (map (pairBytes headerType) (entries 32 count (now (ids .entry))))) (now (pairs .entry)) ⌝ }
+    requires { ⌜ (count * idSize ≤ length (now ids)) × (count * pairSize ≤ length (now pairs)) ⌝ }
+    ensures { λ _. ⌜ now (pairs .exit) ≡ overwritten 0 (joined (map (pairBytes headerType) (entries idSize count (now (ids .entry))))) (now (pairs .entry)) ⌝ }
 {
     let mut i = 0;
     while i < count {
@@ -43,18 +49,18 @@ fn put_headers(ids: &[u8], count: usize, pairs: &mut [u8])
 // The pairs that the flag asks for, in the area's order: with 0 the evicted ids as headers, else the sync peer's pending
 // ids but transactions. Answers how many.
 fn gather(area: &[u8], head: Head, flag: u8, pairs: &mut [u8]) -> usize
-    requires { ⌜ (length (now area) ≡ 65536) × (wellFormed (now area) ≡ true) ⌝ }
-    requires { ⌜ (head ≡ headIn (now area)) × (length (now pairs) ≡ 33792) ⌝ }
+    requires { ⌜ (length (now area) ≡ areaSize) × (wellFormed (now area) ≡ true) ⌝ }
+    requires { ⌜ (head ≡ headIn (now area)) × (length (now pairs) ≡ pairListSize) ⌝ }
     ensures { λ _. ⌜ now (pairs .exit) ≡ overwritten 0 (joined (askedPairs (decode (now (area .entry))) flag)) (now (pairs .entry)) ⌝ }
     ensures { λ r. ⌜ r ≡ length (askedPairs (decode (now (area .entry))) flag) ⌝ }
 {
     if flag == 0 {
         let count = head.evicted;
-        let from = 65536 - count * 32;
+        let from = 65536 - count * ID_SIZE;
         put_headers(&area[from..], count, pairs);
         return count;
     }
-    orphans::orphans(&area[2560..], head.pending, head.peer, pairs)
+    delivery::orphans::orphans(&area[2560..], head.pending, head.peer, pairs)
 }
 
 // Whether a mode has a sync peer.
@@ -66,17 +72,17 @@ fn has_sync_peer(mode: u8) -> bool
 
 // The pairs at the front of `out`, none where there is no sync peer. Answers how many bytes.
 pub fn question_pairs(area: &[u8], head: Head, flag: u8, out: &mut [u8]) -> usize
-    requires { ⌜ (length (now area) ≡ 65536) × (wellFormed (now area) ≡ true) ⌝ }
+    requires { ⌜ (length (now area) ≡ areaSize) × (wellFormed (now area) ≡ true) ⌝ }
     requires { ⌜ head ≡ headIn (now area) ⌝ }
-    requires { ⌜ (flag ≤ 1) × (65536 ≤ length (now out)) ⌝ }
+    requires { ⌜ (flag ≤ 1) × (areaSize ≤ length (now out)) ⌝ }
     ensures { λ _. ⌜ now (out .exit) ≡ overwritten 0 (joined (questionPairs (decode (now (area .entry))) flag)) (now (out .entry)) ⌝ }
     ensures { λ r. ⌜ r ≡ length (joined (questionPairs (decode (now (area .entry))) flag)) ⌝ }
 {
     if !has_sync_peer(head.mode) {
         return 0;
     }
-    let mut pairs = [0u8; 33792];
+    let mut pairs = [0u8; PAIR_LIST_SIZE];
     let count = gather(area, head, flag, &mut pairs);
-    let size = count * 33;
-    rising::put_rising(&pairs[..size], out)
+    let size = count * PAIR_SIZE;
+    crate::rising::put_rising(&pairs[..size], out)
 }

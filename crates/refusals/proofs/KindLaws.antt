@@ -10,7 +10,7 @@ use Rattle.model.specs.State.{State, modeNumber, hasSyncPeer}
 use Rattle.model.specs.Steps.{ofMode}
 use Rattle.model.specs.Calls.{Call, stepOf}
 use Rattle.model.proofs.StepKindLaws.{by-kind}
-use Rattle.plans.proofs.KindLaws.{last-kind, beyond}
+use Rattle.plan.proofs.KindLaws.{last-kind, beyond}
 
 module _ (st : State) (c : Call) where
   unfoldable pub allowed : Bool

@@ -1,3 +1,5 @@
+pub mod RowLaws
+pub mod ViewLaws
 pub mod KindLaws
-pub mod RefusalLaws
 pub mod ReadyLaws
+pub mod RefusalLaws

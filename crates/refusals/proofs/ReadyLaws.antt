@@ -18,21 +18,23 @@ use Rattle.model.proofs.FormedLaws.{Formed, formed}
 use Rattle.image.specs.Heads.{headIn, headOf}
 use Rattle.image.proofs.HeadLaws.{head-decode}
 use Rattle.refusals.proofs.RefusalLaws.{Given}
+use Rattle.model.specs.Layout.{areaSize, idSize}
+use Rattle.model.specs.Protocol.{trackedLimit}
 
 pub record Ready (state : List ℕ) (call : Call) : Type 0 where
   pub head : headOf (decode state) ≡ headIn state
   pub stalledFew : headIn state .stalled ≤ 256
   pub lastSend : headIn state .send .last ≤ call .clock
   pub lastProgress : headIn state .progress ≤ call .clock
-  pub ids : length (call .ids) % 32 ≡ 0
+  pub ids : length (call .ids) % idSize ≡ 0
   pub stalled : decode state .sync .stalledPeers ≡ map fromBe (entries 8 (headIn state .stalled) (take 2048 (drop 512 state)))
 
-pub whole-ids : (bytes : List ℕ) → idsFit bytes ≡ true → length bytes % 32 ≡ 0
+pub whole-ids : (bytes : List ℕ) → idsFit bytes ≡ true → length bytes % idSize ≡ 0
 unfolding idsFit listFits
-whole-ids bytes e = eqb-true (length bytes % 32) 0 (and-left (eqb (length bytes % 32) 0) (leb (length bytes) (1024 * 32)) e)
+whole-ids bytes e = eqb-true (length bytes % idSize) 0 (and-left (eqb (length bytes % idSize) 0) (leb (length bytes) (trackedLimit * idSize)) e)
 
 -- the peers in the state area's places
-pub stalled-places : (state : List ℕ) → length state ≡ 65536 → stalledCount state ≤ 256
+pub stalled-places : (state : List ℕ) → length state ≡ areaSize → stalledCount state ≤ 256
     → stalledOf state ≡ map fromBe (entries 8 (stalledCount state) (take 2048 (drop 512 state)))
 unfolding stalledOf
 stalled-places state l few = rw (entries-take 8 (stalledCount state) 2048 (drop 512 state) (omega arith) (rw (length-drop 512 state) (omega arith)))

@@ -10,7 +10,7 @@ use lib.Dec.{eqb, leb}
 use borrow.Author.Tests.{leb-true, eqb-true, ne-eqb, lt-leb, le-leb}
 use Rattle.fields.proofs.OrderLaws.{and-left, and-right}
 use Rattle.model.specs.State.{State}
-use Rattle.model.specs.Image.{areaSize, wellFormed, decode}
+use Rattle.model.specs.Image.{wellFormed, decode}
 use Rattle.model.specs.Lists.{idsFit, continuationFits, pairsFit, peersFit, viewFits}
 use Rattle.model.specs.Calls.{Call, argsOf, unless, callFits, listsFit, resultRefusal, callRefusal, stepRefusal, questionRefusal}
 use Rattle.model.proofs.FinishedLaws.{held}
@@ -18,6 +18,7 @@ use Rattle.image.specs.declared.head.Head.{Head}
 use Rattle.image.specs.Heads.{headIn, headOf}
 use Rattle.image.proofs.HeadLaws.{head-decode}
 use Rattle.refusals.specs.Refusals.{lentRefusal, givenRefusal}
+use Rattle.model.specs.Layout.{areaSize}
 
 -- one test more before others that split
 split-unless : (ok : Bool) (number whole first last : ℕ) → 0 < number → whole ≡ cond (eqb first 0) last first
@@ -57,9 +58,9 @@ refusal-split state area call =
 
 -- What a call has passed that 1 to 8 let through.
 pub record Given (state : List ℕ) (room : ℕ) (call : Call) : Type 0 where
-  pub stateSize : length state ≡ 65536
+  pub stateSize : length state ≡ areaSize
   pub image : wellFormed state ≡ true
-  pub commandsSize : 65536 ≤ room
+  pub commandsSize : areaSize ≤ room
   pub clock : decode state .lastClock ≤ call .clock
   pub fits : callFits (decode state) call ≡ true
   pub lists : listsFit call ≡ true

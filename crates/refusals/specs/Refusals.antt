@@ -4,9 +4,10 @@ use mathlib.Core.List.{List}
 use lib.ListN.{length}
 use lib.Dec.{eqb, leb}
 use Rattle.model.specs.State.{State}
-use Rattle.model.specs.Image.{areaSize, wellFormed, decode}
+use Rattle.model.specs.Image.{wellFormed, decode}
 use Rattle.model.specs.Lists.{peersFit, viewFits}
 use Rattle.model.specs.Calls.{Call, unless, callFits, listsFit}
+use Rattle.model.specs.Layout.{areaSize}
 
 -- 4 to 8
 unfoldable pub lentRefusal : State → Call → ℕ

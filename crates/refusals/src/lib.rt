@@ -1,6 +1,9 @@
 // The refusals that are known before a step is worked out, in document 01's order.
 //
 // A refused call costs what was read up to the fault: one pass over the state area, then the lists, then the view.
+pub mod lists;
+pub mod view;
+
 ghost use mathlib.Core.Path.{_≡_};
 ghost use lib.ListN.{length};
 ghost use Prim.Native.Nat.{ℕ};
@@ -10,10 +13,10 @@ ghost use Rattle.model.specs.Steps.{ofMode};
 ghost use Rattle.model.specs.Calls as calls;
 ghost use Rattle.model.specs.Calls.{stepOf, callFits, questionRefusal};
 ghost use Rattle.image.specs.Heads.{headOf};
-ghost use Rattle.plans.specs.Plans.{numbersOf, callOf};
+ghost use Rattle.plan.specs.Plans.{numbersOf, callOf};
 ghost use Rattle.refusals.specs.Refusals.{lentRefusal, givenRefusal};
 use image::head::Head;
-use plans::Call;
+use plan::Call;
 
 // Whether a step of this kind may be taken in this mode (document 01, "Steps by mode").
 fn of_mode(mode: u8, sent: bool, kind: u8) -> bool
@@ -57,13 +60,13 @@ fn lent_refusal(
     if !call_fits(head, call) {
         return 5;
     }
-    if !lists::lists_fit(call.kind, ids, continuation, stored) {
+    if !crate::lists::lists_fit(call.kind, ids, continuation, stored) {
         return 6;
     }
-    if !lists::peers_fit(peers) {
+    if !crate::lists::peers_fit(peers) {
         return 7;
     }
-    if !view::view_fits(view) {
+    if !crate::view::view_fits(view) {
         return 8;
     }
     0
@@ -85,7 +88,7 @@ pub fn step_refusal(
     if state.len() != 65536 {
         return 1;
     }
-    if !formed::is_well_formed(state) {
+    if !image_test::formed::is_well_formed(state) {
         return 2;
     }
     if room < 65536 {
@@ -102,7 +105,7 @@ pub fn question_refusal(state: &[u8], room: usize, flag: u8) -> u32
     if state.len() != 65536 {
         return 1;
     }
-    if !formed::is_well_formed(state) {
+    if !image_test::formed::is_well_formed(state) {
         return 2;
     }
     if room < 65536 {

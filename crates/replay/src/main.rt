@@ -1,4 +1,4 @@
 // The fixed list of host/fixed, replayed by the proved core.
 fn main() {
-    replaying::list::replay();
+    replay_run::list::replay();
 }

@@ -10,11 +10,12 @@ use native.Mathlib.Omega.{arith}
 use Rattle.fields.specs.Overwrite.{overwritten}
 use Rattle.fields.specs.Entries.{joined}
 use Rattle.model.specs.State.{opened}
-use Rattle.model.specs.Image.{areaSize, encode, decode, wellFormed}
+use Rattle.model.specs.Image.{encode, decode, wellFormed}
 use Rattle.model.proofs.FinishedLaws.{held}
 use Rattle.refusals.specs.Refusals.{givenRefusal}
 use Rattle.refusals.proofs.RefusalLaws.{refusal-split}
 use Rattle.model.specs.Calls.{unless, isFlag, Call, Answer, Result, refused, stepRefusal, step, Opening, Opened, open', Asked, questionRefusal, questionPairs, question}
+use Rattle.model.specs.Layout.{areaSize}
 
 pub not-opened : (state : List ℕ) (o : Opening) → eqb (length state) areaSize ≡ false → _≡_ {A = Opened} (record { number = 1; state = state }) (open' state o)
 unfolding open'

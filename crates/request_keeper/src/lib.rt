@@ -4,10 +4,10 @@
 // with the entry's definition in model/specs/Calls.antt, which demand 3 speaks of.
 ghost use mathlib.Core.Path.{_≡_};
 ghost use Rattle.model.specs.Calls.{open', step, question};
-ghost use Rattle.finish.specs.Answers.{answerOf};
-use finish::Answer;
-use plans::Call;
+ghost use Rattle.step.specs.Answers.{answerOf};
+use plan::Call;
 use settings::Settings;
+use step::finish::Answer;
 
 // A fresh core in an area of 65,536 bytes; nothing of the old bytes survives. Answers 0, or 1 with the area untouched.
 #[no_mangle]
@@ -31,7 +31,7 @@ pub extern "C" fn request_keeper_open(
         interval,
         stall,
     };
-    opening::open(state, settings, clock, height);
+    image::opening::open(state, settings, clock, height);
     0
 }
 
@@ -81,9 +81,9 @@ pub extern "C" fn request_keeper_step(
         view,
     );
     if number != 0 {
-        return finish::refused(number);
+        return step::finish::refused(number);
     }
-    steps::run(
+    step::run(
         state,
         commands,
         call,

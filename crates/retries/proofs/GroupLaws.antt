@@ -21,12 +21,12 @@ use Rattle.fields.proofs.NumberLaws.{bytes-take, bytes-drop}
 use Rattle.fields.proofs.PartLaws.{part-below, length-part}
 use Rattle.fields.proofs.SortLaws.{map-sorted, all-sorted, length-sorted}
 use Rattle.fields.proofs.AllLaws.{all-map, all-weaker}
-use Rattle.places.proofs.MappedLaws.{next-mapped, drop-map, take-map}
-use Rattle.gathering.specs.Gathered.{gathered}
-use Rattle.gathering.proofs.GatheredLaws.{gathered-wide, length-gathered, gathered-all}
+use Rattle.order.proofs.MappedLaws.{next-mapped, drop-map, take-map}
+use Rattle.order.specs.Gathered.{gathered}
+use Rattle.order.proofs.GatheredLaws.{gathered-wide, length-gathered, gathered-all}
 use Rattle.order.specs.Places.{keyAt, keyBelow}
 use Rattle.model.specs.Protocol.{Id}
-use Rattle.model.specs.Image.{recordSize, requestOf}
+use Rattle.model.specs.Image.{requestOf}
 use Rattle.model.specs.Sections.{Item, itemBelow, join, adjacent, batchesOf}
 use Rattle.model.specs.Requests.{Command, request, commandsOf, commandsFrom}
 use Rattle.model.specs.Commands.{commandBytes, allCommandBytes}
@@ -34,11 +34,13 @@ use Rattle.model.specs.Check.{retrySendings}
 use Rattle.model.specs.Lists.{idsIn}
 use Rattle.model.proofs.Widths.{WellItem}
 use Rattle.model.proofs.SendingLaws.{retries-sent-well, sendings-bytes, retries-weight}
-use Rattle.requests.specs.Sent.{sentBytes}
-use Rattle.requests.proofs.RunLaws.{take-ids, drop-ids}
-use Rattle.batches.specs.Items.{itemOf, Asked, itemAt, itemsAt, alike, span}
-use Rattle.batches.proofs.ItemLaws.{entry-bytes, span-le}
-use Rattle.retries.specs.Batches.{idsAt, sendingsOf}
+use Rattle.commands.specs.Sent.{sentBytes}
+use Rattle.commands.proofs.RunLaws.{take-ids, drop-ids}
+use Rattle.retries.specs.Items.{itemOf, Asked, itemAt, itemsAt, alike, span}
+use Rattle.commands.proofs.RecordedLaws.{entry-bytes}
+use Rattle.retries.proofs.ItemLaws.{span-le}
+use Rattle.retries.specs.Retried.{idsAt, sendingsOf}
+use Rattle.model.specs.Layout.{commandSize, idSize, recordSize}
 
 -- ---- the first batch of some items
 
@@ -144,38 +146,38 @@ module _ (items : List Item) (batch at : ℕ) (d out : List ℕ) (place number i
 
 -- ---- whole ids
 
-whole-ids : (n : ℕ) → (n * 32) % 32 ≡ 0
+whole-ids : (n : ℕ) → (n * idSize) % idSize ≡ 0
 whole-ids n = omega arith
 
-whole-rest : (n i : ℕ) → (n * 32 - i * 32) % 32 ≡ 0
+whole-rest : (n i : ℕ) → (n * idSize - i * idSize) % idSize ≡ 0
 whole-rest n i = omega arith
 
-all-ids : (es : List Id) → Wide 32 es → idsIn (joined es) ≡ es
+all-ids : (es : List Id) → Wide idSize es → idsIn (joined es) ≡ es
 unfolding idsIn
 all-ids es w =
-    let l : length (joined es) ≡ length es * 32 = length-joined 32 es w in
-    let n : length (joined es) / 32 ≡ length es = omega arith in
+    let l : length (joined es) ≡ length es * idSize = length-joined 32 es w in
+    let n : length (joined es) / idSize ≡ length es = omega arith in
     rw n (rw (append-nil (joined es)) at (entries-joined 32 es [] w))
 
 -- ---- the records at the places
 
 module _ (t : List ℕ) where
-  pub within : (places : List ℕ) → All (Asked t) places → All (λ (place : ℕ). place * 54 + 54 ≤ length t) places
-  within = all-weaker (Asked t) (λ (place : ℕ). place * 54 + 54 ≤ length t) (λ place h. h .0)
+  pub within : (places : List ℕ) → All (Asked t) places → All (λ (place : ℕ). place * recordSize + recordSize ≤ length t) places
+  within = all-weaker (Asked t) (λ (place : ℕ). place * recordSize + recordSize ≤ length t) (λ place h. h .0)
 
   -- a record begins with its id
-  ids-taken : (places : List ℕ) → gathered 54 0 t places ≡ idsAt t places
+  ids-taken : (places : List ℕ) → gathered recordSize 0 t places ≡ idsAt t places
   unfolding itemAt itemOf requestOf
   ids-taken places = refl
 
-  pub ids-wide : (places : List ℕ) → All (Asked t) places → Wide 32 (idsAt t places)
-  ids-wide places w = subst (Wide 32) (ids-taken places) (gathered-wide 54 0 t (omega arith) places (within places w))
+  pub ids-wide : (places : List ℕ) → All (Asked t) places → Wide idSize (idsAt t places)
+  ids-wide places w = subst (Wide idSize) (ids-taken places) (gathered-wide recordSize 0 t (omega arith) places (within places w))
 
-  pub length-ids : (places : List ℕ) → All (Asked t) places → length (joined (idsAt t places)) ≡ length places * 32
-  length-ids places w = rw (ids-taken places) at (length-gathered 54 0 t (omega arith) places (within places w))
+  pub length-ids : (places : List ℕ) → All (Asked t) places → length (joined (idsAt t places)) ≡ length places * idSize
+  length-ids places w = rw (ids-taken places) at (length-gathered recordSize 0 t (omega arith) places (within places w))
 
-  pub ids-alone : (places d ids : List ℕ) → All (Asked t) places → length d ≡ length places * 32 → ids ≡ overwritten 0 (joined (gathered 54 0 t places)) d → ids ≡ joined (idsAt t places)
-  ids-alone places d ids w l e = gathered-all 54 0 t (omega arith) places d ids (within places w) e l ∙ ap joined (ids-taken places)
+  pub ids-alone : (places d ids : List ℕ) → All (Asked t) places → length d ≡ length places * idSize → ids ≡ overwritten 0 (joined (gathered recordSize 0 t places)) d → ids ≡ joined (idsAt t places)
+  ids-alone places d ids w l e = gathered-all recordSize 0 t (omega arith) places d ids (within places w) e l ∙ ap joined (ids-taken places)
 
   ids-of-items : (places : List ℕ) → map (λ (i : Item). i .id) (itemsAt t places) ≡ idsAt t places
   ids-of-items [] = refl
@@ -186,18 +188,18 @@ module _ (t : List ℕ) where
 
   -- the ids of the batch that starts at item i, by their bytes
   pub batch-ids : (places ids : List ℕ) (i k : ℕ) (x : Item) (xs : List Item) → All (Asked t) places → ids ≡ joined (idsAt t places)
-      → drop i (itemsAt t places) ≡ x ∷ xs → k ≡ suc (span (alike x) xs) → idsIn (take (k * 32) (drop (i * 32) ids)) ≡ ids-with x xs
+      → drop i (itemsAt t places) ≡ x ∷ xs → k ≡ suc (span (alike x) xs) → idsIn (take (k * idSize) (drop (i * idSize) ids)) ≡ ids-with x xs
   batch-ids places ids i k x xs w e here ek =
-      let l : length ids ≡ length places * 32 = ap length e ∙ length-ids places w in
-      let l′ : length (drop (i * 32) ids) ≡ length ids - i * 32 = length-drop (i * 32) ids in
-      let m : length (drop (i * 32) ids) % 32 ≡ 0 = rw (l′, l) (whole-rest (length places) i) in
+      let l : length ids ≡ length places * idSize = ap length e ∙ length-ids places w in
+      let l′ : length (drop (i * idSize) ids) ≡ length ids - i * idSize = length-drop (i * idSize) ids in
+      let m : length (drop (i * idSize) ids) % idSize ≡ 0 = rw (l′, l) (whole-rest (length places) i) in
       let a : idsIn ids ≡ idsAt t places = rw e (all-ids (idsAt t places) (ids-wide places w)) in
       let b : drop i (idsAt t places) ≡ map (λ (j : Item). j .id) (x ∷ xs) =
       ap (drop i) (sym (ids-of-items places)) ∙ drop-map (λ (j : Item). j .id) i (itemsAt t places) ∙ ap (map (λ (j : Item). j .id)) here in
-      sym (take-ids k (drop (i * 32) ids) m) ∙ ap (take k) (sym (drop-ids i ids (rw l (whole-ids (length places)))) ∙ ap (drop i) a ∙ b)
+      sym (take-ids k (drop (i * idSize) ids) m) ∙ ap (take k) (sym (drop-ids i ids (rw l (whole-ids (length places)))) ∙ ap (drop i) a ∙ b)
       ∙ take-map (λ (j : Item). j .id) k (x ∷ xs) ∙ rw ek
 
-pub asked-both : (t places : List ℕ) → All (λ (place : ℕ). place * 54 + 54 ≤ length t) places → All (λ (place : ℕ). requestOf (entry recordSize place t) .typeId < 256) places → All (Asked t) places
+pub asked-both : (t places : List ℕ) → All (λ (place : ℕ). place * recordSize + recordSize ≤ length t) places → All (λ (place : ℕ). requestOf (entry recordSize place t) .typeId < 256) places → All (Asked t) places
 asked-both t [] a b = tt
 asked-both t (place ∷ places) a b = ((a .0, b .0), asked-both t places (a .1) (b .1))
 
@@ -209,26 +211,26 @@ items-plain t places = refl
 -- ---- sorted by ten bytes is sorted by target, then type
 
 module _ (t : List ℕ) (f : Bytes t) where
-  key-is : (place : ℕ) → place * 54 + 54 ≤ length t → keyAt 54 32 10 t place ≡ take 8 (drop 32 (entry 54 place t)) ++ take 2 (drop 40 (entry 54 place t))
+  key-is : (place : ℕ) → place * recordSize + recordSize ≤ length t → keyAt recordSize 32 10 t place ≡ take 8 (drop idSize (entry recordSize place t)) ++ take 2 (drop 40 (entry recordSize place t))
   unfolding keyAt
-  key-is place h = rw (le-leb (place * 54 + 54) (length t) h) (take-add 8 2 (drop 32 (entry 54 place t)) ∙ rw (drop-drop 8 32 (entry 54 place t)))
+  key-is place h = rw (le-leb (place * recordSize + recordSize) (length t) h) (take-add 8 2 (drop idSize (entry recordSize place t)) ∙ rw (drop-drop 8 32 (entry recordSize place t)))
 
-  part-bytes : (at width place : ℕ) → Bytes (take width (drop at (entry 54 place t)))
-  part-bytes at width place = bytes-take width (drop at (entry 54 place t)) (bytes-drop at (entry 54 place t) (entry-bytes 54 place t f))
+  part-bytes : (at width place : ℕ) → Bytes (take width (drop at (entry recordSize place t)))
+  part-bytes at width place = bytes-take width (drop at (entry recordSize place t)) (bytes-drop at (entry recordSize place t) (entry-bytes recordSize place t f))
 
-  keys-agree : (p q : ℕ) → Asked t p → Asked t q → keyBelow 54 32 10 t p q ≡ itemBelow (itemAt t p) (itemAt t q)
+  keys-agree : (p q : ℕ) → Asked t p → Asked t q → keyBelow recordSize 32 10 t p q ≡ itemBelow (itemAt t p) (itemAt t q)
   unfolding keyBelow itemBelow itemAt itemOf requestOf
   keys-agree p q hp hq =
-      let a : List ℕ = take 8 (drop 32 (entry 54 p t)) in
-      let b : List ℕ = take 8 (drop 32 (entry 54 q t)) in
-      let u : List ℕ = take 2 (drop 40 (entry 54 p t)) in
-      let v : List ℕ = take 2 (drop 40 (entry 54 q t)) in
-      let lp : length (entry 54 p t) ≡ 54 = length-entry 54 p t (hp .0) in
-      let lq : length (entry 54 q t) ≡ 54 = length-entry 54 q t (hq .0) in
-      let la : length a ≡ 8 = length-part 32 8 (entry 54 p t) (omega arith) in
-      let lb : length b ≡ 8 = length-part 32 8 (entry 54 q t) (omega arith) in
-      let lu : length u ≡ 2 = length-part 40 2 (entry 54 p t) (omega arith) in
-      let lv : length v ≡ 2 = length-part 40 2 (entry 54 q t) (omega arith) in
+      let a : List ℕ = take 8 (drop idSize (entry recordSize p t)) in
+      let b : List ℕ = take 8 (drop idSize (entry recordSize q t)) in
+      let u : List ℕ = take 2 (drop 40 (entry recordSize p t)) in
+      let v : List ℕ = take 2 (drop 40 (entry recordSize q t)) in
+      let lp : length (entry recordSize p t) ≡ recordSize = length-entry recordSize p t (hp .0) in
+      let lq : length (entry recordSize q t) ≡ recordSize = length-entry recordSize q t (hq .0) in
+      let la : length a ≡ 8 = length-part 32 8 (entry recordSize p t) (omega arith) in
+      let lb : length b ≡ 8 = length-part 32 8 (entry recordSize q t) (omega arith) in
+      let lu : length u ≡ 2 = length-part 40 2 (entry recordSize p t) (omega arith) in
+      let lv : length v ≡ 2 = length-part 40 2 (entry recordSize q t) (omega arith) in
       rw (key-is p (hp .0), key-is q (hq .0))
       (before-append a b u v (omega arith)
       ∙ rw (before-number a b (omega arith) (part-bytes 32 8 p) (part-bytes 32 8 q), same-number a b (omega arith) (part-bytes 32 8 p) (part-bytes 32 8 q), before-number u v (omega arith) (part-bytes 40 2 p) (part-bytes 40 2 q)))
@@ -236,26 +238,26 @@ module _ (t : List ℕ) (f : Bytes t) where
   well-item : (place : ℕ) → Asked t place → WellItem (itemAt t place)
   unfolding itemAt itemOf requestOf
   well-item place h =
-      let l : length (entry 54 place t) ≡ 54 = length-entry 54 place t (h .0) in
+      let l : length (entry recordSize place t) ≡ recordSize = length-entry recordSize place t (h .0) in
       record {
-        id = record { long = length-part 0 32 (entry 54 place t) (omega arith); bytes = bytes-take 32 (entry 54 place t) (entry-bytes 54 place t f) };
+        id = record { long = length-part 0 32 (entry recordSize place t) (omega arith); bytes = bytes-take idSize (entry recordSize place t) (entry-bytes recordSize place t f) };
         typeId = h .1;
-        peer = part-below 32 8 (entry 54 place t) (omega arith) (entry-bytes 54 place t f);
+        peer = part-below 32 8 (entry recordSize place t) (omega arith) (entry-bytes recordSize place t f);
       }
 
   -- the places sorted, as the model's batches of them
-  module _ (places now′ : List ℕ) (w : All (Asked t) places) (e : now′ ≡ sorted (keyBelow 54 32 10 t) places) where
+  module _ (places now′ : List ℕ) (w : All (Asked t) places) (e : now′ ≡ sorted (keyBelow recordSize 32 10 t) places) where
     pub sorted-asked : All (Asked t) now′
-    sorted-asked = rw e (all-sorted (keyBelow 54 32 10 t) (Asked t) places w)
+    sorted-asked = rw e (all-sorted (keyBelow recordSize 32 10 t) (Asked t) places w)
 
     pub sorted-length : length now′ ≡ length places
-    sorted-length = ap length e ∙ length-sorted (keyBelow 54 32 10 t) places
+    sorted-length = ap length e ∙ length-sorted (keyBelow recordSize 32 10 t) places
 
     sorted-sendings : sendingsOf (itemsAt t now′) ≡ retrySendings (itemsAt t places)
     unfolding sendingsOf retrySendings batchesOf
-    sorted-sendings = rw (e, map-sorted (keyBelow 54 32 10 t) itemBelow (itemAt t) (Asked t) keys-agree places w)
+    sorted-sendings = rw (e, map-sorted (keyBelow recordSize 32 10 t) itemBelow (itemAt t) (Asked t) keys-agree places w)
 
-    pub sorted-room : (batch : ℕ) → length (sentBytes batch (sendingsOf (itemsAt t now′))) ≤ length places * 48
+    pub sorted-room : (batch : ℕ) → length (sentBytes batch (sendingsOf (itemsAt t now′))) ≤ length places * commandSize
     unfolding sentBytes
     sorted-room batch =
         let well : All WellItem (itemsAt t places) = all-map (Asked t) WellItem (itemAt t) well-item places w in

@@ -1,3 +1,6 @@
-mod GroupLaws
-mod WritingLaws
-mod SentLaws
+pub mod FillLaws
+pub mod ItemLaws
+pub mod ListLaws
+pub mod GroupLaws
+pub mod SentLaws
+pub mod WritingLaws

@@ -9,7 +9,7 @@ use Rattle.fields.specs.Overwrite.{overwritten}
 use Rattle.fields.proofs.OverwriteLaws.{overwritten-nil}
 use Rattle.model.specs.Sections.{Item, batchesOf}
 use Rattle.model.specs.Check.{retrySendings}
-use Rattle.requests.specs.Sent.{sentBytes}
+use Rattle.commands.specs.Sent.{sentBytes}
 
 module _ (gate : Bool) (items : List Item) (at batch : ℕ) (out : List ℕ) where
   pub unsent : gate ≡ false

@@ -15,13 +15,14 @@ use Rattle.fields.specs.Overwrite.{overwritten}
 use Rattle.model.specs.Requests.{request, commandsOf}
 use Rattle.model.specs.Commands.{allCommandBytes}
 use Rattle.model.specs.Lists.{idsIn}
-use Rattle.requests.specs.Sent.{sentBytes}
-use Rattle.batches.specs.Items.{Asked, itemAt, itemsAt, alike, span}
-use Rattle.batches.specs.Batches.{batchAt, batchesFrom, batchesIn, filledWith}
-use Rattle.batches.specs.declared.Batch as declared
-use Rattle.batches.proofs.FillLaws.{batches-next, batches-end}
-use Rattle.retries.specs.Batches.{idsAt, sendingsOf}
+use Rattle.commands.specs.Sent.{sentBytes}
+use Rattle.retries.specs.Items.{Asked, itemAt, itemsAt, alike, span}
+use Rattle.retries.specs.Batches.{batchAt, batchesFrom, batchesIn, filledWith}
+use Rattle.retries.specs.declared.batches.Batch as declared
+use Rattle.retries.proofs.FillLaws.{batches-next, batches-end}
+use Rattle.retries.specs.Retried.{idsAt, sendingsOf}
 use Rattle.retries.proofs.GroupLaws.{ids-with, Sent, sent-starts, sent-ends, batch-within, batch-room, sent-next, length-ids, next-item, batch-ids}
+use Rattle.model.specs.Layout.{idSize}
 
 -- ---- one batch, at place i
 
@@ -51,17 +52,17 @@ module _ (t places ids : List ℕ) (batch at : ℕ) (d out : List ℕ) (place nu
   unfolding batchAt
   first-is = ap (λ (b : declared.Batch). b .first) q
 
-  ids-length : length ids ≡ length places * 32
+  ids-length : length ids ≡ length places * idSize
   ids-length = ap length e ∙ length-ids t places w
 
-  module _ (part : List ℕ) (ep : part ≡ take (r .first * 32 + r .count * 32 - r .first * 32) (drop (r .first * 32) ids)) where
-    part-is : part ≡ take (r .count * 32) (drop (i * 32) ids)
-    part-is = let n : r .first * 32 + r .count * 32 - r .first * 32 ≡ r .count * 32 = omega arith in ep ∙ rw (n, first-is)
+  module _ (part : List ℕ) (ep : part ≡ take (r .first * idSize + r .count * idSize - r .first * idSize) (drop (r .first * idSize) ids)) where
+    part-is : part ≡ take (r .count * idSize) (drop (i * idSize) ids)
+    part-is = let n : r .first * idSize + r .count * idSize - r .first * idSize ≡ r .count * idSize = omega arith in ep ∙ rw (n, first-is)
 
-    part-length : length part ≡ r .count * 32
+    part-length : length part ≡ r .count * idSize
     part-length =
-        let l : length (drop (i * 32) ids) ≡ length ids - i * 32 = length-drop (i * 32) ids in
-        ap length part-is ∙ length-take-le (r .count * 32) (drop (i * 32) ids) (omega (arith, ids-length, one-within))
+        let l : length (drop (i * idSize) ids) ≡ length ids - i * idSize = length-drop (i * idSize) ids in
+        ap length part-is ∙ length-take-le (r .count * idSize) (drop (i * idSize) ids) (omega (arith, ids-length, one-within))
 
     command-is : allCommandBytes (commandsOf number (request (r .typeid) (r .target) (idsIn part)))
         ≡ allCommandBytes (commandsOf number (request (itemAt t (getD places i 0) .typeId) (itemAt t (getD places i 0) .peer) (ids-with (itemAt t (getD places i 0)) (itemsAt t (drop (i + 1) places)))))
@@ -92,11 +93,11 @@ pub record Writing (t places : List ℕ) (batch at : ℕ) (d out : List ℕ) (pl
 pub record Turn (t places ids : List ℕ) (batch at : ℕ) (d out : List ℕ) (place number i : ℕ) (r : declared.Batch) : Type 0 where
   pub within : r .first + r .count ≤ length places
   pub number-below : number < batch + length places
-  pub ids-long : length ids ≡ length places * 32
-  pub part-long : (part : List ℕ) → part ≡ take (r .first * 32 + r .count * 32 - r .first * 32) (drop (r .first * 32) ids) → length part ≡ r .count * 32
-  pub fits : (part : List ℕ) → part ≡ take (r .first * 32 + r .count * 32 - r .first * 32) (drop (r .first * 32) ids)
+  pub ids-long : length ids ≡ length places * idSize
+  pub part-long : (part : List ℕ) → part ≡ take (r .first * idSize + r .count * idSize - r .first * idSize) (drop (r .first * idSize) ids) → length part ≡ r .count * idSize
+  pub fits : (part : List ℕ) → part ≡ take (r .first * idSize + r .count * idSize - r .first * idSize) (drop (r .first * idSize) ids)
       → place + length (allCommandBytes (commandsOf number (request (r .typeid) (r .target) (idsIn part)))) ≤ length out
-  pub next : (part : List ℕ) → part ≡ take (r .first * 32 + r .count * 32 - r .first * 32) (drop (r .first * 32) ids) → (o : List ℕ) (place′ : ℕ)
+  pub next : (part : List ℕ) → part ≡ take (r .first * idSize + r .count * idSize - r .first * idSize) (drop (r .first * idSize) ids) → (o : List ℕ) (place′ : ℕ)
       → o ≡ overwritten place (allCommandBytes (commandsOf number (request (r .typeid) (r .target) (idsIn part)))) out
       → place′ ≡ place + length (allCommandBytes (commandsOf number (request (r .typeid) (r .target) (idsIn part)))) → Writing t places batch at d o place′ (number + 1) (i + 1)
 

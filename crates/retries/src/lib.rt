@@ -1,6 +1,8 @@
 // The retries of a delivery check, sent in batches by target, then type.
 //
 // One sort of the retried places, one pass over their ids. Where nothing is sent, no room is made.
+pub mod batches;
+
 ghost use mathlib.Core.Path.{_≡_};
 ghost use mathlib.Core.Bool.{cond};
 ghost use mathlib.Core.List.{[], map};
@@ -9,12 +11,18 @@ ghost use lib.ListN.{length, take};
 ghost use Rattle.fields.specs.Facts.{All};
 ghost use Rattle.fields.specs.Entries.{entry, joined};
 ghost use Rattle.fields.specs.Overwrite.{overwritten};
-ghost use Rattle.model.specs.Image.{requestOf, recordSize};
+ghost use Rattle.model.specs.Image.{requestOf};
 ghost use Rattle.model.specs.Check.{retrySendings};
-ghost use Rattle.requests.specs.Sent.{sentBytes};
-ghost use Rattle.batches.specs.Items.{Asked, itemsAt, itemOf};
-ghost use Rattle.retries.specs.Batches.{idsAt, sendingsOf};
-use batches::Batch;
+ghost use Rattle.commands.specs.Sent.{sentBytes};
+ghost use Rattle.retries.specs.Items.{Asked, itemsAt, itemOf};
+ghost use Rattle.retries.specs.Retried.{idsAt, sendingsOf};
+ghost use Rattle.model.specs.Layout.{commandSize, idSize, mostBatches, mostBytes, recordSize};
+ghost use Rattle.model.specs.Protocol.{trackedLimit};
+use crate::batches::Batch;
+use model::layout::ID_LIST_SIZE;
+use model::layout::ID_SIZE;
+use model::layout::RECORD_SIZE;
+use model::layout::TRACKED_LIMIT;
 
 pub struct Written {
     pub at: usize,
@@ -41,13 +49,13 @@ fn put_batches(
     at: usize,
     batch: u16,
 ) -> Written
-    requires { ⌜ All (Asked (now table)) (now places) × ((now ids ≡ joined (idsAt (now table) (now places))) × (length (now places) ≤ 1024)) ⌝ }
+    requires { ⌜ All (Asked (now table)) (now places) × ((now ids ≡ joined (idsAt (now table) (now places))) × (length (now places) ≤ trackedLimit)) ⌝ }
     requires { ⌜ (at + length (sentBytes batch (sendingsOf (itemsAt (now table) (now places)))) ≤ length (now out)) × (batch + length (now places) < 65536) ⌝ }
     ensures { λ _. ⌜ now (out .exit) ≡ overwritten at (sentBytes batch (sendingsOf (itemsAt (now (table .entry)) (now (places .entry))))) (now (out .entry)) ⌝ }
     ensures { λ r. ⌜ r .at ≡ at + length (sentBytes batch (sendingsOf (itemsAt (now (table .entry)) (now (places .entry))))) ⌝ }
     ensures { λ r. ⌜ r .batch ≡ batch + length (sendingsOf (itemsAt (now (table .entry)) (now (places .entry)))) ⌝ }
 {
-    let grouped = batches::grouped(no_batches(), table, places);
+    let grouped = crate::batches::grouped(no_batches(), table, places);
     let list = grouped.list;
     let count = grouped.count;
     let mut place = at;
@@ -55,9 +63,9 @@ fn put_batches(
     let mut i = 0;
     while i < count {
         let one = list[i];
-        let from = one.first * 32;
-        let end = from + one.count * 32;
-        place = requests::commands::put_requests(
+        let from = one.first * ID_SIZE;
+        let end = from + one.count * ID_SIZE;
+        place = commands::writing::put_requests(
             out,
             place,
             one.typeid,
@@ -85,16 +93,16 @@ fn put_retries(
     at: usize,
     batch: u16,
 ) -> Written
-    requires { ⌜ All (λ (place : ℕ). place * 54 + 54 ≤ length (now table)) (now places) ⌝ }
+    requires { ⌜ All (λ (place : ℕ). place * recordSize + recordSize ≤ length (now table)) (now places) ⌝ }
     requires { ⌜ All (λ (place : ℕ). requestOf (entry recordSize place (now table)) .typeId < 256) (now places) ⌝ }
-    requires { ⌜ (length (now spare) ≡ length (now places)) × (length (now ids) ≡ length (now places) * 32) ⌝ }
-    requires { ⌜ (length (now places) ≤ 1024) × ((at + length (now places) * 48 ≤ length (now out)) × (batch + length (now places) < 65536)) ⌝ }
+    requires { ⌜ (length (now spare) ≡ length (now places)) × (length (now ids) ≡ length (now places) * idSize) ⌝ }
+    requires { ⌜ (length (now places) ≤ trackedLimit) × ((at + length (now places) * commandSize ≤ length (now out)) × (batch + length (now places) < 65536)) ⌝ }
     ensures { λ _. ⌜ now (out .exit) ≡ overwritten at (sentBytes batch (retrySendings (map (λ (place : ℕ). itemOf (requestOf (entry recordSize place (now (table .entry))))) (now (places .entry))))) (now (out .entry)) ⌝ }
     ensures { λ r. ⌜ r .at ≡ at + length (sentBytes batch (retrySendings (map (λ (place : ℕ). itemOf (requestOf (entry recordSize place (now (table .entry))))) (now (places .entry))))) ⌝ }
     ensures { λ r. ⌜ r .batch ≡ batch + length (retrySendings (map (λ (place : ℕ). itemOf (requestOf (entry recordSize place (now (table .entry))))) (now (places .entry)))) ⌝ }
 {
-    order::sort(table, 54, 32, 10, places, spare);
-    gathering::gather(table, 54, 0, places, ids);
+    order::sort(table, RECORD_SIZE, 32, 10, places, spare);
+    order::gathering::gather(table, RECORD_SIZE, 0, places, ids);
     put_batches(table, places, ids, out, at, batch)
 }
 
@@ -108,16 +116,16 @@ fn put_with_room(
     at: usize,
     batch: u16,
 ) -> Written
-    requires { ⌜ All (λ (place : ℕ). place * 54 + 54 ≤ length (now table)) (now places) ⌝ }
+    requires { ⌜ All (λ (place : ℕ). place * recordSize + recordSize ≤ length (now table)) (now places) ⌝ }
     requires { ⌜ All (λ (place : ℕ). requestOf (entry recordSize place (now table)) .typeId < 256) (now places) ⌝ }
-    requires { ⌜ (length (now places) ≤ length (now spare)) × (length (now places) * 32 ≤ length (now ids)) ⌝ }
-    requires { ⌜ (length (now places) ≤ 1024) × ((at + 49152 ≤ length (now out)) × (batch + 1026 < 65536)) ⌝ }
+    requires { ⌜ (length (now places) ≤ length (now spare)) × (length (now places) * idSize ≤ length (now ids)) ⌝ }
+    requires { ⌜ (length (now places) ≤ trackedLimit) × ((at + mostBytes ≤ length (now out)) × (batch + mostBatches < 65536)) ⌝ }
     ensures { λ _. ⌜ now (out .exit) ≡ overwritten at (sentBytes batch (retrySendings (map (λ (place : ℕ). itemOf (requestOf (entry recordSize place (now (table .entry))))) (now (places .entry))))) (now (out .entry)) ⌝ }
     ensures { λ r. ⌜ r .at ≡ at + length (sentBytes batch (retrySendings (map (λ (place : ℕ). itemOf (requestOf (entry recordSize place (now (table .entry))))) (now (places .entry))))) ⌝ }
     ensures { λ r. ⌜ r .batch ≡ batch + length (retrySendings (map (λ (place : ℕ). itemOf (requestOf (entry recordSize place (now (table .entry))))) (now (places .entry)))) ⌝ }
 {
     let number = places.len();
-    let size = number * 32;
+    let size = number * ID_SIZE;
     put_retries(
         table,
         places,
@@ -130,15 +138,15 @@ fn put_with_room(
 }
 
 fn put_places(table: &[u8], places: &mut [u16], out: &mut [u8], at: usize, batch: u16) -> Written
-    requires { ⌜ All (λ (place : ℕ). place * 54 + 54 ≤ length (now table)) (now places) ⌝ }
+    requires { ⌜ All (λ (place : ℕ). place * recordSize + recordSize ≤ length (now table)) (now places) ⌝ }
     requires { ⌜ All (λ (place : ℕ). requestOf (entry recordSize place (now table)) .typeId < 256) (now places) ⌝ }
-    requires { ⌜ (length (now places) ≤ 1024) × ((at + 49152 ≤ length (now out)) × (batch + 1026 < 65536)) ⌝ }
+    requires { ⌜ (length (now places) ≤ trackedLimit) × ((at + mostBytes ≤ length (now out)) × (batch + mostBatches < 65536)) ⌝ }
     ensures { λ _. ⌜ now (out .exit) ≡ overwritten at (sentBytes batch (retrySendings (map (λ (place : ℕ). itemOf (requestOf (entry recordSize place (now (table .entry))))) (now (places .entry))))) (now (out .entry)) ⌝ }
     ensures { λ r. ⌜ r .at ≡ at + length (sentBytes batch (retrySendings (map (λ (place : ℕ). itemOf (requestOf (entry recordSize place (now (table .entry))))) (now (places .entry))))) ⌝ }
     ensures { λ r. ⌜ r .batch ≡ batch + length (retrySendings (map (λ (place : ℕ). itemOf (requestOf (entry recordSize place (now (table .entry))))) (now (places .entry)))) ⌝ }
 {
-    let mut spare = [0u16; 1024];
-    let mut ids = [0u8; 32768];
+    let mut spare = [0u16; TRACKED_LIMIT];
+    let mut ids = [0u8; ID_LIST_SIZE];
     put_with_room(table, places, &mut spare, &mut ids, out, at, batch)
 }
 
@@ -152,9 +160,9 @@ pub fn send_retries(
     at: usize,
     batch: u16,
 ) -> Written
-    requires { ⌜ All (λ (place : ℕ). place * 54 + 54 ≤ length (now table)) (take count (now places)) ⌝ }
+    requires { ⌜ All (λ (place : ℕ). place * recordSize + recordSize ≤ length (now table)) (take count (now places)) ⌝ }
     requires { ⌜ All (λ (place : ℕ). requestOf (entry recordSize place (now table)) .typeId < 256) (take count (now places)) ⌝ }
-    requires { ⌜ (count ≤ length (now places)) × ((length (now places) ≤ 1024) × ((at + 49152 ≤ length (now out)) × (batch + 1026 < 65536))) ⌝ }
+    requires { ⌜ (count ≤ length (now places)) × ((length (now places) ≤ trackedLimit) × ((at + mostBytes ≤ length (now out)) × (batch + mostBatches < 65536))) ⌝ }
     ensures { λ _. ⌜ now (out .exit) ≡ overwritten at (sentBytes batch (retrySendings (cond gate (map (λ (place : ℕ). itemOf (requestOf (entry recordSize place (now (table .entry))))) (take count (now (places .entry)))) []))) (now (out .entry)) ⌝ }
     ensures { λ r. ⌜ r .at ≡ at + length (sentBytes batch (retrySendings (cond gate (map (λ (place : ℕ). itemOf (requestOf (entry recordSize place (now (table .entry))))) (take count (now (places .entry)))) []))) ⌝ }
     ensures { λ r. ⌜ r .batch ≡ batch + length (retrySendings (cond gate (map (λ (place : ℕ). itemOf (requestOf (entry recordSize place (now (table .entry))))) (take count (now (places .entry)))) [])) ⌝ }

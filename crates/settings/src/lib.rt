@@ -2,6 +2,8 @@
 //
 // Every rule that asks whether a request is expired or given up, whether a send is throttled or a peer has stalled asks
 // here. Each function equals its definition in model/specs.
+pub mod sending;
+
 ghost use mathlib.Core.Path.{_≡_};
 ghost use mathlib.Core.Bool.{not};
 ghost use Prim.Native.Nat.{_≤_};

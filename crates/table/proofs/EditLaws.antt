@@ -10,8 +10,8 @@ use Rattle.fields.specs.Overwrite.{overwritten}
 use Rattle.fields.specs.Entries.{entries, joined, insertedAt, replaced}
 use Rattle.fields.proofs.OverwriteLaws.{take-before, drop-from}
 use Rattle.fields.proofs.EntriesLaws.{length-entries, joined-entries, replaced-fewer, replaced-inserted}
-use Rattle.moving.specs.Move.{moved}
-use Rattle.moving.proofs.MoveLaws.{length-part}
+use Rattle.spans.specs.Move.{moved}
+use Rattle.spans.proofs.MoveLaws.{length-part}
 
 -- the bytes before an entry and from it on
 pub bytes-from : (width count at : ℕ) → at ≤ count → at * width + (count - at) * width ≡ count * width

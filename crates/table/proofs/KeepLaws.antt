@@ -3,7 +3,7 @@ use Prim.Native.Nat.{ℕ, _+_, _-_, _*_, _≤_, _<_}
 use mathlib.Core.Path.{_≡_, refl, sym, _∙_}
 use mathlib.Core.Bool.{Bool, true, false, cond}
 use mathlib.Core.List.{List, [], _++_, append-assoc, append-nil}
-use native.Mathlib.Nat.{mul-le-mul-right, zero-mul, add-zero}
+use native.Mathlib.Nat.{mul-le-mul-right, add-zero}
 use native.Mathlib.Omega.{arith}
 use lib.Dec.{eqb}
 use lib.ListN.{length, take, drop, getD, replicate, length-drop, drop-of-length-le}
@@ -16,10 +16,10 @@ use Rattle.fields.specs.Zero.{zeros}
 use Rattle.fields.proofs.OverwriteLaws.{length-overwritten, take-before, drop-after, overwritten-same}
 use Rattle.fields.proofs.EntriesLaws.{length-entries, entries-take, take-entries, drop-entries, entries-behind}
 use Rattle.fields.proofs.FilterLaws.{marked-end}
-use Rattle.moving.specs.Move.{moved}
-use Rattle.moving.proofs.MoveLaws.{length-part}
-use Rattle.table.specs.Keep.{Keeping}
-use Rattle.table.proofs.EditLaws.{bytes-from, cut-down}
+use Rattle.spans.specs.Move.{moved}
+use Rattle.spans.proofs.MoveLaws.{length-part}
+use Rattle.table.specs.Keep.{Keeping, Passed}
+use Rattle.table.proofs.EditLaws.{cut-down}
 use Rattle.table.proofs.MarkLaws.{marked-ones, one-mark, not-marked}
 
 module _ (width from to : ℕ) (s : List ℕ) where
@@ -94,7 +94,7 @@ module _ {width count : ℕ} {marks d t : List ℕ} {left i : ℕ} (s : Keeping 
       rw q (entries-behind width left k block t block-long (omega (arith, room, block-long)) ∙ rw es)
 
   -- all of them are kept
-  pub keeps-all : drop i marks ≡ replicate k 1 ++ drop (i + k) marks → Keeping width count marks d t′ (left + k) (i + k)
+  keeps-all : drop i marks ≡ replicate k 1 ++ drop (i + k) marks → Keeping width count marks d t′ (left + k) (i + k)
   keeps-all o =
       let es : List (List ℕ) = entries width count d in
       let more : List (List ℕ) = marked (drop (i + k) marks) (drop (i + k) es) in
@@ -114,7 +114,8 @@ pub keeps-still : {width count : ℕ} {marks d : List ℕ} {i : ℕ} → Keeping
     → drop i marks ≡ replicate k 1 ++ drop (i + k) marks → Keeping width count marks d d (i + k) (i + k)
 unfolding moved
 keeps-still {width = width} {d = d} {i = i} s k h o =
-    keeps-all s k h d (sym (overwritten-same (i * width) (k * width) d (block-fits width i i k (i + k) d (omega arith) refl (omega (arith, s .fits, mul-le-mul-right width h)) .1))) o
+    let f : i * width + k * width ≤ length d = block-fits width i i k (i + k) d (omega arith) refl (omega (arith, s .fits, mul-le-mul-right width h)) .1 in
+    keeps-all s k h d (sym (overwritten-same (i * width) (k * width) d f)) o
 
 -- one entry, moved down behind those kept
 module _ {width count : ℕ} {marks d t : List ℕ} {left i : ℕ} (s : Keeping width count marks d t left i) (h : i + 1 ≤ count) (l : i < length marks)
@@ -137,12 +138,28 @@ module _ {width count : ℕ} {marks d t : List ℕ} {left i : ℕ} (s : Keeping 
       }
 
   -- whatever its mark is
-  pub keeps-one : (n : ℕ) → n ≡ cond (eqb (getD marks i 0) 1) 1 0 → Keeping width count marks d t′ (left + n) (i + 1)
+  keeps-one : (n : ℕ) → n ≡ cond (eqb (getD marks i 0) 1) 1 0 → Keeping width count marks d t′ (left + n) (i + 1)
   keeps-one n e = rw e (go (eqb (getD marks i 0) 1) refl)
     where
       go : (test : Bool) → eqb (getD marks i 0) 1 ≡ test → Keeping width count marks d t′ (left + cond test 1 0) (i + 1)
       go true r = keeps-all s 1 h t′ one-moved (one-mark marks i l (eqb-true (getD marks i 0) 1 r))
       go false r = rw add-zero (drops-one (eqb-false (getD marks i 0) 1 r))
+
+-- ---- a part of the pass, from the table t on
+
+module _ (width : ℕ) (marks t : List ℕ) (kept from : ℕ) where
+  pub pass-starts : Passed width marks t kept from t kept from
+  pass-starts count d h k = k
+
+  -- one entry more
+  pub pass-one : (u u′ : List ℕ) (left i n : ℕ) → i < length marks → Passed width marks t kept from u left i
+      → u′ ≡ overwritten (left * width) (entry width i u) u → n ≡ cond (eqb (getD marks i 0) 1) 1 0 → Passed width marks t kept from u′ (left + n) (i + 1)
+  pass-one u u′ left i n l p q e count d h k = keeps-one (p count d (omega arith) k) h l u′ q n e
+
+  -- eight entries that are all kept, as one block
+  pub pass-eight : (u : List ℕ) (end : ℕ) → end ≡ from + 8 → drop from marks ≡ replicate 8 1 ++ drop (from + 8) marks
+      → u ≡ moved (from * width) (kept * width) (8 * width) t → Passed width marks t kept from u (kept + 8) end
+  pass-eight u end e o q count d h k = rw e (keeps-all k 8 (omega arith) u q o)
 
 pub finished : {width count : ℕ} {marks d t : List ℕ} {left i : ℕ} (y : List ℕ) → Keeping width count marks d t left i → count ≤ i
     → y ≡ overwritten (left * width) (zeros ((count - left) * width)) t

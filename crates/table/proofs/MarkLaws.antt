@@ -28,7 +28,8 @@ module _ (marks : List ℕ) (i : ℕ) where
   one-mark h m = rw (drop-cons marks i 0 h, m, add-one)
 
   -- an element whose mark is not 1
-  pub not-marked {ℓ} : {A : Type ℓ} (xs : List A) → i < length marks → (getD marks i 0 ≡ 1 → ⊥) → marked (drop i marks) xs ≡ marked (drop (i + 1) marks) (drop 1 xs)
+  pub not-marked {ℓ} : {A : Type ℓ} (xs : List A) → i < length marks → (getD marks i 0 ≡ 1 → ⊥)
+      → marked (drop i marks) xs ≡ marked (drop (i + 1) marks) (drop 1 xs)
   not-marked [] h m = marked-end (drop i marks) ∙ sym (marked-end (drop (i + 1) marks))
   not-marked (x ∷ xs) h m = rw (drop-cons marks i 0 h, ne-eqb (getD marks i 0) 1 m, add-one)
 

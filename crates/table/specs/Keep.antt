@@ -14,3 +14,8 @@ pub record Keeping (width count : ℕ) (marks d t : List ℕ) (left i : ℕ) : T
   pub long : length t ≡ length d
   pub kept : entries width left t ++ marked (drop i marks) (drop i (entries width count d)) ≡ marked marks (entries width count d)
   pub rest : drop (i * width) t ≡ drop (i * width) d
+
+-- A pass over t that stood at `from`, with `kept` entries kept, stands at `end` with `left` of them over u: whatever table it began with.
+abbrev pub Passed : ℕ → List ℕ → List ℕ → ℕ → ℕ → List ℕ → ℕ → ℕ → Type 0
+Passed width marks t kept from u left end =
+    (count : ℕ) (d : List ℕ) → end ≤ count → Keeping width count marks d t kept from → Keeping width count marks d u left end

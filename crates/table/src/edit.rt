@@ -11,6 +11,6 @@ pub fn insert(table: &mut [u8], width: usize, count: usize, at: usize, new: &[u8
 {
     let place = at * width;
     let size = (count - at) * width;
-    moving::move_up(table, place, place + width, size);
-    moving::overwrite(table, place, new);
+    spans::moving::move_up(table, place, place + width, size);
+    spans::moving::overwrite(table, place, new);
 }

@@ -1,15 +1,14 @@
 // A table cut down to the entries that are marked.
 ghost use mathlib.Core.Path.{_≡_};
 ghost use mathlib.Core.Bool.{_&&_, cond};
-ghost use mathlib.Core.List.{List};
-ghost use Prim.Native.Nat.{ℕ, _+_, _-_, _*_, _≤_, min};
+ghost use Prim.Native.Nat.{_+_, _-_, _*_, _≤_, min};
 ghost use lib.Dec.{eqb, leb};
 ghost use lib.ListN.{length, take, drop};
 ghost use Rattle.fields.specs.Number.{fromBe};
 ghost use Rattle.fields.specs.Overwrite.{overwritten};
 ghost use Rattle.fields.specs.Entries.{entries, entry, replaced};
 ghost use Rattle.fields.specs.Filter.{marked};
-ghost use Rattle.table.specs.Keep.{Keeping};
+ghost use Rattle.table.specs.Keep.{Passed};
 
 // Entry `from` written over entry `to`. Nothing moves while nothing was dropped.
 pub fn move_entry(table: &mut [u8], width: usize, from: usize, to: usize)
@@ -17,7 +16,7 @@ pub fn move_entry(table: &mut [u8], width: usize, from: usize, to: usize)
     ensures { λ _. ⌜ now (table .exit) ≡ overwritten (to * width) (entry width from (now (table .entry))) (now (table .entry)) ⌝ }
 {
     if to < from {
-        moving::move_down(table, from * width, to * width, width);
+        spans::moving::move_down(table, from * width, to * width, width);
     }
 }
 
@@ -53,7 +52,7 @@ fn keep_each(
     marks: &[u8],
 ) -> usize
     requires { ⌜ (kept ≤ from) × ((from ≤ end) × ((end ≤ length (now marks)) × (end * width ≤ length (now table)))) ⌝ }
-    ensures { λ r. ⌜ ((count : ℕ) (d : List ℕ) → end ≤ count → Keeping width count (now (marks .entry)) d (now (table .entry)) kept from → Keeping width count (now (marks .entry)) d (now (table .exit)) r end) ⌝ }
+    ensures { λ r. ⌜ Passed width (now (marks .entry)) (now (table .entry)) kept from (now (table .exit)) r end ⌝ }
 {
     let mut i = from;
     let mut left = kept;
@@ -76,10 +75,10 @@ fn keep_eight(
 ) -> usize
     requires { ⌜ (kept ≤ from) × ((from ≤ end) × ((end ≤ length (now marks)) × (end * width ≤ length (now table)))) ⌝ }
     requires { ⌜ end ≤ from + 8 ⌝ }
-    ensures { λ r. ⌜ ((count : ℕ) (d : List ℕ) → end ≤ count → Keeping width count (now (marks .entry)) d (now (table .entry)) kept from → Keeping width count (now (marks .entry)) d (now (table .exit)) r end) ⌝ }
+    ensures { λ r. ⌜ Passed width (now (marks .entry)) (now (table .entry)) kept from (now (table .exit)) r end ⌝ }
 {
     if eight_kept(marks, from, end) {
-        moving::move_down(table, from * width, kept * width, 8 * width);
+        spans::moving::move_down(table, from * width, kept * width, 8 * width);
         return kept + 8;
     }
     keep_each(table, width, from, end, kept, marks)
@@ -113,6 +112,6 @@ pub fn keep(table: &mut [u8], width: usize, count: usize, marks: &[u8]) -> usize
         kept = keep_eight(table, width, i, end, kept, marks);
         i = end;
     }
-    moving::clear(table, kept * width, (count - kept) * width);
+    spans::moving::clear(table, kept * width, (count - kept) * width);
     kept
 }

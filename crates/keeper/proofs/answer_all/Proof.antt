@@ -5,8 +5,8 @@ use Prim.Native.Nat.{_<_}
 use mathlib.Core.Path.{_≡_, refl, _∙_}
 use lib.ListN.{length}
 use borrow.Author.Tests.{not-false}
-use Rattle.keeping.specs.Kept.{Kept}
-use Rattle.printing.proofs.TextLaws.{first-kept}
+use Rattle.keeper_text.specs.Kept.{Kept}
+use Rattle.keeper_text.proofs.TextLaws.{first-kept}
 use Rattle.keeper.proofs.answer_all.Statement.{statement}
 use Rattle.keeper.proofs.answer_all.Tie as tie
 

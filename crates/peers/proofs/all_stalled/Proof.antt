@@ -1,7 +1,7 @@
 -- By the definition, in each case of the first unstalled peer.
 use borrow.Author.Needs.{needs}
 use mathlib.Core.Path.{sym, ap, _∙_}
-use Rattle.peers.specs.Values.{listedPeer}
+use Rattle.peers.specs.Peers.{listedPeer}
 use Rattle.peers.proofs.all_stalled.Statement.{statement}
 use Rattle.peers.proofs.all_stalled.Tie as tie
 

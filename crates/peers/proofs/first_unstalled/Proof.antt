@@ -7,7 +7,7 @@ use lib.ListN.{drop}
 use borrow.Author.Tests.{not-true, not-false}
 use Rattle.model.specs.Peers.{isListed, firstUnstalled}
 use Rattle.model.specs.Lists.{peersIn}
-use Rattle.stalled.specs.Values.{stalledPeers}
+use Rattle.peers.specs.Stalled.{stalledPeers}
 use Rattle.peers.proofs.PeerLaws.{unstalled-here, unstalled-later, unstalled-end}
 use Rattle.peers.proofs.first_unstalled.Statement.{statement}
 use Rattle.peers.proofs.first_unstalled.Tie as tie

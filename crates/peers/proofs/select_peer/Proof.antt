@@ -2,7 +2,7 @@
 use borrow.Author.Needs.{needs}
 use mathlib.Core.Path.{sym, ap, _∙_}
 use Rattle.model.specs.Peers.{selectPeer}
-use Rattle.peers.specs.Values.{listedPeer}
+use Rattle.peers.specs.Peers.{listedPeer}
 use Rattle.peers.proofs.select_peer.Statement.{statement}
 use Rattle.peers.proofs.select_peer.Tie as tie
 

@@ -6,6 +6,7 @@ use Prim.Native.Nat.{_-_, _*_}
 use Rattle.question.proofs.QuestionLaws.{rest-all, evicted-few, pending-few, types-narrow, evicted-gathered, pending-gathered}
 use Rattle.question.proofs.gather.Statement.{statement}
 use Rattle.question.proofs.gather.Tie as tie
+use Rattle.model.specs.Layout.{areaSize, idSize, regionAt}
 
 mul-from : tie.Need-mul-from
 mul-from c = let s = c .before .before .before in omega (arith, evicted-few (s .args .area .now) (s .args .head) (s .pre .1 .0) (s .pre .0 .1))
@@ -26,7 +27,7 @@ put-headers-requires : tie.Need-put-headers-requires
 put-headers-requires c κs = let s = c .before .before .before .before .before in
     let a = s .args in
     let n = evicted-few (a .area .now) (a .head) (s .pre .1 .0) (s .pre .0 .1) in
-    (rw (rest-all (65536 - a .head .evicted * 32) (a .area .now), length-drop (65536 - a .head .evicted * 32) (a .area .now)) (omega (arith, n, s .pre .0)), omega (arith, n, s .pre .1))
+    (rw (rest-all (areaSize - a .head .evicted * idSize) (a .area .now), length-drop (areaSize - a .head .evicted * idSize) (a .area .now)) (omega (arith, n, s .pre .0)), omega (arith, n, s .pre .1))
 
 same-length : tie.Need-same-length
 same-length c = c .before .before .put-headers .kept .1 .1 .0
@@ -49,7 +50,7 @@ orphans-requires : tie.Need-orphans-requires
 orphans-requires c κs = let s = c .before .before .before .before .before in
     let a = s .args in
     let n = pending-few (a .area .now) (a .head) (s .pre .1 .0) (s .pre .0 .1) in
-    ((rw (rest-all 2560 (a .area .now), length-drop 2560 (a .area .now)) (omega (arith, n, s .pre .0)), omega (arith, n, s .pre .1)), types-narrow (a .area .now) (a .head) (s .pre .1 .0) (s .pre .0 .1))
+    ((rw (rest-all regionAt (a .area .now), length-drop regionAt (a .area .now)) (omega (arith, n, s .pre .0)), omega (arith, n, s .pre .1)), types-narrow (a .area .now) (a .head) (s .pre .1 .0) (s .pre .0 .1))
 
 same-length-2 : tie.Need-same-length-2
 same-length-2 c = c .before .before .orphans .kept .1 .1 .1 .0

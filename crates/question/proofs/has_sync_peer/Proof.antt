@@ -1,6 +1,6 @@
 -- Which bytes stand for a mode with a sync peer: `peer-byte`.
 use mathlib.Core.Path.{sym}
-use Rattle.head_test.proofs.HeadLaws.{peer-byte}
+use Rattle.image_test.proofs.HeadLaws.{peer-byte}
 use Rattle.question.proofs.has_sync_peer.Statement.{statement}
 use Rattle.question.proofs.has_sync_peer.Tie as tie
 

@@ -8,6 +8,7 @@ use Rattle.fields.proofs.PartLaws.{length-part}
 use Rattle.question.proofs.AnswerLaws.{header-put}
 use Rattle.question.proofs.put_header.Statement.{statement}
 use Rattle.question.proofs.put_header.Tie as tie
+use Rattle.model.specs.Layout.{idSize, pairSize}
 
 mul-from : tie.Need-mul-from
 mul-from c = search needs
@@ -35,11 +36,11 @@ part-overwrite-end c = search needs
 
 overwrite-requires : tie.Need-overwrite-requires
 overwrite-requires c κs = let a = c .before .before .before .before .args in
-    let n : a .i * 32 + 32 - a .i * 32 ≡ 32 = omega arith in
-    rw (length-set, n, length-part (a .i * 32) 32 (a .ids .now) (c .before .before .before .before .pre .0)) (omega arith)
+    let n : a .i * idSize + idSize - a .i * idSize ≡ idSize = omega arith in
+    rw (length-set, n, length-part (a .i * idSize) 32 (a .ids .now) (c .before .before .before .before .pre .0)) (omega arith)
 
 same-length : tie.Need-same-length
-same-length c = c .before .before .overwrite .kept .0 ∙ length-set (c .before .before .before .before .before .before .before .args .pairs .now) (c .before .before .before .before .before .before .before .args .i * 33) _
+same-length c = c .before .before .overwrite .kept .0 ∙ length-set (c .before .before .before .before .before .before .before .args .pairs .now) (c .before .before .before .before .before .before .before .args .i * pairSize) _
 
 returns : tie.Need-returns
 returns c = let s = c .before .before .before .before .before .before .before in

@@ -3,7 +3,7 @@ use borrow.Author.Needs.{needs}
 use mathlib.Core.Path.{ap}
 use Rattle.model.specs.Calls.{callFits}
 use Rattle.image.specs.Heads.{headOf}
-use Rattle.plans.specs.Plans.{numbersOf}
+use Rattle.plan.specs.Plans.{numbersOf}
 use Rattle.refusals.proofs.call_fits.Statement.{statement}
 use Rattle.refusals.proofs.call_fits.Tie as tie
 

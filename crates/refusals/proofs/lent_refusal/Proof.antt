@@ -3,7 +3,7 @@ use borrow.Author.Needs.{needs}
 use mathlib.Core.Path.{refl, sym, _∙_}
 use borrow.Author.Tests.{not-true, not-false}
 use Rattle.model.specs.Calls.{listsFit}
-use Rattle.plans.specs.Plans.{numbersOf, callOf}
+use Rattle.plan.specs.Plans.{numbersOf, callOf}
 use Rattle.refusals.proofs.RefusalLaws.{too-early, in-time, lent-4, lent-5, lent-6, lent-7, lent-8, lent-none}
 use Rattle.refusals.proofs.lent_refusal.Statement.{statement}
 use Rattle.refusals.proofs.lent_refusal.Tie as tie

@@ -2,7 +2,7 @@
 use borrow.Author.Needs.{needs}
 use borrow.Author.Tests.{ne-eqb}
 use mathlib.Core.Path.{sym, _∙_}
-use Rattle.plans.specs.Plans.{callOf}
+use Rattle.plan.specs.Plans.{callOf}
 use Rattle.request_keeper.proofs.EntryLaws.{not-stepped}
 use Rattle.request_keeper.proofs.request_keeper_step.Statement.{statement}
 use Rattle.request_keeper.proofs.request_keeper_step.Tie as tie

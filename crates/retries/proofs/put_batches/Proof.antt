@@ -3,11 +3,12 @@ use native.Mathlib.Omega.{arith}
 use Prim.Native.Nat.{_+_, _-_, _*_, _<_}
 use mathlib.Core.Path.{refl}
 use lib.ListN.{length, take, drop, getD}
-use Rattle.batches.specs.Batches.{batchesIn}
-use Rattle.batches.specs.declared.Batch.{Batch}
+use Rattle.retries.specs.Batches.{batchesIn}
+use Rattle.retries.specs.declared.batches.Batch.{Batch}
 use Rattle.retries.proofs.WritingLaws.{Writing, Turn, writing-starts, writing-ends, turn}
 use Rattle.retries.proofs.put_batches.Statement.{statement}
 use Rattle.retries.proofs.put_batches.Tie as tie
+use Rattle.model.specs.Layout.{idSize}
 
 abbrev Inv-loop : tie.InvT-loop
 Inv-loop table places ids out₀ at batch list count place₀ number₀ i₀ out place number i = Writing table places batch at out₀ out place number i
@@ -71,7 +72,7 @@ put-requests-requires c κs = let t = c .before .before .before .before .before 
     let s = t .before .before .before .before .before .before .before .before .before in
     let k = this-turn t in
     let one = batch-read t in
-    let part = take (one .first * 32 + one .count * 32 - one .first * 32) (drop (one .first * 32) (s .args .ids .now)) in
+    let part = take (one .first * idSize + one .count * idSize - one .first * idSize) (drop (one .first * idSize) (s .args .ids .now)) in
     (omega (arith, k .part-long part refl), (omega (arith, k .part-long part refl, k .within, s .pre .0 .1 .1), k .fits part refl))
 
 add-number : tie.Need-add-number Inv-loop μ-loop
@@ -91,7 +92,7 @@ loop-again : tie.Need-loop-again Inv-loop μ-loop
 loop-again c = let t = c .before .before .before .before .before .before .before .before in
     let s = t .before .before .before .before .before .before .before .before .before in
     let one = batch-read t in
-    let part = take (one .first * 32 + one .count * 32 - one .first * 32) (drop (one .first * 32) (s .args .ids .now)) in
+    let part = take (one .first * idSize + one .count * idSize - one .first * idSize) (drop (one .first * idSize) (s .args .ids .now)) in
     let put = c .before .before .put-requests in
     this-turn t .next part refl (put .last .0) (put .result) (put .ensures .0) (put .ensures .1)
 

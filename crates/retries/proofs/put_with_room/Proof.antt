@@ -7,6 +7,7 @@ use lib.ListN.{length}
 use lib.Seq.{length-take-le}
 use Rattle.retries.proofs.put_with_room.Statement.{statement}
 use Rattle.retries.proofs.put_with_room.Tie as tie
+use Rattle.model.specs.Layout.{idSize}
 
 mul-size : tie.Need-mul-size
 mul-size c = search needs
@@ -21,7 +22,7 @@ slice-relend-prefix-put-retries-2 : tie.Need-slice-relend-prefix-put-retries-2
 slice-relend-prefix-put-retries-2 c = search needs
 
 slice-aggregate-put-retries-2 : tie.Need-slice-aggregate-put-retries-2
-slice-aggregate-put-retries-2 c = let s = c .before .before .before .before .before .before .before .before in sym (length-take-le (length (s .args .places .now) * 32) (s .args .ids .now) (s .pre .1 .1 .0 .1))
+slice-aggregate-put-retries-2 c = let s = c .before .before .before .before .before .before .before .before in sym (length-take-le (length (s .args .places .now) * idSize) (s .args .ids .now) (s .pre .1 .1 .0 .1))
 
 put-retries-requires : tie.Need-put-retries-requires
 put-retries-requires c κs = let s = c .before .before .before .before .before .before .before .before .before in
@@ -30,7 +31,7 @@ put-retries-requires c κs = let s = c .before .before .before .before .before .
       (
         s .pre .1 .0,
         (
-          (length-take-le (length (a .places .now)) (a .spare .now) (s .pre .1 .1 .0 .0), length-take-le (length (a .places .now) * 32) (a .ids .now) (s .pre .1 .1 .0 .1)),
+          (length-take-le (length (a .places .now)) (a .spare .now) (s .pre .1 .1 .0 .0), length-take-le (length (a .places .now) * idSize) (a .ids .now) (s .pre .1 .1 .0 .1)),
           (s .pre .1 .1 .1 .0, (omega (arith, s .pre .1 .1 .1), omega (arith, s .pre .1 .1 .1))),
         ),
       ),

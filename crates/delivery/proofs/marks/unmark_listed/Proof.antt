@@ -7,15 +7,16 @@ use lib.ListN.{length, drop}
 use Rattle.fields.specs.Entries.{entries}
 use Rattle.fields.specs.Filter.{marked}
 use Rattle.model.specs.Lists.{idsIn}
-use Rattle.requests.proofs.RunLaws.{length-id}
+use Rattle.commands.proofs.RunLaws.{length-id}
 use Rattle.delivery.specs.Records.{unlisted}
 use Rattle.delivery.proofs.ListedLaws.{listed-turn, listed-end}
 use Rattle.delivery.proofs.marks.unmark_listed.Statement.{statement}
 use Rattle.delivery.proofs.marks.unmark_listed.Tie as tie
+use Rattle.model.specs.Layout.{idSize, recordSize}
 
 abbrev Inv-loop : tie.InvT-loop
 Inv-loop table count ids marks₀ at₀ marks at =
-    (at % 32 ≡ 0) × ((at ≤ length ids) × ((length marks ≡ length marks₀) × (unlisted (idsIn (drop at ids)) (marked marks (entries 54 count table)) ≡ unlisted (idsIn ids) (marked marks₀ (entries 54 count table)))))
+    (at % idSize ≡ 0) × ((at ≤ length ids) × ((length marks ≡ length marks₀) × (unlisted (idsIn (drop at ids)) (marked marks (entries recordSize count table)) ≡ unlisted (idsIn ids) (marked marks₀ (entries recordSize count table)))))
 
 abbrev μ-loop : tie.MeasureT-loop
 μ-loop table count ids marks₀ at₀ marks at = length ids - at
@@ -47,7 +48,7 @@ loop-again : tie.Need-loop-again Inv-loop μ-loop
 loop-again c = let l = c .before .before .before .before .before .before in
     let s = c .before .before .before .before .before .before .before .before .before .before in (
       omega arith,
-      (omega arith, (search needs, listed-turn (s .args .ids .now) (l .loop .at) (l .loop .marks) (c .before .before .unmark .last .1 .1 .1 .0) (entries 54 (s .args .count) (s .args .table .now)) (s .pre .0 .0) (l .loop .inv .0) (c .before .before .before .before .before .loop-test .taken) (c .before .before .unmark .ensures) ∙ l .loop .inv .1 .1 .1)),
+      (omega arith, (search needs, listed-turn (s .args .ids .now) (l .loop .at) (l .loop .marks) (c .before .before .unmark .last .1 .1 .1 .0) (entries recordSize (s .args .count) (s .args .table .now)) (s .pre .0 .0) (l .loop .inv .0) (c .before .before .before .before .before .loop-test .taken) (c .before .before .unmark .ensures) ∙ l .loop .inv .1 .1 .1)),
     )
 
 same-length : tie.Need-same-length Inv-loop μ-loop
@@ -56,7 +57,7 @@ same-length c = search needs
 returns : tie.Need-returns Inv-loop μ-loop
 returns c = let l = c .before in
     let s = c .before .before .before .before .before in
-    let es = entries 54 (s .args .count) (s .args .table .now) in
+    let es = entries recordSize (s .args .count) (s .args .table .now) in
     listed-end (s .args .ids .now) (l .loop .at) (marked (l .loop .marks) es) (unlisted (idsIn (s .args .ids .now)) (marked (s .args .marks .now) es)) (omega arith) (l .loop .inv .1 .1 .1)
 
 pub unmark-listed-spec : {M : Type 1} → statement M

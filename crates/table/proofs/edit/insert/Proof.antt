@@ -32,8 +32,8 @@ returns c =
     let up : tie.After-move-up = search in
     let new : tie.After-overwrite = search in
     let a = s .args in
-    inserted (a .width) (a .count) (a .at) (a .new .now) (a .table .now) (up .move-up .last .0) (new .overwrite .last .0) (s .pre .0) (s .pre .1 .0) (s .pre .1 .1)
-    (up .move-up .ensures) (new .overwrite .ensures)
+    inserted (a .width) (a .count) (a .at) (a .new .now) (a .table .now) (up .move-up .last .0) (new .overwrite .last .0)
+    (s .pre .0) (s .pre .1 .0) (s .pre .1 .1) (up .move-up .ensures) (new .overwrite .ensures)
 
 pub insert-spec : {M : Type 1} → statement M
 insert-spec =

@@ -1,5 +1,5 @@
 -- Both loops: the pass stands at i (`Keeping`). A turn is `keeps-still`, then what `keep_eight` ensures.
-use Prim.Native.Nat.{_+_, _-_, _*_, _≤_}
+use Prim.Native.Nat.{_+_, _-_, _≤_}
 use mathlib.Core.Path.{_≡_, sym, _∙_}
 use mathlib.Core.List.{_++_}
 use native.Mathlib.Nat.{mul-le-mul-right}

@@ -1,13 +1,12 @@
--- The loop: a pass that stood at `from` when it began stands at i. A turn is `keeps-one`.
+-- The loop: a pass that stood at `from` when it began stands at i. A turn is `pass-one`.
 use Prim.Native.Nat.{ℕ, _+_, _-_, _*_, _≤_, _<_}
 use mathlib.Core.Path.{_≡_, refl}
-use mathlib.Core.List.{List}
 use native.Mathlib.Nat.{mul-le-mul-right}
 use native.Mathlib.Omega.{arith}
 use lib.ListN.{length}
 use borrow.Author.Needs.{needs}
-use Rattle.table.specs.Keep.{Keeping}
-use Rattle.table.proofs.KeepLaws.{keeps-one}
+use Rattle.table.specs.Keep.{Passed}
+use Rattle.table.proofs.KeepLaws.{pass-starts, pass-one}
 use Rattle.table.proofs.keep.keep_each.Statement.{statement}
 use Rattle.table.proofs.keep.keep_each.Tie as tie
 
@@ -16,7 +15,7 @@ Inv-loop table₀ width from end kept marks i₀ left₀ table i left =
     (left ≤ i)
     × ((i ≤ end)
     × ((length table ≡ length table₀)
-    × ((count : ℕ) (d : List ℕ) → end ≤ count → Keeping width count marks d table₀ kept from → Keeping width count marks d table left i)))
+    × Passed width marks table₀ kept from table left i))
 
 abbrev μ-loop : tie.MeasureT-loop
 μ-loop table₀ width from end kept marks i₀ left₀ table i left = end - i
@@ -35,7 +34,10 @@ InTurn = tie.In-loop Inv-loop μ-loop
 -- ---- the needs
 
 loop-holds : tie.Need-loop-holds Inv-loop μ-loop
-loop-holds c = let s : Start = search in (s .pre .0, (s .pre .1 .0, (refl, (λ count d h k. k))))
+loop-holds c =
+    let s : Start = search in
+    let a = s .args in
+    (s .pre .0, (s .pre .1 .0, (refl, pass-starts (a .width) (a .marks .now) (a .table .now) (a .kept) (a .from))))
 
 move-entry-requires : tie.Need-move-entry-requires Inv-loop μ-loop
 move-entry-requires c κs =
@@ -70,12 +72,9 @@ loop-again c =
     let o : tie.After-one-if Inv-loop μ-loop = search in
     let a = s .args in
     let i : ℕ = l .loop .i in
-    let marked : i < length (a .marks .now) = omega (arith, t .loop-test .taken, s .pre) in
-    let turned : (count : ℕ) (d : List ℕ) → a .end ≤ count → Keeping (a .width) count (a .marks .now) d (a .table .now) (a .kept) (a .from)
-    → Keeping (a .width) count (a .marks .now) d (m .move-entry .last .0) (l .loop .left + o .one-if .result) (i + 1) =
-    λ count d h k.
-    keeps-one (l .loop .inv .1 .1 .1 count d h k) (omega (arith, t .loop-test .taken)) marked (m .move-entry .last .0) (m .move-entry .ensures) (o .one-if .result) (o .one-if .ensures .0) in
-    (omega arith, (omega arith, (omega arith, turned)))
+    let inside : i < length (a .marks .now) = omega (arith, t .loop-test .taken, s .pre) in
+    let turned = pass-one (a .width) (a .marks .now) (a .table .now) (a .kept) (a .from) (l .loop .table) (m .move-entry .last .0) (l .loop .left) i in
+    (omega arith, (omega arith, (omega arith, turned (o .one-if .result) inside (l .loop .inv .1 .1 .1) (m .move-entry .ensures) (o .one-if .ensures .0))))
 
 same-length : tie.Need-same-length Inv-loop μ-loop
 same-length c = search needs
@@ -85,7 +84,7 @@ returns c =
     let s : Start = search in
     let l : Head = search in
     let e : l .loop .i ≡ s .args .end = omega arith in
-    λ count d h k. rw e at (l .loop .inv .1 .1 .1 count d h k)
+    rw e at (l .loop .inv .1 .1 .1)
 
 pub keep-each-spec : {M : Type 1} → statement M
 keep-each-spec =

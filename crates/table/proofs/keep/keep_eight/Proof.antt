@@ -1,4 +1,4 @@
--- Eight entries that are all kept move as one block: `keeps-all`, by `eight-marks`.
+-- Eight entries that are all kept move as one block: `pass-eight`, by `eight-marks`.
 use Prim.Native.Nat.{_+_, _*_, _≤_}
 use mathlib.Core.Path.{_≡_, sym, _∙_}
 use mathlib.Core.List.{_++_}
@@ -6,7 +6,7 @@ use native.Mathlib.Omega.{arith}
 use lib.ListN.{length, drop, replicate}
 use borrow.Author.Needs.{needs}
 use Rattle.table.proofs.MarkLaws.{eight-marks}
-use Rattle.table.proofs.KeepLaws.{block-fits, keeps-all}
+use Rattle.table.proofs.KeepLaws.{block-fits, pass-eight}
 use Rattle.table.proofs.keep.keep_eight.Statement.{statement}
 use Rattle.table.proofs.keep.keep_eight.Tie as tie
 
@@ -15,12 +15,14 @@ module _ (c : tie.Then1) where
   abbrev start : tie.Start
   start = search
 
-  ones : (start .args .from + 8 ≤ start .args .end) × (drop (start .args .from) (start .args .marks .now) ≡ replicate 8 1 ++ drop (start .args .from + 8) (start .args .marks .now))
+  ones : (start .args .from + 8 ≤ start .args .end)
+      × (drop (start .args .from) (start .args .marks .now) ≡ replicate 8 1 ++ drop (start .args .from + 8) (start .args .marks .now))
   ones =
       let known : tie.After-shared-slice-known = search in
       let tested : tie.After-eight-kept = search in
       let a = start .args in
-      eight-marks (a .marks .now) (a .from) (a .end) (omega arith) (λ i. omega (arith, known .shared-slice-known .given i)) (sym (tested .eight-kept .ensures) ∙ c .if1 .taken)
+      eight-marks (a .marks .now) (a .from) (a .end) (omega arith) (λ i. omega (arith, known .shared-slice-known .given i))
+      (sym (tested .eight-kept .ensures) ∙ c .if1 .taken)
 
   ends : start .args .end ≡ start .args .from + 8
   ends = omega (arith, ones .0)
@@ -42,7 +44,7 @@ mul-move-down-3 : tie.Need-mul-move-down-3
 mul-move-down-3 c = let t : tie.Then1 = search in omega (arith, fits t)
 
 move-down-requires : tie.Need-move-down-requires
-move-down-requires c κs = let t : tie.Then1 = search in fits t
+move-down-requires c κs = let t : tie.Then1 = search in omega (arith, fits t)
 
 add-result : tie.Need-add-result
 add-result c = search needs
@@ -54,7 +56,8 @@ returns : tie.Need-returns
 returns c =
     let t : tie.Then1 = search in
     let m : tie.After-move-down = search in
-    λ count d h k. rw (ends t) (keeps-all k 8 (omega (arith, ends t)) (m .move-down .last .0) (m .move-down .ensures) (ones t .1))
+    let a = start t .args in
+    pass-eight (a .width) (a .marks .now) (a .table .now) (a .kept) (a .from) (m .move-down .last .0) (a .end) (ends t) (ones t .1) (m .move-down .ensures)
 
 keep-each-requires : tie.Need-keep-each-requires
 keep-each-requires c κs = search needs

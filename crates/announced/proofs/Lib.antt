@@ -1,2 +1,0 @@
-pub mod RequestedLaws
-pub mod PerformLaws

@@ -1,2 +1,0 @@
-mod PlainLaws
-mod FreshLaws

@@ -1,2 +1,0 @@
-mod OrphanLaws
-mod LostLaws

@@ -1,2 +1,0 @@
-mod WindowLaws
-mod SectionsLaws

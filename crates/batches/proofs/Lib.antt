@@ -1,3 +1,0 @@
-pub mod ItemLaws
-pub mod FillLaws
-pub mod ListLaws

@@ -1,2 +1,0 @@
-pub mod ByTypeLaws
-pub mod AskLaws

@@ -1,3 +1,0 @@
-// What a replayed call is made of: its numbers, the areas that it is lent, and what it left of them.
-pub mod lent;
-pub mod numbers;

@@ -1,0 +1,4 @@
+pub mod CheckLaws
+pub mod MarkLaws
+pub mod RecordLaws
+pub mod RetryLaws

@@ -1,0 +1,46 @@
+-- By the gate and the first listed peer: `aim-shut`, `aim-other`, `aim-nobody`.
+use borrow.Author.Tests.{not-true, not-false}
+use Rattle.model.specs.Lists.{peersIn}
+use Rattle.peers.specs.Peers.{listedPeer}
+use Rattle.check_timeouts.proofs.RetryLaws.{aim-shut, aim-other, aim-nobody}
+use borrow.Author.Needs.{needs}
+use Prim.Native.Nat.{_-_}
+use mathlib.Core.Path.{sym, ap, _∙_}
+use Rattle.check_timeouts.proofs.check.retry_aim.Statement.{statement}
+use Rattle.check_timeouts.proofs.check.retry_aim.Tie as tie
+
+returns : tie.Need-returns
+returns c = let s = c .before .before .args in aim-shut (peersIn (s .peers .now)) (s .gate) (not-true (s .gate) (c .if1 .taken))
+
+first-listed-requires : tie.Need-first-listed-requires
+first-listed-requires c κs = search needs
+
+enum-known-first : tie.Need-enum-known-first
+enum-known-first c = search needs
+
+retry-target-requires : tie.Need-retry-target-requires
+retry-target-requires c κs = search needs
+
+enum-told : tie.Need-enum-told
+enum-told c = search needs
+
+returns-2 : tie.Need-returns-2
+returns-2 c = let s = c .before .before .before .before .before .before .before .args in
+    aim-other (peersIn (s .peers .now)) (s .gate) (c .before .before .first .given .0 .0) (c .retry-target .result) (not-false (s .gate) (c .before .before .before .before .before .if1 .left))
+    (sym (ap listedPeer (c .before .before .first .given .1)) ∙ c .before .before .before .before .first-listed .ensures) (c .retry-target .ensures)
+
+returns-3 : tie.Need-returns-3
+returns-3 c = let s = c .before .before .before .before .before .args in
+    aim-nobody (peersIn (s .peers .now)) (s .gate) (sym (ap listedPeer (c .enum-told .given .1)) ∙ c .before .before .first-listed .ensures)
+
+pub retry-aim-spec : {M : Type 1} → statement M
+retry-aim-spec =
+    tie.close
+    (tie.spec
+    returns
+    first-listed-requires
+    enum-known-first
+    retry-target-requires
+    enum-told
+    returns-2
+    returns-3)

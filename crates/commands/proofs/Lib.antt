@@ -1,0 +1,5 @@
+pub mod HoldingLaws
+pub mod RecordedLaws
+pub mod RunLaws
+pub mod SentLaws
+pub mod WriteLaws

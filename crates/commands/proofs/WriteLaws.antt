@@ -1,0 +1,59 @@
+-- Writes one behind another are one write, and a command is six of them.
+use Prim.Native.Nat.{ℕ, _+_, _*_, _/_, _%_, _≤_}
+use mathlib.Core.Path.{_≡_, refl, ap, _∙_}
+use mathlib.Core.List.{List, [], _∷_, _++_}
+use native.Mathlib.Omega.{arith}
+use lib.ListN.{length, set, length-set}
+use lib.Seq.{take-all}
+use Rattle.fields.specs.Number.{toBe}
+use Rattle.fields.specs.Entries.{joined}
+use Rattle.fields.specs.Overwrite.{overwritten}
+use Rattle.fields.proofs.OverwriteLaws.{overwritten-one, overwritten-next}
+use Rattle.fields.proofs.EntriesLaws.{length-entries, joined-entries}
+use Rattle.model.specs.Requests.{Command}
+use Rattle.model.specs.Lists.{idsIn}
+use Rattle.model.specs.Commands.{commandBytes}
+use Rattle.model.specs.Layout.{idSize}
+
+pub written-next : (p k : ℕ) (a b d o o′ : List ℕ) → length a ≡ k → p + k + length b ≤ length d → o ≡ overwritten p a d → o′ ≡ overwritten (p + k) b o
+    → o′ ≡ overwritten p (a ++ b) d
+written-next p k a b d o o′ l h e f = f ∙ rw (e, ← l) (overwritten-next p a b d (rw l h))
+
+pub length-ids : (bytes : List ℕ) → length (idsIn bytes) ≡ length bytes / idSize
+unfolding idsIn
+length-ids bytes = length-entries idSize (length bytes / idSize) bytes
+
+-- whole ids joined again
+pub joined-ids : (bytes : List ℕ) → length bytes % idSize ≡ 0 → joined (idsIn bytes) ≡ bytes
+unfolding idsIn
+joined-ids bytes h = joined-entries idSize (length bytes / idSize) bytes ∙ take-all (length bytes / idSize * idSize) bytes (omega arith)
+
+pub two-written : (p a b : ℕ) (d : List ℕ) → p + 2 ≤ length d → set (set d p a) (p + 1) b ≡ overwritten p (a ∷ b ∷ []) d
+two-written p a b d h =
+    let l : length (set d p a) ≡ length d = length-set d p a in
+    written-next p 1 (a ∷ []) (b ∷ []) d (set d p a) (set (set d p a) (p + 1) b) refl (omega arith) (overwritten-one p a d (omega arith)) (overwritten-one (p + 1) b (set d p a) (omega arith))
+
+abbrev pub commandFor : ℕ → ℕ → ℕ → ℕ → List ℕ → Command
+commandFor kind typeId batch peer bytes = record { kind = kind; typeId = typeId; batch = batch; peer = peer; ids = idsIn bytes }
+
+module _ (kind typeId batch peer : ℕ) (bytes : List ℕ) (whole : length bytes % idSize ≡ 0) where
+  command-split : commandBytes (commandFor kind typeId batch peer bytes) ≡ ((((kind ∷ typeId ∷ []) ++ toBe 2 batch) ++ toBe 8 peer) ++ toBe 4 (length bytes / idSize)) ++ bytes
+  unfolding commandBytes
+  command-split = rw (joined-ids bytes whole, length-ids bytes)
+
+  pub length-command : length (commandBytes (commandFor kind typeId batch peer bytes)) ≡ 16 + length bytes
+  length-command = ap length command-split ∙ omega arith
+
+  -- its fields, one behind another
+  pub command-written : (p : ℕ) (d o₁ o₂ o₃ o₄ o₅ : List ℕ) → p + 16 + length bytes ≤ length d
+      → o₁ ≡ overwritten p (kind ∷ typeId ∷ []) d → o₂ ≡ overwritten (p + 2) (toBe 2 batch) o₁ → o₃ ≡ overwritten (p + 4) (toBe 8 peer) o₂
+      → o₄ ≡ overwritten (p + 12) (toBe 4 (length bytes / idSize)) o₃ → o₅ ≡ overwritten (p + 16) bytes o₄ → o₅ ≡ overwritten p (commandBytes (commandFor kind typeId batch peer bytes)) d
+  command-written p d o₁ o₂ o₃ o₄ o₅ h e₁ e₂ e₃ e₄ e₅ =
+      let b : List ℕ = (kind ∷ typeId ∷ []) ++ toBe 2 batch in
+      let s₂ : o₂ ≡ overwritten p b d = written-next p 2 (kind ∷ typeId ∷ []) (toBe 2 batch) d o₁ o₂ refl (omega arith) e₁ e₂ in
+      let s₃ : o₃ ≡ overwritten p (b ++ toBe 8 peer) d = written-next p 4 b (toBe 8 peer) d o₂ o₃ refl (omega arith) s₂ e₃ in
+      let s₄ : o₄ ≡ overwritten p ((b ++ toBe 8 peer) ++ toBe 4 (length bytes / idSize)) d =
+      written-next p 12 (b ++ toBe 8 peer) (toBe 4 (length bytes / idSize)) d o₃ o₄ refl (omega arith) s₃ e₄ in
+      let s₅ : o₅ ≡ overwritten p (((b ++ toBe 8 peer) ++ toBe 4 (length bytes / idSize)) ++ bytes) d =
+      written-next p 16 ((b ++ toBe 8 peer) ++ toBe 4 (length bytes / idSize)) bytes d o₄ o₅ refl (omega arith) s₄ e₅ in
+      s₅ ∙ rw command-split

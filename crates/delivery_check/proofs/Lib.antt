@@ -1,4 +1,0 @@
-pub mod RetryLaws
-pub mod RecordLaws
-pub mod MarkLaws
-pub mod CheckLaws

@@ -1,5 +1,0 @@
-pub mod RecordLaws
-pub mod AnswerLaws
-pub mod OneLaws
-pub mod MarkedLaws
-pub mod EachLaws

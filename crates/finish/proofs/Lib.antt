@@ -1,2 +1,0 @@
-pub mod FinishedLaws
-pub mod SaidLaws

@@ -1,0 +1,4 @@
+pub mod Rows
+pub mod Advanced
+pub mod Window
+pub mod Pairs

@@ -1,0 +1,31 @@
+-- Writes side by side are one.
+use mathlib.Core.Path.{refl}
+use native.Mathlib.Omega.{arith}
+use borrow.Author.Needs.{needs}
+use Rattle.fields.specs.Number.{toBe}
+use Rattle.image.proofs.WrittenLaws.{three-written}
+use Rattle.image.proofs.writing.write_counts.Statement.{statement}
+use Rattle.image.proofs.writing.write_counts.Tie as tie
+
+write-requires : tie.Need-write-requires
+write-requires c κs = search needs
+
+write-requires-2 : tie.Need-write-requires-2
+write-requires-2 c κs = search needs
+
+write-requires-3 : tie.Need-write-requires-3
+write-requires-3 c κs = search needs
+
+same-length : tie.Need-same-length
+same-length c = search needs
+
+returns : tie.Need-returns
+returns c =
+    let s = c .before .before .before .before .before .before .before .before .before .before .before .before .before .args in
+    let one = c .before .before .before .before .before .before .before .before .before .before .write in
+    let two = c .before .before .before .before .before .before .write2 in
+    three-written 68 70 72 (toBe 2 (s .stalled)) (toBe 2 (s .pending)) (toBe 2 (s .evicted)) (s .area .now) (one .last .0) (two .last .0) (c .before .before .write3 .last .0) (one .ensures) (two .ensures) (c .before .before .write3 .ensures) refl refl (omega arith)
+
+pub write-counts-spec : {M : Type 1} → statement M
+write-counts-spec =
+    tie.close (tie.spec write-requires write-requires-2 write-requires-3 same-length returns)

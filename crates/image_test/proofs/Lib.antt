@@ -1,0 +1,3 @@
+pub mod HeadLaws
+pub mod OnceLaws
+pub mod TestLaws

@@ -1,0 +1,41 @@
+-- The law of the parts together.
+use borrow.Author.Needs.{needs}
+use Rattle.image_test.proofs.HeadLaws.{parts-fit}
+use Rattle.image_test.proofs.head.head_fits.Statement.{statement}
+use Rattle.image_test.proofs.head.head_fits.Tie as tie
+
+starts-well-requires : tie.Need-starts-well-requires
+starts-well-requires c κs = search needs
+
+marks-fit-requires : tie.Need-marks-fit-requires
+marks-fit-requires c κs = search needs
+
+counts-fit-requires : tie.Need-counts-fit-requires
+counts-fit-requires c κs = search needs
+
+clocks-fit-requires : tie.Need-clocks-fit-requires
+clocks-fit-requires c κs = search needs
+
+peer-fits-requires : tie.Need-peer-fits-requires
+peer-fits-requires c κs = search needs
+
+returns : tie.Need-returns
+returns c =
+    let area = c .before .before .before .before .before .before .args .area .now in
+    let starts = c .before .before .before .before .starts-well in
+    let marks = c .before .before .before .marks-fit in
+    let counts = c .before .before .counts-fit in
+    let clocks = c .before .clocks-fit in
+    let peer = c .peer-fits in
+    parts-fit area (starts .result) (marks .result) (counts .result) (clocks .result) (peer .result) (starts .ensures) (marks .ensures) (counts .ensures) (clocks .ensures) (peer .ensures)
+
+pub head-fits-spec : {M : Type 1} → statement M
+head-fits-spec =
+    tie.close
+    (tie.spec
+    starts-well-requires
+    marks-fit-requires
+    counts-fit-requires
+    clocks-fit-requires
+    peer-fits-requires
+    returns)

@@ -1,0 +1,3 @@
+pub mod formed;
+pub mod head;
+pub mod once;

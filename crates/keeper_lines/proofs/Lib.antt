@@ -1,0 +1,5 @@
+pub mod NumberLaws
+pub mod Cases
+pub mod FieldLaws
+pub mod DigitLaws
+pub mod RowLaws

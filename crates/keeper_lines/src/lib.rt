@@ -1,0 +1,4 @@
+mod field;
+pub mod lines;
+pub mod numerals;
+pub mod rows;

@@ -1,0 +1,4 @@
+pub mod FitLaws
+pub mod KeptLaws
+pub mod LineLaws
+pub mod TextLaws

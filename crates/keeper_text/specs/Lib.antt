@@ -1,0 +1,4 @@
+pub mod Keeping
+pub mod Kept
+pub mod Printed
+pub mod Progress

@@ -1,0 +1,2 @@
+pub mod keeping;
+pub mod printing;

@@ -1,3 +1,0 @@
-pub mod FitLaws
-pub mod KeptLaws
-pub mod LineLaws

@@ -1,2 +1,0 @@
-pub mod FieldLaws
-pub mod Cases

@@ -1,0 +1,13 @@
+pub mod AnswerLaws
+pub mod EachLaws
+pub mod KeyLaws
+pub mod MarkedLaws
+pub mod OneLaws
+pub mod RecordLaws
+pub mod ChoiceLaws
+pub mod EndLaws
+pub mod EnterLaws
+pub mod MergeLaws
+pub mod TurnLaws
+pub mod ManyLaws
+pub mod SortedLaws

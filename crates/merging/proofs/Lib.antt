@@ -1,4 +1,0 @@
-pub mod EnterLaws
-pub mod TurnLaws
-pub mod MergeLaws
-pub mod EndLaws

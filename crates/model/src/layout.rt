@@ -1,0 +1,30 @@
+// The widths and sizes of docs/LAYOUT.md, under the names of specs/Layout.antt.
+
+pub const ID_SIZE: usize = 32;
+
+pub const PEER_SIZE: usize = 8;
+
+pub const PAIR_SIZE: usize = 33;
+
+pub const RECORD_SIZE: usize = 54;
+
+pub const PLACE_SIZE: usize = 34;
+
+pub const ROW_SIZE: usize = 103;
+
+pub const AREA_SIZE: usize = 65536;
+
+pub const STALLED_AT: usize = 512;
+
+pub const REGION_AT: usize = 2560;
+
+pub const CHUNK_SIZE: usize = 12800;
+
+pub const ID_LIST_SIZE: usize = 32768;
+
+pub const PAIR_LIST_SIZE: usize = 33792;
+
+pub const WINDOW_PAIRS_SIZE: usize = 19008;
+
+// Most requests pending and ids evicted.
+pub const TRACKED_LIMIT: usize = 1024;

@@ -1,0 +1,107 @@
+-- Ids gathered from the entries at some places: how long they are, and the loop that writes them.
+use Prim.Native.Nat.{ℕ, _+_, _-_, _*_, _≤_, _<_}
+use mathlib.Core.Path.{_≡_, refl, sym, ap, _∙_}
+use mathlib.Core.List.{List, [], _∷_, _++_}
+use native.Mathlib.Omega.{arith}
+use lib.ListN.{length, take, drop, getD, length-drop, length-map, drop-of-length-le}
+use lib.Seq.{take-add, drop-drop}
+use Rattle.fields.specs.Facts.{All, Bytes}
+use Rattle.fields.specs.Number.{fromBe, toBe}
+use Rattle.fields.specs.Entries.{entry, joined}
+use Rattle.fields.specs.Overwrite.{overwritten}
+use Rattle.fields.proofs.OverwriteLaws.{length-overwritten, overwritten-next, overwritten-nil, overwritten-all, front-read-back}
+use Rattle.fields.proofs.EntriesLaws.{Wide, length-joined, entry-field}
+use Rattle.fields.proofs.PartLaws.{length-part, toBe-part}
+use Rattle.fields.proofs.AllLaws.{all-at, all-drop}
+use Rattle.order.proofs.MappedLaws.{next-mapped}
+use Rattle.order.specs.Gathered.{gathered}
+
+-- ---- an id, copied by words
+
+module _ (table ids : List ℕ) (from to : ℕ) (bytes : Bytes table) (within : from + 32 ≤ length table) (room : to + 32 ≤ length ids) where
+  -- the first m bytes are copied, then the next word
+  word-next : (m word : ℕ) (t u : List ℕ) → m + 8 ≤ 32 → word ≡ fromBe (take 8 (drop (from + m) table)) → t ≡ overwritten to (take m (drop from table)) ids
+      → u ≡ overwritten (to + m) (toBe 8 word) t → u ≡ overwritten to (take (m + 8) (drop from table)) ids
+  word-next m word t u h w e f =
+      let la : length (take m (drop from table)) ≡ m = length-part from m table (omega arith) in
+      let lb : length (take 8 (drop (from + m) table)) ≡ 8 = length-part (from + m) 8 table (omega arith) in
+      let n : overwritten (to + m) (take 8 (drop (from + m) table)) (overwritten to (take m (drop from table)) ids)
+      ≡ overwritten to (take m (drop from table) ++ take 8 (drop (from + m) table)) ids = rw la at (overwritten-next to (take m (drop from table)) (take 8 (drop (from + m) table)) ids (omega arith)) in
+      let p : take m (drop from table) ++ take 8 (drop (from + m) table) ≡ take (m + 8) (drop from table) = rw (take-add m 8 (drop from table), drop-drop) in
+      f ∙ rw (e, w, toBe-part (from + m) 8 table (omega arith) bytes, ← p) n
+
+  pub id-copied : (a b c d : ℕ) (t₁ t₂ t₃ t₄ : List ℕ)
+      → a ≡ fromBe (take 8 (drop from table)) → b ≡ fromBe (take 8 (drop (from + 8) table)) → c ≡ fromBe (take 8 (drop (from + 16) table)) → d ≡ fromBe (take 8 (drop (from + 24) table))
+      → t₁ ≡ overwritten to (toBe 8 a) ids → t₂ ≡ overwritten (to + 8) (toBe 8 b) t₁ → t₃ ≡ overwritten (to + 16) (toBe 8 c) t₂ → t₄ ≡ overwritten (to + 24) (toBe 8 d) t₃
+      → t₄ ≡ overwritten to (take 32 (drop from table)) ids
+  id-copied a b c d t₁ t₂ t₃ t₄ ra rb rc rd e₁ e₂ e₃ e₄ =
+      let m₁ : t₁ ≡ overwritten to (take 8 (drop from table)) ids = e₁ ∙ rw (ra, toBe-part from 8 table (omega arith) bytes) in
+      let m₂ : t₂ ≡ overwritten to (take 16 (drop from table)) ids = word-next 8 b t₁ t₂ (omega arith) rb m₁ e₂ in
+      let m₃ : t₃ ≡ overwritten to (take 24 (drop from table)) ids = word-next 16 c t₂ t₃ (omega arith) rc m₂ e₃ in
+      word-next 24 d t₃ t₄ (omega arith) rd m₃ e₄
+
+-- ---- ids, one after another
+
+module _ (width offset : ℕ) (table : List ℕ) where
+  -- an entry stands at the place
+  abbrev Within : ℕ → Type 0
+  Within place = place * width + width ≤ length table
+
+  module _ (fits : offset + 32 ≤ width) where
+    -- where the id at a place ends, by the place as the code has it
+    pub id-ends : (places : List ℕ) (i p : ℕ) → All Within places → i < length places → p ≡ getD places i 0 → p * width + offset + 32 ≤ length table
+    id-ends places i p w h e = rw e (omega (arith, all-at Within places i 0 h w, fits))
+
+    id-long : (place : ℕ) → Within place → length (take 32 (drop offset (entry width place table))) ≡ 32
+    id-long place h = ap length (entry-field width place offset 32 table fits) ∙ length-part (place * width + offset) 32 table (omega (arith, h, fits))
+
+    pub gathered-wide : (places : List ℕ) → All Within places → Wide 32 (gathered width offset table places)
+    gathered-wide [] w = tt
+    gathered-wide (place ∷ places) w = (id-long place (w .0), gathered-wide places (w .1))
+
+    pub length-gathered : (places : List ℕ) → All Within places → length (joined (gathered width offset table places)) ≡ length places * 32
+    length-gathered places w =
+        length-joined 32 (gathered width offset table places) (gathered-wide places w) ∙ rw (length-map places (λ (place : ℕ). take 32 (drop offset (entry width place table))))
+
+  -- The ids from place i on are to come: what is written, then they, is the whole.
+  pub record Gathering (places d ids : List ℕ) (i : ℕ) : Type 0 where
+    pub i-le : i ≤ length places
+    pub long : length ids ≡ length d
+    pub rest : overwritten (i * 32) (joined (gathered width offset table (drop i places))) ids ≡ overwritten 0 (joined (gathered width offset table places)) d
+
+  pub gather-starts : (places d : List ℕ) → Gathering places d d 0
+  gather-starts places d = record { i-le = omega arith; long = refl; rest = refl }
+
+  module _ (fits : offset + 32 ≤ width) (places d ids : List ℕ) (i : ℕ) (g : Gathering places d ids i) (w : All Within places) (room : length places * 32 ≤ length d) where
+    pub gather-turn : i < length places → (p : ℕ) → p ≡ getD places i 0
+        → (o : List ℕ) → o ≡ overwritten (i * 32) (take 32 (drop (p * width + offset) table)) ids → Gathering places d o (i + 1)
+    gather-turn h p ep o eo =
+        let place : ℕ = getD places i 0 in
+        let x : List ℕ = take 32 (drop offset (entry width place table)) in
+        let xo : o ≡ overwritten (i * 32) x ids = eo ∙ rw (ep, ← entry-field width place offset 32 table fits) in
+        let lx : length x ≡ 32 = id-long fits place (all-at Within places i 0 h w) in
+        let T : List ℕ = joined (gathered width offset table (drop (i + 1) places)) in
+        let lT : length T ≡ length (drop (i + 1) places) * 32 = length-gathered fits (drop (i + 1) places) (all-drop Within (i + 1) places w) in
+        let ld : length (drop (i + 1) places) ≡ length places - (i + 1) = length-drop (i + 1) places in
+        let e : (i + 1) * 32 ≡ i * 32 + length x = omega arith in
+        let r : overwritten (i * 32) (x ++ T) ids ≡ overwritten 0 (joined (gathered width offset table places)) d =
+        rw (next-mapped (λ (q : ℕ). take 32 (drop offset (entry width q table))) places i h) at (g .rest) in
+        record {
+          i-le = omega arith;
+          long = rw xo (length-overwritten (i * 32) x ids (omega (arith, g .long))) ∙ g .long;
+          rest = rw (e, xo) (overwritten-next (i * 32) x T ids (omega (arith, g .long)) ∙ r);
+        }
+
+    pub gather-ends : length places ≤ i → ids ≡ overwritten 0 (joined (gathered width offset table places)) d
+    gather-ends h =
+        let z : drop i places ≡ [] = drop-of-length-le places {i = i} h in
+        let a : overwritten (i * 32) [] ids ≡ overwritten 0 (joined (gathered width offset table places)) d = rw z at (g .rest) in
+        sym (overwritten-nil (i * 32) ids) ∙ a
+
+  -- the ids are read back at the front; where the room is theirs alone, they are all of it
+  module _ (fits : offset + 32 ≤ width) (places d ids : List ℕ) (w : All Within places) (e : ids ≡ overwritten 0 (joined (gathered width offset table places)) d) where
+    pub gathered-front : take (length places * 32) ids ≡ joined (gathered width offset table places)
+    gathered-front = rw (e, ← length-gathered fits places w) (front-read-back (joined (gathered width offset table places)) d)
+
+    pub gathered-all : length d ≡ length places * 32 → ids ≡ joined (gathered width offset table places)
+    gathered-all l = e ∙ overwritten-all (joined (gathered width offset table places)) d (length-gathered fits places w ∙ sym l)

@@ -1,0 +1,83 @@
+-- The loop: ids written, then those of the places left, are the whole (`Gathering`).
+use borrow.Author.Needs.{needs}
+use native.Mathlib.Omega.{arith}
+use Prim.Native.Nat.{_+_, _-_, _*_, _≤_}
+use lib.ListN.{length}
+use Rattle.order.proofs.GatheredLaws.{Gathering, id-ends, gather-starts, gather-turn, gather-ends}
+use Rattle.order.proofs.gathering.gather.Statement.{statement}
+use Rattle.order.proofs.gathering.gather.Tie as tie
+
+abbrev Inv-loop : tie.InvT-loop
+Inv-loop table width offset places ids₀ i₀ ids i = Gathering width offset table places ids₀ ids i
+
+abbrev μ-loop : tie.MeasureT-loop
+μ-loop table width offset places ids₀ i₀ ids i = length places - i
+
+-- where the id of this turn ends
+id-end : (c : tie.After-wide Inv-loop μ-loop) → let a = c .before .before .before .before .before .before .before .args in c .wide .result * a .width + a .offset + 32 ≤ length (a .table .now)
+id-end c = let s = c .before .before .before .before .before .before .before in
+    id-ends (s .args .width) (s .args .offset) (s .args .table .now) (s .pre .1 .0) (s .args .places .now) (c .before .before .before .loop .i) (c .wide .result) (s .pre .0) (c .before .before .loop-test .taken) (c .wide .ensures)
+
+loop-holds : tie.Need-loop-holds Inv-loop μ-loop
+loop-holds c = let a = c .before .before .before .args in gather-starts (a .width) (a .offset) (a .table .now) (a .places .now) (a .ids .now)
+
+mul-wide : tie.Need-mul-wide Inv-loop μ-loop
+mul-wide c = search needs
+
+shared-slice-read-wide : tie.Need-shared-slice-read-wide Inv-loop μ-loop
+shared-slice-read-wide c = search needs
+
+wide-requires : tie.Need-wide-requires Inv-loop μ-loop
+wide-requires c κs = search needs
+
+mul-from : tie.Need-mul-from Inv-loop μ-loop
+mul-from c = omega (arith, id-end c)
+
+add-from : tie.Need-add-from Inv-loop μ-loop
+add-from c = omega (arith, id-end c)
+
+mul-put-id : tie.Need-mul-put-id Inv-loop μ-loop
+mul-put-id c = search needs
+
+put-id-requires : tie.Need-put-id-requires Inv-loop μ-loop
+put-id-requires c κs = let s = c .before .before .before .before .before .before .before .before in let l = c .before .before .before .before .loop in (omega (arith, id-end (c .before)), omega (arith, l .inv .long, c .before .before .before .loop-test .taken, s .pre .1 .1))
+
+add-i : tie.Need-add-i Inv-loop μ-loop
+add-i c = search needs
+
+loop-less : tie.Need-loop-less Inv-loop μ-loop
+loop-less c = search needs
+
+loop-again : tie.Need-loop-again Inv-loop μ-loop
+loop-again c = let s = c .before .before .before .before .before .before .before .before .before .before .before in
+    let a = s .args in
+    let l = c .before .before .before .before .before .before .before .loop in
+    let w = c .before .before .before .before .wide in
+    gather-turn (a .width) (a .offset) (a .table .now) (s .pre .1 .0) (a .places .now) (a .ids .now) (l .ids) (l .i) (l .inv) (s .pre .0) (s .pre .1 .1) (c .before .before .before .before .before .before .loop-test .taken) (w .result) (w .ensures) (c .before .before .put-id .last .1 .1 .0) (c .before .before .put-id .ensures)
+
+same-length : tie.Need-same-length Inv-loop μ-loop
+same-length c = c .before .loop .inv .long
+
+returns : tie.Need-returns Inv-loop μ-loop
+returns c = let s = c .before .before .before .before .before in let l = c .before .loop in
+    gather-ends (s .args .width) (s .args .offset) (s .args .table .now) (s .pre .1 .0) (s .args .places .now) (s .args .ids .now) (l .ids) (l .i) (l .inv) (s .pre .0) (s .pre .1 .1) (c .loop-test .left)
+
+pub gather-spec : {M : Type 1} → statement M
+gather-spec =
+    tie.close
+    (tie.spec
+    Inv-loop
+    μ-loop
+    loop-holds
+    mul-wide
+    shared-slice-read-wide
+    wide-requires
+    mul-from
+    add-from
+    mul-put-id
+    put-id-requires
+    add-i
+    loop-less
+    loop-again
+    same-length
+    returns)

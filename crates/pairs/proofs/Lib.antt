@@ -1,2 +1,0 @@
-pub mod PlacesLaws
-pub mod FrontLaws

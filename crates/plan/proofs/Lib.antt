@@ -1,0 +1,9 @@
+pub mod CallLaws
+pub mod FollowLaws
+pub mod GivenLaws
+pub mod HeadLaws
+pub mod HeightLaws
+pub mod KeptLaws
+pub mod KindLaws
+pub mod SendLaws
+pub mod SketchLaws

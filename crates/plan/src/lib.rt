@@ -1,0 +1,63 @@
+// What a step comes to, worked out by value before anything is written.
+//
+// `specs/Plans.antt` says what a plan stands for in the model. The plans that several steps share are in `continuing`,
+// `sync_infos` and `next_sections`; the crate `kinds` has a function for each kind of step.
+pub mod continuing;
+pub mod next_sections;
+pub mod sync_infos;
+
+use image::head::Head;
+use peers::Listed;
+
+// The numbers of a call.
+pub struct Call {
+    pub kind: u8,
+    pub clock: u64,
+    pub gate: u8,
+    pub height: u32,
+    pub peer: u64,
+    pub typeid: u8,
+    pub fork: u32,
+    pub parsed: u8,
+    pub hastip: u8,
+    pub tip: u32,
+}
+
+// What is taken out of pending and what is asked for, and of which peer.
+pub enum Work {
+    Nothing,
+    // rule 3, the listed ids
+    Ids(u64),
+    // rule 4
+    Sections(u64),
+    Received,
+    Evicted,
+    // a reorg, without and with a peer for rule 4
+    Purge,
+    PurgeSections(u64),
+    // the sync peer is lost, without and with a peer to ask instead
+    Lose,
+    LoseAsk(u64),
+    // a check, without and with a peer for fresh ids
+    Check,
+    CheckFresh(u64),
+}
+
+pub enum Stalling {
+    Stay,
+    Empty,
+    Join(u64),
+}
+
+// In this order: continuation ids are announced, the work is done, a sync info goes out.
+pub struct Plan {
+    pub outcome: u8,
+    // the header after the step, but for the counts of pending and evicted
+    pub head: Head,
+    pub announces: Listed,
+    pub work: Work,
+    pub says: Listed,
+    pub stalling: Stalling,
+    // every height that the rules read is in the view
+    pub seen: bool,
+}

@@ -1,0 +1,2 @@
+pub mod ProgressLaws
+pub mod TickLaws

@@ -1,0 +1,3 @@
+pub mod picking;
+pub mod progress;
+pub mod ticks;

@@ -1,9 +1,0 @@
-pub mod CallLaws
-pub mod HeadLaws
-pub mod HeightLaws
-pub mod KindLaws
-pub mod SendLaws
-pub mod SketchLaws
-pub mod KeptLaws
-pub mod FollowLaws
-pub mod GivenLaws

@@ -1,2 +1,0 @@
-pub mod RetriedLaws
-pub mod CheckLaws

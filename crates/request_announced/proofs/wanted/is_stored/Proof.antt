@@ -1,0 +1,44 @@
+-- A stored pair is a key of type and id: `pair-key`, `stored-as`.
+use borrow.Author.Needs.{needs}
+use native.Mathlib.Omega.{arith}
+use Prim.Native.Nat.{suc}
+use mathlib.Core.Path.{_≡_, ap, _∙_}
+use lib.ListN.{length}
+use Rattle.request_announced.proofs.WantedLaws.{pair-key, pairs-rise, stored-as}
+use Rattle.request_announced.proofs.wanted.is_stored.Statement.{statement}
+use Rattle.request_announced.proofs.wanted.is_stored.Tie as tie
+use Rattle.model.specs.Layout.{pairSize}
+
+array-write-key : tie.Need-array-write-key
+array-write-key c = search needs
+
+slice-aggregate-overwrite : tie.Need-slice-aggregate-overwrite
+slice-aggregate-overwrite c = search needs
+
+overwrite-requires : tie.Need-overwrite-requires
+overwrite-requires c κs = search needs
+
+slice-aggregate-has-key : tie.Need-slice-aggregate-has-key
+slice-aggregate-has-key c = search needs
+
+has-key-requires : tie.Need-has-key-requires
+has-key-requires c κs = let s = c .before .before .before .before .before .before in
+    let e = pair-key (s .args .typeid) (s .args .id .now) (c .before .before .overwrite .last .0) (s .pre .0) (c .before .before .overwrite .ensures) in
+    let l : length (c .before .before .overwrite .last .0) ≡ pairSize = ap length e ∙ ap suc (s .pre .0) in
+    ((omega arith, (omega arith, omega arith)), rw l (pairs-rise (s .args .stored .now) (s .pre .1)))
+
+returns : tie.Need-returns
+returns c = let s = c .before .before .before .before .before .before .before in
+    let e = pair-key (s .args .typeid) (s .args .id .now) (c .before .before .before .overwrite .last .0) (s .pre .0) (c .before .before .before .overwrite .ensures) in
+    c .has-key .ensures ∙ stored-as (s .args .stored .now) (s .pre .1) (s .args .typeid) (s .args .id .now) (c .before .before .before .overwrite .last .0) (s .pre .0) e
+
+pub is-stored-spec : {M : Type 1} → statement M
+is-stored-spec =
+    tie.close
+    (tie.spec
+    array-write-key
+    slice-aggregate-overwrite
+    overwrite-requires
+    slice-aggregate-has-key
+    has-key-requires
+    returns)

@@ -1,0 +1,3 @@
+pub mod Requested
+pub mod Pairs
+pub mod ByType

@@ -1,4 +1,0 @@
-pub mod WriteLaws
-pub mod RunLaws
-pub mod RecordedLaws
-pub mod HoldingLaws

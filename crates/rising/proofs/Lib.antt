@@ -1,2 +1,0 @@
-pub mod DistinctLaws
-pub mod PlaceLaws

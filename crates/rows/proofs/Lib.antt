@@ -1,2 +1,0 @@
-pub mod DigitLaws
-pub mod RowLaws

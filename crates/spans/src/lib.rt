@@ -1,0 +1,2 @@
+pub mod copying;
+pub mod moving;

@@ -1,0 +1,10 @@
+pub mod PlacesLaws
+pub mod FinishedLaws
+pub mod SaidLaws
+pub mod AreaLaws
+pub mod CarriedLaws
+pub mod DirectLaws
+pub mod EndLaws
+pub mod FillingLaws
+pub mod StepLaws
+pub mod WorkLaws

@@ -1,0 +1,4 @@
+pub mod Filling
+pub mod Stalling
+pub mod Answers
+pub mod Finished

@@ -1,2 +1,0 @@
-pub mod RegionLaws
-pub mod WorkedLaws

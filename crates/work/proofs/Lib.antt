@@ -1,0 +1,5 @@
+pub mod RegionLaws
+pub mod WorkedLaws
+pub mod RemovalLaws
+pub mod CheckLaws
+pub mod RetriedLaws

@@ -1,0 +1,11 @@
+pub mod AskedLaws
+pub mod PairLaws
+pub mod IdsLaws
+pub mod LostLaws
+pub mod OrphanLaws
+pub mod FreshLaws
+pub mod PlainLaws
+pub mod SectionsLaws
+pub mod WindowLaws
+pub mod WorkLaws
+pub mod SentLaws

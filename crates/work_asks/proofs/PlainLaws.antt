@@ -1,0 +1,55 @@
+-- A check that asks for fresh ids, where no id is evicted: a plain check.
+use Prim.Native.Nat.{ℕ}
+use mathlib.Core.Path.{_≡_, refl, ap, _∙_}
+use mathlib.Core.Bool.{Bool, true, false}
+use mathlib.Core.List.{List, [], _∷_, _++_}
+use lib.ListN.{length}
+use lib.Dec.{eqb}
+use Rattle.model.specs.Protocol.{Id, headerType}
+use Rattle.model.specs.Delivery.{Request, retried, abandoned, forgotten, checkTimeouts}
+use Rattle.model.specs.State.{State}
+use Rattle.model.specs.Requests.{Pair, Done, ask, wanted, performAll}
+use Rattle.model.specs.Check.{markAllRetried, retrySendings}
+use Rattle.model.specs.Lists.{pairsIn}
+use Rattle.model.specs.Calls as calls
+use Rattle.image.specs.declared.head.Head.{Head}
+use Rattle.delivery.specs.Region.{evictedIn}
+use Rattle.plan.specs.declared.Call.{Call}
+use Rattle.plan.specs.declared.Work.the-variants.{Check, CheckFresh}
+use Rattle.plan.specs.Plans.{retriedBy}
+use Rattle.work.specs.Worked.{Given, Worked, actedBy, countBy, workedBy}
+
+-- a list of no ids marks nothing and sends nothing
+asked-nothing : (gate : Bool) (clock typeId peer : ℕ) (pairs : List Pair) (pending : List Request) → performAll gate clock (ask typeId peer pairs [] ∷ []) pending ≡ performAll gate clock [] pending
+unfolding wanted
+asked-nothing true clock typeId peer pairs pending = refl
+asked-nothing false clock typeId peer pairs pending = refl
+
+-- the check's work, by what its acts come to
+abbrev checkedThen : State → calls.Call → Done → Worked
+checkedThen st c done =
+    record {
+      pending = done .pending;
+      evicted = [];
+      sendings = retrySendings (retriedBy st c Check) ++ done .sendings;
+      retried = countBy st c Check retried;
+      fresh = length (st .sync .evicted);
+      abandoned = countBy st c Check abandoned;
+      forgotten = countBy st c Check forgotten;
+    }
+
+none-evicted-plain : (st : State) (c : calls.Call) (downloaded peer : ℕ) → st .sync .evicted ≡ [] → workedBy st c downloaded (CheckFresh peer) ≡ workedBy st c downloaded Check
+unfolding workedBy actedBy countBy retriedBy
+none-evicted-plain st c downloaded peer e =
+    let gate : Bool = eqb (c .gate) 1 in
+    let pairs : List Pair = pairsIn (c .stored) in
+    let left : List Request = markAllRetried (retriedBy st c Check) (checkTimeouts (st .settings) (c .clock) (st .pending)) in
+    ap (λ (ids : List Id). checkedThen st c (performAll gate (c .clock) (ask headerType peer pairs ids ∷ []) left)) e
+    ∙ ap (checkedThen st c) (asked-nothing gate (c .clock) headerType peer pairs left)
+
+none-evicted : (evicted : ℕ) (region : List ℕ) → evicted ≡ 0 → evictedIn evicted region ≡ []
+none-evicted evicted region e = rw e
+
+pub given-plain : (head : Head) (call : Call) (region ids stored peers view : List ℕ) (st : State) (c : calls.Call) → Given head region call ids stored peers view st c → head .evicted ≡ 0
+    → (downloaded peer : ℕ) → workedBy st c downloaded (CheckFresh peer) ≡ workedBy st c downloaded Check
+given-plain head call region ids stored peers view st c g e downloaded peer = none-evicted-plain st c downloaded peer (g .evicted ∙ none-evicted (head .evicted) region e)

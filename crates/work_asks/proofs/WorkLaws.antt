@@ -1,0 +1,13 @@
+-- A work that is one of the works.
+use Prim.Native.Nat.{ℕ}
+use mathlib.Core.Path.{_≡_}
+use mathlib.Core.List.{List}
+use Rattle.model.specs.State.{State}
+use Rattle.model.specs.Calls as calls
+use Rattle.plan.specs.declared.Work.{Work}
+use Rattle.work.specs.declared.Performed.{Performed}
+use Rattle.work.specs.Worked.{workedBy, Performs}
+
+pub as-work : (st : State) (c : calls.Call) (downloaded : ℕ) {at batch : ℕ} {out : List ℕ} {r : Performed} {after out′ : List ℕ} {work one : Work} → work ≡ one
+    → Performs at batch (workedBy st c downloaded one) out r after out′ → Performs at batch (workedBy st c downloaded work) out r after out′
+as-work st c downloaded e p = rw e p
