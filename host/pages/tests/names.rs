@@ -39,12 +39,12 @@ fn what_the_pages_name_is_there() {
 fn a_name_that_nothing_has_is_noticed() {
     let root = root();
     let tree = Tree::read(&root).expect("crates can be read");
-    let text = "`steps::run` `steps::walk` `Calls.step` `Calls.stride`\n\
-        edits `steps/nine-at-every-step`, `always-continue`, `never-continue`\n\
+    let text = "`step::run` `step::walk` `Calls.step` `Calls.stride`\n\
+        edits `step/nine-at-every-step`, `always-continue`, `never-continue`\n\
         [here](docs/LAYOUT.md) [nowhere](docs/NOWHERE.md)";
     let missing = tree.missing(&root, text);
     let expected = [
-        (1, "steps::walk"),
+        (1, "step::walk"),
         (1, "Calls.stride"),
         (2, "never-continue"),
         (3, "docs/NOWHERE.md"),
@@ -64,7 +64,7 @@ fn every_edit_fits_its_crate() {
 
 #[test]
 fn an_edit_that_does_not_fit_is_noticed() {
-    let folder = root().join("crates/steps");
+    let folder = root().join("crates/step");
     let cases = [
         (
             "file: src/lib.rt\nold: pub fn run(\nnew: pub fn walk(",
