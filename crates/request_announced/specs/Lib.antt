@@ -1,3 +1,4 @@
 pub mod Requested
 pub mod Pairs
 pub mod ByType
+pub mod Run

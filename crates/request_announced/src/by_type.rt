@@ -4,14 +4,14 @@ ghost use mathlib.Core.Bool.{true};
 ghost use Prim.Native.Nat.{_+_, _*_, _/_, _%_, _≤_, _<_};
 ghost use lib.ListN.{length};
 ghost use lib.Dec.{leb};
-ghost use Rattle.fields.specs.Entries.{entries, rising, joined};
+ghost use Rattle.fields.specs.Entries.{entries, rising};
 ghost use Rattle.fields.specs.Overwrite.{overwritten};
 ghost use Rattle.model.specs.Lists.{pairsIn, pairsFit, entriesOf};
 ghost use Rattle.commands.specs.Pending.{requestsIn, holding};
 ghost use Rattle.commands.specs.Sent.{sentBytes};
 ghost use Rattle.request_announced.specs.Requested.{requestedAs};
-ghost use Rattle.request_announced.specs.Pairs.{placesByType, idsAt};
 ghost use Rattle.request_announced.specs.ByType.{performedByType};
+ghost use Rattle.request_announced.specs.Run.{run, Ready, Asked};
 ghost use Rattle.model.specs.Layout.{commandSize, idSize, pairListSize, pairSize, recordSize};
 ghost use Rattle.model.specs.Protocol.{trackedLimit};
 use crate::request::Requested;
@@ -38,14 +38,8 @@ fn ask_each(
     at: usize,
     batch: u16,
 ) -> Requested
-    requires { ⌜ (length (now pairs) % pairSize ≡ 0) × ((length (now pairs) ≤ pairListSize) × ((count ≤ most) × ((most ≤ trackedLimit) × (most * recordSize ≤ length (now table))))) ⌝ }
-    requires { ⌜ rising idSize (entries recordSize count (now table)) ≡ true ⌝ }
-    requires { ⌜ pairsFit (now stored) ≡ true ⌝ }
-    requires { ⌜ (at + length (now pairs) / pairSize * commandSize ≤ length (now out)) × (batch + length (now pairs) / pairSize + 1 < 65536) ⌝ }
-    requires { ⌜ (now places ≡ placesByType (now pairs)) × ((now ids ≡ joined (idsAt (now pairs) (now places))) × (length (now ids) ≤ length (now rest))) ⌝ }
-    ensures { λ r. ⌜ r ≡ requestedAs most at batch (performedByType gate clock peer (pairsIn (now (stored .entry))) (entriesOf pairSize (now (pairs .entry))) (requestsIn count (now (table .entry)))) ⌝ }
-    ensures { λ _. ⌜ (leb (length (performedByType gate clock peer (pairsIn (now (stored .entry))) (entriesOf pairSize (now (pairs .entry))) (requestsIn count (now (table .entry))) .pending)) most ≡ true → now (table .exit) ≡ holding count (performedByType gate clock peer (pairsIn (now (stored .entry))) (entriesOf pairSize (now (pairs .entry))) (requestsIn count (now (table .entry))) .pending) (now (table .entry))) ⌝ }
-    ensures { λ _. ⌜ (leb (length (performedByType gate clock peer (pairsIn (now (stored .entry))) (entriesOf pairSize (now (pairs .entry))) (requestsIn count (now (table .entry))) .pending)) most ≡ true → now (out .exit) ≡ overwritten at (sentBytes batch (performedByType gate clock peer (pairsIn (now (stored .entry))) (entriesOf pairSize (now (pairs .entry))) (requestsIn count (now (table .entry))) .sendings)) (now (out .entry))) ⌝ }
+    requires { ⌜ Ready (run (now table) count most gate clock peer (now stored) (now pairs) (now places) (now ids) (now rest) (now out) at batch) ⌝ }
+    ensures { λ r. ⌜ Asked (run (now (table .entry)) count most gate clock peer (now (stored .entry)) (now (pairs .entry)) (now (places .entry)) (now (ids .entry)) (now (rest .entry)) (now (out .entry)) at batch) r (now (table .exit)) (now (out .exit)) ⌝ }
 {
     let mut done = Written { count, at, batch };
     let mut i = 0;

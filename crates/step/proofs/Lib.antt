@@ -6,5 +6,6 @@ pub mod CarriedLaws
 pub mod DirectLaws
 pub mod EndLaws
 pub mod FillingLaws
+pub mod PlannedLaws
 pub mod StepLaws
 pub mod WorkLaws

@@ -2,3 +2,4 @@ pub mod Filling
 pub mod Stalling
 pub mod Answers
 pub mod Finished
+pub mod Planned

@@ -1,14 +1,9 @@
 // A step that may still be refused as 10, on copies: the areas are written only where it finished.
 ghost use mathlib.Core.Path.{_≡_};
-ghost use mathlib.Core.Bool.{true};
 ghost use Prim.Native.Nat.{_≤_};
 ghost use lib.ListN.{length};
-ghost use Rattle.model.specs.Image.{decode};
-ghost use Rattle.model.specs.Calls as calls;
-ghost use Rattle.image.specs.Heads.{headIn};
-ghost use Rattle.plan.specs.Plans.{callOf, Follows};
-ghost use Rattle.refusals.specs.Refusals.{givenRefusal};
 ghost use Rattle.step.specs.Answers.{answerOf};
+ghost use Rattle.step.specs.Planned.{lists, Planned, StepsTo};
 ghost use Rattle.model.specs.Layout.{areaSize};
 use crate::finish::Answer;
 use image::head::Head;
@@ -38,11 +33,9 @@ fn work_in(
     peers: &[u8],
     view: &[u8],
 ) -> Answer
-    requires { ⌜ givenRefusal (now state) (length (now commands)) (callOf call (now ids) (now continuation) (now stored) (now peers) (now view)) ≡ 0 ⌝ }
-    requires { ⌜ (now image ≡ now state) × ((areaSize ≤ length (now out)) × (head ≡ headIn (now state))) ⌝ }
-    requires { ⌜ Follows (decode (now state)) (callOf call (now ids) (now continuation) (now stored) (now peers) (now view)) plan ⌝ }
-    requires { ⌜ plan .seen ≡ true ⌝ }
-    ensures { λ r. ⌜ record { answer = answerOf r; state = now (state .exit); commands = now (commands .exit) } ≡ calls.step (now (state .entry)) (now (commands .entry)) (callOf call (now (ids .entry)) (now (continuation .entry)) (now (stored .entry)) (now (peers .entry)) (now (view .entry))) ⌝ }
+    requires { ⌜ Planned (now state) (now commands) head plan call (lists (now ids) (now continuation) (now stored) (now peers) (now view)) ⌝ }
+    requires { ⌜ (now image ≡ now state) × (areaSize ≤ length (now out)) ⌝ }
+    ensures { λ r. ⌜ StepsTo (now (state .entry)) (now (commands .entry)) call (lists (now (ids .entry)) (now (continuation .entry)) (now (stored .entry)) (now (peers .entry)) (now (view .entry))) (answerOf r) (now (state .exit)) (now (commands .exit)) ⌝ }
 {
     let Performed::Done(counts) = work_asks::carry::carry_out(
         &mut image[2560..],
@@ -87,11 +80,8 @@ pub fn work_out(
     peers: &[u8],
     view: &[u8],
 ) -> Answer
-    requires { ⌜ givenRefusal (now state) (length (now commands)) (callOf call (now ids) (now continuation) (now stored) (now peers) (now view)) ≡ 0 ⌝ }
-    requires { ⌜ head ≡ headIn (now state) ⌝ }
-    requires { ⌜ Follows (decode (now state)) (callOf call (now ids) (now continuation) (now stored) (now peers) (now view)) plan ⌝ }
-    requires { ⌜ plan .seen ≡ true ⌝ }
-    ensures { λ r. ⌜ record { answer = answerOf r; state = now (state .exit); commands = now (commands .exit) } ≡ calls.step (now (state .entry)) (now (commands .entry)) (callOf call (now (ids .entry)) (now (continuation .entry)) (now (stored .entry)) (now (peers .entry)) (now (view .entry))) ⌝ }
+    requires { ⌜ Planned (now state) (now commands) head plan call (lists (now ids) (now continuation) (now stored) (now peers) (now view)) ⌝ }
+    ensures { λ r. ⌜ StepsTo (now (state .entry)) (now (commands .entry)) call (lists (now (ids .entry)) (now (continuation .entry)) (now (stored .entry)) (now (peers .entry)) (now (view .entry))) (answerOf r) (now (state .exit)) (now (commands .exit)) ⌝ }
 {
     let mut image = spans::copying::scratch(state);
     let mut out = room();

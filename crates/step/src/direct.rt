@@ -1,15 +1,11 @@
 // A step that can't be refused as 10, on the areas themselves.
 ghost use mathlib.Core.Path.{_≡_};
-ghost use mathlib.Core.Bool.{true, false};
+ghost use mathlib.Core.Bool.{false};
 ghost use Prim.Native.Nat.{_+_, _/_};
 ghost use lib.ListN.{length};
-ghost use Rattle.model.specs.Image.{decode};
-ghost use Rattle.model.specs.Calls as calls;
-ghost use Rattle.image.specs.Heads.{headIn};
-ghost use Rattle.plan.specs.Plans.{callOf, Follows};
-ghost use Rattle.refusals.specs.Refusals.{givenRefusal};
 ghost use Rattle.step.specs.Answers.{answerOf};
 ghost use Rattle.step.specs.Filling.{mayOverfill};
+ghost use Rattle.step.specs.Planned.{lists, Planned, StepsTo};
 ghost use Rattle.model.specs.Layout.{idSize};
 use crate::finish::Answer;
 use image::head::Head;
@@ -30,11 +26,9 @@ pub fn step_directly(
     peers: &[u8],
     view: &[u8],
 ) -> Answer
-    requires { ⌜ givenRefusal (now state) (length (now commands)) (callOf call (now ids) (now continuation) (now stored) (now peers) (now view)) ≡ 0 ⌝ }
-    requires { ⌜ head ≡ headIn (now state) ⌝ }
-    requires { ⌜ Follows (decode (now state)) (callOf call (now ids) (now continuation) (now stored) (now peers) (now view)) plan ⌝ }
-    requires { ⌜ (plan .seen ≡ true) × (mayOverfill (head .pending + head .evicted) (length (now ids) / idSize) (plan .work) ≡ false) ⌝ }
-    ensures { λ r. ⌜ record { answer = answerOf r; state = now (state .exit); commands = now (commands .exit) } ≡ calls.step (now (state .entry)) (now (commands .entry)) (callOf call (now (ids .entry)) (now (continuation .entry)) (now (stored .entry)) (now (peers .entry)) (now (view .entry))) ⌝ }
+    requires { ⌜ Planned (now state) (now commands) head plan call (lists (now ids) (now continuation) (now stored) (now peers) (now view)) ⌝ }
+    requires { ⌜ mayOverfill (head .pending + head .evicted) (length (now ids) / idSize) (plan .work) ≡ false ⌝ }
+    ensures { λ r. ⌜ StepsTo (now (state .entry)) (now (commands .entry)) call (lists (now (ids .entry)) (now (continuation .entry)) (now (stored .entry)) (now (peers .entry)) (now (view .entry))) (answerOf r) (now (state .exit)) (now (commands .exit)) ⌝ }
 {
     let after = plan.head;
     if 256 < after.stalled {

@@ -1,18 +1,79 @@
 -- The plan follows the model's: `plan-follows`; 9 by `unseen`.
 use borrow.Author.Tests.{not-true, not-false}
+use Rattle.model.specs.Image.{decode}
 use Rattle.model.specs.Calls as calls
-use Rattle.plan.specs.Plans.{callOf}
+use Rattle.plan.specs.declared.Plan.{Plan}
+use Rattle.plan.specs.Plans.{callOf, Follows}
+use Rattle.step.specs.Planned.{lists, Planned}
 use Rattle.step.proofs.StepLaws.{unseen}
 use Rattle.step.proofs.WorkLaws.{area-long, lists-whole, work-tracked, plan-ready, plan-follows}
 use borrow.Author.Needs.{needs}
 use native.Mathlib.Omega.{arith}
-use Prim.Native.Nat.{_-_}
-use mathlib.Core.Path.{refl, sym, ap, _∙_}
+use Prim.Native.Nat.{ℕ, _+_, _≤_}
+use mathlib.Core.Path.{_≡_, refl, sym, ap, _∙_}
+use mathlib.Core.Bool.{true}
+use mathlib.Core.List.{List}
+use lib.ListN.{length}
 use Rattle.step.proofs.run.Statement.{statement}
 use Rattle.step.proofs.run.Tie as tie
+use Rattle.model.specs.Layout.{areaSize, idListSize}
+use Rattle.model.specs.Protocol.{trackedLimit}
+
+-- ---- the entry
+
+module _ (s : tie.Start) where
+  abbrev area : List ℕ
+  area = s .args .state .now
+
+  abbrev commands : List ℕ
+  commands = s .args .commands .now
+
+  abbrev call : calls.Call
+  call = callOf (s .args .call) (s .args .ids .now) (s .args .continuation .now) (s .args .stored .now) (s .args .peers .now) (s .args .view .now)
+
+  long : length area ≡ areaSize
+  long = area-long (s .args .call) (s .args .ids .now) (s .args .continuation .now) (s .args .stored .now) (s .args .peers .now) (s .args .view .now) area commands (s .pre)
+
+  ids-few : length (s .args .ids .now) ≤ idListSize
+  ids-few = lists-whole (s .args .call) (s .args .ids .now) (s .args .continuation .now) (s .args .stored .now) (s .args .peers .now) (s .args .view .now) area commands (s .pre) .1 .0
+
+-- ---- the header read
+
+module _ (c : tie.After-read-head) where
+  abbrev start : tie.Start
+  start = search
+
+  held-few : c .read-head .result .pending + c .read-head .result .evicted ≤ trackedLimit
+  held-few =
+      let state : tie.After-slice-known = search in
+      let a = start .args in
+      work-tracked (a .call) (a .ids .now) (a .continuation .now) (a .stored .now) (a .peers .now) (a .view .now) (area start) (commands start) (start .pre)
+      (λ i. omega (arith, state .slice-known .given i)) (area start) (c .read-head .result) refl (c .read-head .ensures) .few
+
+-- ---- the step planned
+
+module _ (c : tie.After-plan-step) where
+  abbrev header : tie.After-read-head
+  header = search
+
+  abbrev plan : Plan
+  plan = c .plan-step .result
+
+  follows : Follows (decode (area (start header))) (call (start header)) plan
+  follows =
+      let a = start header .args in
+      plan-follows (a .call) (a .ids .now) (a .continuation .now) (a .stored .now) (a .peers .now) (a .view .now) (a .state .now) (a .commands .now) (start header .pre)
+      (header .read-head .result) (header .read-head .ensures) plan (c .plan-step .ensures)
+
+  planned : plan .seen ≡ true
+      → Planned (area (start header)) (commands (start header)) (header .read-head .result) plan (start header .args .call)
+      (lists (start header .args .ids .now) (start header .args .continuation .now) (start header .args .stored .now) (start header .args .peers .now) (start header .args .view .now))
+  planned seen = record { given = start header .pre; read = header .read-head .ensures; follows = follows; seen = seen }
+
+-- ---- the needs
 
 read-head-requires : tie.Need-read-head-requires
-read-head-requires c κs = let s = c .before .before .before .before .before .before .before .before in let a = s .args in omega (arith, area-long (a .call) (a .ids .now) (a .continuation .now) (a .stored .now) (a .peers .now) (a .view .now) (a .state .now) (a .commands .now) (s .pre))
+read-head-requires c κs = let s : tie.Start = search in omega (arith, long s)
 
 sub-plan-step : tie.Need-sub-plan-step
 sub-plan-step c = search needs
@@ -21,10 +82,14 @@ part-plan-step-start : tie.Need-part-plan-step-start
 part-plan-step-start c = search needs
 
 part-plan-step-end : tie.Need-part-plan-step-end
-part-plan-step-end c = let s = c .before .before .before .before .before .before .before .before .before .before in let a = s .args in omega (arith, area-long (a .call) (a .ids .now) (a .continuation .now) (a .stored .now) (a .peers .now) (a .view .now) (a .state .now) (a .commands .now) (s .pre))
+part-plan-step-end c = let s : tie.Start = search in omega (arith, long s)
 
 plan-step-requires : tie.Need-plan-step-requires
-plan-step-requires c κs = let s = c .before .before .before .before .before .before .before .before .before .before .before in let a = s .args in plan-ready (a .call) (a .ids .now) (a .continuation .now) (a .stored .now) (a .peers .now) (a .view .now) (a .state .now) (a .commands .now) (s .pre) (c .before .before .read-head .result) (c .before .before .read-head .ensures)
+plan-step-requires c κs =
+    let h : tie.After-read-head = search in
+    let s = start h in
+    let a = s .args in
+    plan-ready (a .call) (a .ids .now) (a .continuation .now) (a .stored .now) (a .peers .now) (a .view .now) (area s) (commands s) (s .pre) (h .read-head .result) (h .read-head .ensures)
 
 refused-requires : tie.Need-refused-requires
 refused-requires c κs = search needs
@@ -33,37 +98,49 @@ same-length : tie.Need-same-length
 same-length c = search needs
 
 returns : tie.Need-returns
-returns c = let s = c .before .before .before .before .before .before .before .before .before .before .before .before .before .before .before in let a = s .args in ap (λ (x : calls.Answer). record { answer = x; state = a .state .now; commands = a .commands .now }) (c .refused .ensures) ∙ unseen (a .state .now) (a .commands .now) (callOf (a .call) (a .ids .now) (a .continuation .now) (a .stored .now) (a .peers .now) (a .view .now)) (c .before .before .before .plan-step .result) (s .pre) (plan-follows (a .call) (a .ids .now) (a .continuation .now) (a .stored .now) (a .peers .now) (a .view .now) (a .state .now) (a .commands .now) (s .pre) (c .before .before .before .before .before .before .read-head .result) (c .before .before .before .before .before .before .read-head .ensures) (c .before .before .before .plan-step .result) (c .before .before .before .plan-step .ensures)) (not-true (c .before .before .before .plan-step .result .seen) (c .before .if1 .taken))
+returns c =
+    let k : tie.After-plan-step = search in
+    let s = start (header k) in
+    ap (λ (x : calls.Answer). record { answer = x; state = area s; commands = commands s }) (c .refused .ensures)
+    ∙ unseen (area s) (commands s) (call s) (plan k) (s .pre) (follows k) (not-true (plan k .seen) (c .before .if1 .taken))
 
 add-held : tie.Need-add-held
-add-held c = let s = c .before .before .before .before .before .before .before .before .before .before .before .before .before .before .before in let a = s .args in omega (arith, (work-tracked (a .call) (a .ids .now) (a .continuation .now) (a .stored .now) (a .peers .now) (a .view .now) (a .state .now) (a .commands .now) (s .pre) (λ i. omega (arith, c .before .before .before .before .before .before .before .before .before .before .before .before .before .before .slice-known .given i)) (a .state .now) (c .before .before .before .before .before .before .read-head .result) refl (c .before .before .before .before .before .before .read-head .ensures) .few))
+add-held c = let h : tie.After-read-head = search in omega (arith, held-few h)
 
 may-overfill-requires : tie.Need-may-overfill-requires
-may-overfill-requires c κs = let s = c .before .before .before .before .before .before .before .before .before .before .before .before .before .before .before in let a = s .args in ((work-tracked (a .call) (a .ids .now) (a .continuation .now) (a .stored .now) (a .peers .now) (a .view .now) (a .state .now) (a .commands .now) (s .pre) (λ i. omega (arith, c .before .before .before .before .before .before .before .before .before .before .before .before .before .before .slice-known .given i)) (a .state .now) (c .before .before .before .before .before .before .read-head .result) refl (c .before .before .before .before .before .before .read-head .ensures) .few), omega (arith, lists-whole (a .call) (a .ids .now) (a .continuation .now) (a .stored .now) (a .peers .now) (a .view .now) (a .state .now) (a .commands .now) (s .pre) .1 .0))
+may-overfill-requires c κs = let h : tie.After-read-head = search in (held-few h, omega (arith, ids-few (start h)))
 
 work-out-requires : tie.Need-work-out-requires
-work-out-requires c κs = let s = c .before .before .before .before .before .before .before .before .before .before .before .before .before .before .before .before .before .before .before in let a = s .args in (s .pre, (c .before .before .before .before .before .before .before .before .before .before .read-head .ensures, ((plan-follows (a .call) (a .ids .now) (a .continuation .now) (a .stored .now) (a .peers .now) (a .view .now) (a .state .now) (a .commands .now) (s .pre) (c .before .before .before .before .before .before .before .before .before .before .read-head .result) (c .before .before .before .before .before .before .before .before .before .before .read-head .ensures) (c .before .before .before .before .before .before .before .plan-step .result) (c .before .before .before .before .before .before .before .plan-step .ensures)), not-false (c .before .before .before .before .before .before .before .plan-step .result .seen) (c .before .before .before .before .before .if1 .left))))
+work-out-requires c κs =
+    let k : tie.After-plan-step = search in
+    let past : tie.Else1 = search in
+    planned k (not-false (plan k .seen) (past .if1 .left))
 
 same-length-2 : tie.Need-same-length-2
-same-length-2 c = c .before .before .before .before .work-out .kept .0
+same-length-2 c = search needs
 
 same-length-3 : tie.Need-same-length-3
-same-length-3 c = c .before .before .before .before .work-out .kept .1 .0
+same-length-3 c = search needs
 
 returns-2 : tie.Need-returns-2
-returns-2 c = c .before .before .before .before .work-out .ensures
+returns-2 c = search needs
 
 step-directly-requires : tie.Need-step-directly-requires
-step-directly-requires c κs = let s = c .before .before .before .before .before .before .before .before .before .before .before .before .before .before .before .before .before .before .before in let a = s .args in (s .pre, (c .before .before .before .before .before .before .before .before .before .before .read-head .ensures, ((plan-follows (a .call) (a .ids .now) (a .continuation .now) (a .stored .now) (a .peers .now) (a .view .now) (a .state .now) (a .commands .now) (s .pre) (c .before .before .before .before .before .before .before .before .before .before .read-head .result) (c .before .before .before .before .before .before .before .before .before .before .read-head .ensures) (c .before .before .before .before .before .before .before .plan-step .result) (c .before .before .before .before .before .before .before .plan-step .ensures)), (not-false (c .before .before .before .before .before .before .before .plan-step .result .seen) (c .before .before .before .before .before .if1 .left), sym (c .before .before .before .may-overfill .ensures) ∙ c .before .before .if2 .left))))
+step-directly-requires c κs =
+    let k : tie.After-plan-step = search in
+    let past : tie.Else1 = search in
+    let asked : tie.After-may-overfill = search in
+    let room : tie.Else2 = search in
+    (planned k (not-false (plan k .seen) (past .if1 .left)), sym (asked .may-overfill .ensures) ∙ room .if2 .left)
 
 same-length-4 : tie.Need-same-length-4
-same-length-4 c = c .before .before .before .before .step-directly .kept .0
+same-length-4 c = search needs
 
 same-length-5 : tie.Need-same-length-5
-same-length-5 c = c .before .before .before .before .step-directly .kept .1 .0
+same-length-5 c = search needs
 
 returns-3 : tie.Need-returns-3
-returns-3 c = c .before .before .before .before .step-directly .ensures
+returns-3 c = search needs
 
 pub run-spec : {M : Type 1} → statement M
 run-spec =

@@ -1,29 +1,70 @@
 -- The loop: the asks of the places that are left bring the table and the area to what all bring the first ones to (`Asking`).
 use borrow.Author.Needs.{needs}
 use native.Mathlib.Omega.{arith}
-use Prim.Native.Nat.{_-_}
+use Prim.Native.Nat.{ℕ, _-_}
+use mathlib.Core.List.{List}
 use lib.ListN.{length}
 use Rattle.fields.specs.Facts.{Bytes}
 use Rattle.fields.proofs.AllLaws.{all-at}
-use Rattle.model.specs.Lists.{pairsIn}
 use Rattle.request_announced.specs.Pairs.{Within}
-use Rattle.request_announced.proofs.FrontLaws.{sorted-within, sorted-long}
-use Rattle.request_announced.proofs.AskLaws.{Asking, ask-starts, ask-ends, ids-long, next-within, part-long, part-room, part-number, ask-full, ask-turn}
+use Rattle.request_announced.specs.Run.{Run, run, Ready}
+use Rattle.request_announced.proofs.AskLaws.{Asking, Turn, within, ask-starts, ask-ends, ids-long, goes-on, stays-within, places-few, request-asks, ask-full, ask-turn}
 use Rattle.request_announced.proofs.by_type.ask_each.Statement.{statement}
 use Rattle.request_announced.proofs.by_type.ask_each.Tie as tie
 
 abbrev Inv-loop : tie.InvT-loop
-Inv-loop table₀ count most gate clock peer stored pairs places ids rest₀ out₀ at batch done₀ i₀ table rest out done i = Asking gate clock peer most count at batch (pairsIn stored) pairs places table₀ out₀ rest₀ table rest out done i
+Inv-loop table₀ count most gate clock peer stored pairs places ids rest₀ out₀ at batch done₀ i₀ table rest out done i =
+    Asking (run table₀ count most gate clock peer stored pairs places ids rest₀ out₀ at batch) table rest out done i
 
 abbrev μ-loop : tie.MeasureT-loop
 μ-loop table₀ count most gate clock peer stored pairs places ids rest₀ out₀ at batch done₀ i₀ table rest out done i = length places - i
 
-loop-holds : tie.Need-loop-holds Inv-loop μ-loop
-loop-holds c = let s = c .before .before .before .before .before .before .before in
+-- ---- the places
+
+abbrev Start : Type 0
+Start = tie.Start Inv-loop μ-loop
+
+abbrev Head : Type 0
+Head = tie.At-loop Inv-loop μ-loop
+
+abbrev InTurn : Type 0
+InTurn = tie.In-loop Inv-loop μ-loop
+
+abbrev Typed : Type 0
+Typed = tie.After-type-at Inv-loop μ-loop
+
+abbrev Ended : Type 0
+Ended = tie.After-type-end Inv-loop μ-loop
+
+abbrev Requested : Type 0
+Requested = tie.After-request-announced Inv-loop μ-loop
+
+-- what the loop runs on
+abbrev runs : Start → Run
+runs s =
     let a = s .args in
-    let f : Bytes (a .table .now) = λ i. omega (arith, c .before .before .before .before .before .before .slice-known .given i) in
-    let fp : Bytes (a .pairs .now) = λ i. omega (arith, c .before .before .before .before .shared-slice-known2 .given i) in
-    ask-starts (a .gate) (a .clock) (a .peer) (a .most) (a .count) (a .at) (a .batch) (pairsIn (a .stored .now)) (a .pairs .now) (a .places .now) (a .table .now) (a .out .now) (a .rest .now) (s .pre .1 .1 .1 .1 .0) (s .pre .0 .1 .1 .1 .1) (s .pre .0 .1 .1 .0) f (s .pre .1 .0) (omega (arith, s .fits)) fp (s .pre .1 .1 .1 .0 .0) (s .pre .1 .1 .1 .0 .1)
+    run (a .table .now) (a .count) (a .most) (a .gate) (a .clock) (a .peer) (a .stored .now) (a .pairs .now) (a .places .now) (a .ids .now) (a .rest .now) (a .out .now)
+    (a .at) (a .batch)
+
+-- the places of one type, from the loop's i on
+module _ (c : Ended) where
+  abbrev start : Start
+  start = search
+
+  abbrev head : Head
+  head = search
+
+  turn : Turn (runs start) (head .loop .i) (c .before .type-at .result) (c .type-end .result)
+  turn = let t : InTurn = search in record { here = t .loop-test .taken; typed = c .before .type-at .ensures; ends = c .type-end .ensures }
+
+-- ---- the needs
+
+loop-holds : tie.Need-loop-holds Inv-loop μ-loop
+loop-holds c =
+    let s : Start = search in
+    let table : tie.After-slice-known Inv-loop μ-loop = search in
+    let pairs : tie.After-shared-slice-known2 Inv-loop μ-loop = search in
+    ask-starts (s .pre) (λ i. omega (arith, table .slice-known .given i)) (λ i. omega (arith, pairs .shared-slice-known2 .given i)) (omega (arith, s .fits))
 
 mul-type-at : tie.Need-mul-type-at Inv-loop μ-loop
 mul-type-at c = search needs
@@ -32,57 +73,42 @@ shared-slice-read-type-at : tie.Need-shared-slice-read-type-at Inv-loop μ-loop
 shared-slice-read-type-at c = search needs
 
 type-at-requires : tie.Need-type-at-requires Inv-loop μ-loop
-type-at-requires c κs = let s = c .before .before .before .before .before .before .before .before .before .before in
-    let a = s .args in
-    all-at (Within (a .pairs .now)) (a .places .now) (c .before .before .loop .i) 0 (c .before .loop-test .taken) (sorted-within (a .pairs .now) (a .places .now) (s .pre .1 .1 .1 .1 .0))
+type-at-requires c κs =
+    let s : Start = search in
+    let h : Head = search in
+    let t : InTurn = search in
+    all-at (Within (s .args .pairs .now)) (s .args .places .now) (h .loop .i) 0 (t .loop-test .taken) (within (s .pre))
 
 type-end-requires : tie.Need-type-end-requires Inv-loop μ-loop
-type-end-requires c κs = let s = c .before .before .before .before .before .before .before .before .before .before .before in
-    let a = s .args in
-    ((sorted-within (a .pairs .now) (a .places .now) (s .pre .1 .1 .1 .1 .0)), c .before .before .loop-test .taken)
+type-end-requires c κs = let s : Start = search in let t : InTurn = search in (within (s .pre), t .loop-test .taken)
 
 mul-from : tie.Need-mul-from Inv-loop μ-loop
-mul-from c = let s = c .before .before .before .before .before .before .before .before .before .before .before .before in
-    let a = s .args in
-    let l = c .before .before .before .before .loop in
-    omega (arith, next-within (a .gate) (a .clock) (a .peer) (a .most) (a .count) (a .at) (a .batch) (pairsIn (a .stored .now)) (a .pairs .now) (a .places .now) (a .table .now) (a .out .now) (a .rest .now) (s .pre .1 .1 .1 .1 .0) (s .pre .0 .1 .1 .1 .1) (l .table) (l .rest) (l .out) (l .done) (l .i) (l .inv) (a .ids .now) (s .pre .1 .1 .1 .1 .1 .0) (c .before .before .before .loop-test .taken) (c .before .type-at .result) (c .type-end .result) (c .before .type-at .ensures) (c .type-end .ensures) .0, next-within (a .gate) (a .clock) (a .peer) (a .most) (a .count) (a .at) (a .batch) (pairsIn (a .stored .now)) (a .pairs .now) (a .places .now) (a .table .now) (a .out .now) (a .rest .now) (s .pre .1 .1 .1 .1 .0) (s .pre .0 .1 .1 .1 .1) (l .table) (l .rest) (l .out) (l .done) (l .i) (l .inv) (a .ids .now) (s .pre .1 .1 .1 .1 .1 .0) (c .before .before .before .loop-test .taken) (c .before .type-at .result) (c .type-end .result) (c .before .type-at .ensures) (c .type-end .ensures) .1, sorted-long (a .pairs .now) (a .places .now) (s .pre .1 .1 .1 .1 .0), s .pre .0 .1 .0)
+mul-from c =
+    let ready = start c .pre in
+    let asking = head c .loop .inv in
+    omega (arith, goes-on ready asking (turn c), stays-within ready asking (turn c), places-few ready asking (turn c))
 
 mul-end : tie.Need-mul-end Inv-loop μ-loop
-mul-end c = let s = c .before .before .before .before .before .before .before .before .before .before .before .before in
-    let a = s .args in
-    let l = c .before .before .before .before .loop in
-    omega (arith, next-within (a .gate) (a .clock) (a .peer) (a .most) (a .count) (a .at) (a .batch) (pairsIn (a .stored .now)) (a .pairs .now) (a .places .now) (a .table .now) (a .out .now) (a .rest .now) (s .pre .1 .1 .1 .1 .0) (s .pre .0 .1 .1 .1 .1) (l .table) (l .rest) (l .out) (l .done) (l .i) (l .inv) (a .ids .now) (s .pre .1 .1 .1 .1 .1 .0) (c .before .before .before .loop-test .taken) (c .before .type-at .result) (c .type-end .result) (c .before .type-at .ensures) (c .type-end .ensures) .0, next-within (a .gate) (a .clock) (a .peer) (a .most) (a .count) (a .at) (a .batch) (pairsIn (a .stored .now)) (a .pairs .now) (a .places .now) (a .table .now) (a .out .now) (a .rest .now) (s .pre .1 .1 .1 .1 .0) (s .pre .0 .1 .1 .1 .1) (l .table) (l .rest) (l .out) (l .done) (l .i) (l .inv) (a .ids .now) (s .pre .1 .1 .1 .1 .1 .0) (c .before .before .before .loop-test .taken) (c .before .type-at .result) (c .type-end .result) (c .before .type-at .ensures) (c .type-end .ensures) .1, sorted-long (a .pairs .now) (a .places .now) (s .pre .1 .1 .1 .1 .0), s .pre .0 .1 .0)
+mul-end c =
+    let ready = start c .pre in
+    let asking = head c .loop .inv in
+    omega (arith, stays-within ready asking (turn c), places-few ready asking (turn c))
 
 sub-request-announced : tie.Need-sub-request-announced Inv-loop μ-loop
-sub-request-announced c = let s = c .before .before .before .before .before .before .before .before .before .before .before .before .before in
-    let a = s .args in
-    let l = c .before .before .before .before .before .loop in
-    omega (arith, next-within (a .gate) (a .clock) (a .peer) (a .most) (a .count) (a .at) (a .batch) (pairsIn (a .stored .now)) (a .pairs .now) (a .places .now) (a .table .now) (a .out .now) (a .rest .now) (s .pre .1 .1 .1 .1 .0) (s .pre .0 .1 .1 .1 .1) (l .table) (l .rest) (l .out) (l .done) (l .i) (l .inv) (a .ids .now) (s .pre .1 .1 .1 .1 .1 .0) (c .before .before .before .before .loop-test .taken) (c .before .before .type-at .result) (c .before .type-end .result) (c .before .before .type-at .ensures) (c .before .type-end .ensures) .0)
+sub-request-announced c = let here : Ended = search in omega (arith, goes-on (start here .pre) (head here .loop .inv) (turn here))
 
 part-request-announced-start : tie.Need-part-request-announced-start Inv-loop μ-loop
-part-request-announced-start c = let s = c .before .before .before .before .before .before .before .before .before .before .before .before .before in
-    let a = s .args in
-    let l = c .before .before .before .before .before .loop in
-    omega (arith, next-within (a .gate) (a .clock) (a .peer) (a .most) (a .count) (a .at) (a .batch) (pairsIn (a .stored .now)) (a .pairs .now) (a .places .now) (a .table .now) (a .out .now) (a .rest .now) (s .pre .1 .1 .1 .1 .0) (s .pre .0 .1 .1 .1 .1) (l .table) (l .rest) (l .out) (l .done) (l .i) (l .inv) (a .ids .now) (s .pre .1 .1 .1 .1 .1 .0) (c .before .before .before .before .loop-test .taken) (c .before .before .type-at .result) (c .before .type-end .result) (c .before .before .type-at .ensures) (c .before .type-end .ensures) .0)
+part-request-announced-start c = let here : Ended = search in omega (arith, goes-on (start here .pre) (head here .loop .inv) (turn here))
 
 part-request-announced-end : tie.Need-part-request-announced-end Inv-loop μ-loop
-part-request-announced-end c = let s = c .before .before .before .before .before .before .before .before .before .before .before .before .before in
-    let a = s .args in
-    let l = c .before .before .before .before .before .loop in
-    omega (arith, next-within (a .gate) (a .clock) (a .peer) (a .most) (a .count) (a .at) (a .batch) (pairsIn (a .stored .now)) (a .pairs .now) (a .places .now) (a .table .now) (a .out .now) (a .rest .now) (s .pre .1 .1 .1 .1 .0) (s .pre .0 .1 .1 .1 .1) (l .table) (l .rest) (l .out) (l .done) (l .i) (l .inv) (a .ids .now) (s .pre .1 .1 .1 .1 .1 .0) (c .before .before .before .before .loop-test .taken) (c .before .before .type-at .result) (c .before .type-end .result) (c .before .before .type-at .ensures) (c .before .type-end .ensures) .1, ids-long (a .gate) (a .clock) (a .peer) (a .most) (a .count) (a .at) (a .batch) (pairsIn (a .stored .now)) (a .pairs .now) (a .places .now) (a .table .now) (a .out .now) (a .rest .now) (s .pre .1 .1 .1 .1 .0) (s .pre .0 .1 .1 .1 .1) (l .table) (l .rest) (l .out) (l .done) (l .i) (l .inv) (a .ids .now) (s .pre .1 .1 .1 .1 .1 .0) (c .before .before .before .before .loop-test .taken) (c .before .before .type-at .result) (c .before .type-end .result) (c .before .before .type-at .ensures) (c .before .type-end .ensures))
+part-request-announced-end c =
+    let here : Ended = search in
+    let ready = start here .pre in
+    let asking = head here .loop .inv in
+    omega (arith, stays-within ready asking (turn here), ids-long ready asking (turn here))
 
 request-announced-requires : tie.Need-request-announced-requires Inv-loop μ-loop
-request-announced-requires c κs = let s = c .before .before .before .before .before .before .before .before .before .before .before .before .before .before .before .before in
-    let a = s .args in
-    let l = c .before .before .before .before .before .before .before .before .loop in
-    let n = next-within (a .gate) (a .clock) (a .peer) (a .most) (a .count) (a .at) (a .batch) (pairsIn (a .stored .now)) (a .pairs .now) (a .places .now) (a .table .now) (a .out .now) (a .rest .now) (s .pre .1 .1 .1 .1 .0) (s .pre .0 .1 .1 .1 .1) (l .table) (l .rest) (l .out) (l .done) (l .i) (l .inv) (a .ids .now) (s .pre .1 .1 .1 .1 .1 .0) (c .before .before .before .before .before .before .before .loop-test .taken) (c .before .before .before .before .before .type-at .result) (c .before .before .before .before .type-end .result) (c .before .before .before .before .before .type-at .ensures) (c .before .before .before .before .type-end .ensures) in
-    let p = part-long (a .gate) (a .clock) (a .peer) (a .most) (a .count) (a .at) (a .batch) (pairsIn (a .stored .now)) (a .pairs .now) (a .places .now) (a .table .now) (a .out .now) (a .rest .now) (s .pre .1 .1 .1 .1 .0) (s .pre .0 .1 .1 .1 .1) (l .table) (l .rest) (l .out) (l .done) (l .i) (l .inv) (a .ids .now) (s .pre .1 .1 .1 .1 .1 .0) (c .before .before .before .before .before .before .before .loop-test .taken) (c .before .before .before .before .before .type-at .result) (c .before .before .before .before .type-end .result) (c .before .before .before .before .before .type-at .ensures) (c .before .before .before .before .type-end .ensures) in
-    let v = ids-long (a .gate) (a .clock) (a .peer) (a .most) (a .count) (a .at) (a .batch) (pairsIn (a .stored .now)) (a .pairs .now) (a .places .now) (a .table .now) (a .out .now) (a .rest .now) (s .pre .1 .1 .1 .1 .0) (s .pre .0 .1 .1 .1 .1) (l .table) (l .rest) (l .out) (l .done) (l .i) (l .inv) (a .ids .now) (s .pre .1 .1 .1 .1 .1 .0) (c .before .before .before .before .before .before .before .loop-test .taken) (c .before .before .before .before .before .type-at .result) (c .before .before .before .before .type-end .result) (c .before .before .before .before .before .type-at .ensures) (c .before .before .before .before .type-end .ensures) in
-    let b = sorted-long (a .pairs .now) (a .places .now) (s .pre .1 .1 .1 .1 .0) in
-    let q = l .inv .acts in (
-      (rw p (omega (arith, n .0)), (rw p (omega (arith, n .1, b, s .pre .0 .1 .0)), (q .few, (s .pre .0 .1 .1 .1 .0, omega (arith, q .grown .long, s .pre .0 .1 .1 .1 .1))))),
-      (q .grown .rise, (s .pre .1 .1 .0, (rw p (omega (arith, n .1, v, l .inv .rest-long, s .pre .1 .1 .1 .1 .1 .1)), (part-room (a .gate) (a .clock) (a .peer) (a .most) (a .count) (a .at) (a .batch) (pairsIn (a .stored .now)) (a .pairs .now) (a .places .now) (a .table .now) (a .out .now) (a .rest .now) (s .pre .1 .1 .1 .1 .0) (s .pre .0 .1 .1 .1 .1) (l .table) (l .rest) (l .out) (l .done) (l .i) (l .inv) (a .ids .now) (s .pre .1 .1 .1 .1 .1 .0) (c .before .before .before .before .before .before .before .loop-test .taken) (c .before .before .before .before .before .type-at .result) (c .before .before .before .before .type-end .result) (c .before .before .before .before .before .type-at .ensures) (c .before .before .before .before .type-end .ensures), part-number (a .gate) (a .clock) (a .peer) (a .most) (a .count) (a .at) (a .batch) (pairsIn (a .stored .now)) (a .pairs .now) (a .places .now) (a .table .now) (a .out .now) (a .rest .now) (s .pre .1 .1 .1 .1 .0) (s .pre .0 .1 .1 .1 .1) (l .table) (l .rest) (l .out) (l .done) (l .i) (l .inv) (a .ids .now) (s .pre .1 .1 .1 .1 .1 .0) (c .before .before .before .before .before .before .before .loop-test .taken) (c .before .before .before .before .before .type-at .result) (c .before .before .before .before .type-end .result) (c .before .before .before .before .before .type-at .ensures) (c .before .before .before .before .type-end .ensures))))),
-    )
+request-announced-requires c κs = let here : Ended = search in request-asks (start here .pre) (head here .loop .inv) (turn here)
 
 enum-known-written : tie.Need-enum-known-written Inv-loop μ-loop
 enum-known-written c = search needs
@@ -100,40 +126,44 @@ same-length-3 : tie.Need-same-length-3 Inv-loop μ-loop
 same-length-3 c = search needs
 
 returns : tie.Need-returns Inv-loop μ-loop
-returns c = let s = c .before .before .before .before .before .before .before .before .before .before .before .before .before .before .before .before .before .before .before .before .before .before .before .before .before in
-    let a = s .args in
-    let l = c .before .before .before .before .before .before .before .before .before .before .before .before .before .before .before .before .before .loop in
-    ask-full (a .gate) (a .clock) (a .peer) (a .most) (a .count) (a .at) (a .batch) (pairsIn (a .stored .now)) (a .pairs .now) (a .places .now) (a .table .now) (a .out .now) (a .rest .now) (s .pre .1 .1 .1 .1 .0) (s .pre .0 .1 .1 .1 .1) (l .table) (l .rest) (l .out) (l .done) (l .i) (l .inv) (a .ids .now) (s .pre .1 .1 .1 .1 .1 .0) (c .before .before .before .before .before .before .before .before .before .before .before .before .before .before .before .before .loop-test .taken) (c .before .before .before .before .before .before .before .before .before .before .before .before .before .before .type-at .result) (c .before .before .before .before .before .before .before .before .before .before .before .before .before .type-end .result) (c .before .before .before .before .before .before .before .before .before .before .before .before .before .before .type-at .ensures) (c .before .before .before .before .before .before .before .before .before .before .before .before .before .type-end .ensures) (c .before .before .before .before .before .before .before .before .request-announced .result) (c .enum-told .given .1) (c .before .before .before .before .before .before .before .before .request-announced .ensures .0)
+returns c =
+    let asked : Requested = search in
+    let here : Ended = search in
+    ask-full (start here .pre) (head here .loop .inv) (turn here) (asked .request-announced .ensures) (c .enum-told .given .1)
 
 loop-less : tie.Need-loop-less Inv-loop μ-loop
-loop-less c = let s = c .before .before .before .before .before .before .before .before .before .before .before .before .before .before .before .before .before .before .before .before .before .before .before .before .before .before in
-    let a = s .args in
-    let l = c .before .before .before .before .before .before .before .before .before .before .before .before .before .before .before .before .before .before .loop in
-    let n = next-within (a .gate) (a .clock) (a .peer) (a .most) (a .count) (a .at) (a .batch) (pairsIn (a .stored .now)) (a .pairs .now) (a .places .now) (a .table .now) (a .out .now) (a .rest .now) (s .pre .1 .1 .1 .1 .0) (s .pre .0 .1 .1 .1 .1) (l .table) (l .rest) (l .out) (l .done) (l .i) (l .inv) (a .ids .now) (s .pre .1 .1 .1 .1 .1 .0) (c .before .before .before .before .before .before .before .before .before .before .before .before .before .before .before .before .before .loop-test .taken) (c .before .before .before .before .before .before .before .before .before .before .before .before .before .before .before .type-at .result) (c .before .before .before .before .before .before .before .before .before .before .before .before .before .before .type-end .result) (c .before .before .before .before .before .before .before .before .before .before .before .before .before .before .before .type-at .ensures) (c .before .before .before .before .before .before .before .before .before .before .before .before .before .before .type-end .ensures) in
-    omega (arith, n .0, n .1)
+loop-less c =
+    let asked : Requested = search in
+    let here : Ended = search in
+    let ready = start here .pre in
+    let asking = head here .loop .inv in
+    omega (arith, goes-on ready asking (turn here), stays-within ready asking (turn here))
 
 loop-again : tie.Need-loop-again Inv-loop μ-loop
-loop-again c = let s = c .before .before .before .before .before .before .before .before .before .before .before .before .before .before .before .before .before .before .before .before .before .before .before .before .before .before in
-    let a = s .args in
-    let l = c .before .before .before .before .before .before .before .before .before .before .before .before .before .before .before .before .before .before .loop in
-    let r = c .before .before .before .before .before .before .before .before .before .request-announced in
-    let f : Bytes (r .last .0) = λ i. omega (arith, c .before .before .before .before .before .before .before .slice-known4 .given i) in
-    ask-turn (a .gate) (a .clock) (a .peer) (a .most) (a .count) (a .at) (a .batch) (pairsIn (a .stored .now)) (a .pairs .now) (a .places .now) (a .table .now) (a .out .now) (a .rest .now) (s .pre .1 .1 .1 .1 .0) (s .pre .0 .1 .1 .1 .1) (l .table) (l .rest) (l .out) (l .done) (l .i) (l .inv) (a .ids .now) (s .pre .1 .1 .1 .1 .1 .0) (c .before .before .before .before .before .before .before .before .before .before .before .before .before .before .before .before .before .loop-test .taken) (c .before .before .before .before .before .before .before .before .before .before .before .before .before .before .before .type-at .result) (c .before .before .before .before .before .before .before .before .before .before .before .before .before .before .type-end .result) (c .before .before .before .before .before .before .before .before .before .before .before .before .before .before .before .type-at .ensures) (c .before .before .before .before .before .before .before .before .before .before .before .before .before .before .type-end .ensures) (omega (arith, s .fits)) (r .result) (c .before .written .given .0 .0) (r .last .0) (r .last .1 .1 .1 .1 .1 .1 .1 .1 .1 .0) (r .last .1 .1 .1 .1 .1 .1 .1 .1 .1 .1 .0) (c .before .written .given .1) (r .ensures .0) (r .ensures .1 .0) (r .ensures .1 .1) f (r .kept .1 .1 .1 .1 .1 .1 .1 .1 .1 .0)
+loop-again c =
+    let known : tie.After-slice-known4 Inv-loop μ-loop = search in
+    let asked : Requested = search in
+    let here : Ended = search in
+    let s = start here in
+    let written = c .before .written .given in
+    let kept = asked .request-announced .kept .1 .1 .1 .1 .1 .1 .1 .1 .1 .0 in
+    let bytes : Bytes (asked .request-announced .last .0) = λ i. omega (arith, known .slice-known4 .given i) in
+    ask-turn (s .pre) (head here .loop .inv) (turn here) (asked .request-announced .ensures) (written .0 .0) (written .1) (omega (arith, s .fits)) bytes kept
 
 same-length-4 : tie.Need-same-length-4 Inv-loop μ-loop
-same-length-4 c = c .before .loop .inv .acts .grown .long
+same-length-4 c = search needs
 
 same-length-5 : tie.Need-same-length-5 Inv-loop μ-loop
-same-length-5 c = c .before .loop .inv .rest-long
+same-length-5 c = search needs
 
 same-length-6 : tie.Need-same-length-6 Inv-loop μ-loop
-same-length-6 c = c .before .loop .inv .acts .out-long
+same-length-6 c = search needs
 
 returns-2 : tie.Need-returns-2 Inv-loop μ-loop
-returns-2 c = let s = c .before .before .before .before .before .before .before .before .before in
-    let a = s .args in
-    let l = c .before .loop in
-    ask-ends (a .gate) (a .clock) (a .peer) (a .most) (a .count) (a .at) (a .batch) (pairsIn (a .stored .now)) (a .pairs .now) (a .places .now) (a .table .now) (a .out .now) (a .rest .now) (s .pre .1 .1 .1 .1 .0) (s .pre .0 .1 .1 .1 .1) (l .table) (l .rest) (l .out) (l .done) (l .i) (l .inv) (c .loop-test .left)
+returns-2 c =
+    let s : Start = search in
+    let h : Head = search in
+    ask-ends (s .pre) (h .loop .inv) (c .loop-test .left)
 
 pub ask-each-spec : {M : Type 1} → statement M
 ask-each-spec =
