@@ -12,7 +12,7 @@ use Rattle.fields.specs.Sort.{inserted}
 use Rattle.model.specs.Protocol.{Id, isAmong}
 use Rattle.model.specs.Settings.{Settings}
 use Rattle.model.specs.Delivery as delivery
-use Rattle.model.specs.Delivery.{Request, Verdict, verdict, restarted, withPeer}
+use Rattle.model.specs.Delivery.{Request, Verdict, verdict, restarted}
 use Rattle.model.specs.Requests.{Command}
 use Rattle.model.specs.Lists.{idsIn}
 use Rattle.model.specs.Commands.{commandsIn}
@@ -124,11 +124,18 @@ pub record Entering : Type 0 where
 abbrev pub isOpen : Id → List Stay → Bool
 isOpen id stays = isAmong id (map (λ (s : Stay). s .request .id) stays)
 
+-- "takes the command's peer; each adds a request"
+abbrev pub requestedAgain : ℕ → Stay → Stay
+requestedAgain peer s =
+    record {
+      request = record { id = s .request .id; typeId = s .request .typeId; peer = peer; stamp = s .request .stamp; checks = s .request .checks };
+      entry = s .entry;
+      requests = suc (s .requests);
+      outlived = s .outlived;
+    }
+
 abbrev pub takesPeer : Requested → Stay → Stay
-takesPeer q s =
-    cond (same (s .request .id) (q .id))
-    (record { request = withPeer (q .peer) (s .request); entry = s .entry; requests = suc (s .requests); outlived = s .outlived })
-    s
+takesPeer q s = cond (same (s .request .id) (q .id)) (requestedAgain (q .peer) s) s
 
 -- "enters with the command's type and peer, entry and stamp this clock, checks 0"
 abbrev pub enters : ℕ → Requested → Stay
