@@ -1,6 +1,7 @@
 -- Demand 3's book. "Demand 3's book is fed only the opening's settings and each finished step's arguments other than the areas,
--- its outcome and its commands; the mode follows from these." It shares with the rules how lists are read from bytes, and
--- check_timeouts, to which document 01 sends it; what a step ends, the mode and the requests it works out by itself.
+-- its outcome and its commands; the mode follows from these." It shares with the rules how lists are read from bytes, whether an
+-- id is in a list, and check_timeouts, to which document 01 sends it; what a step ends, the mode and the requests it works out by
+-- itself.
 use Prim.Native.Nat.{ℕ, zero, suc, _+_, _*_, _≤_, max}
 use mathlib.Core.Bool.{Bool, true, false, not, cond, _||_, _&&_}
 use mathlib.Core.List.{List, [], _∷_, _++_, map}
