@@ -1,32 +1,21 @@
 -- Writes one behind another are one write, and a command is six of them.
-use Prim.Native.Nat.{ℕ, _+_, _*_, _/_, _%_, _≤_}
+use Prim.Native.Nat.{ℕ, _+_, _/_, _%_, _≤_}
 use mathlib.Core.Path.{_≡_, refl, ap, _∙_}
 use mathlib.Core.List.{List, [], _∷_, _++_}
 use native.Mathlib.Omega.{arith}
 use lib.ListN.{length, set, length-set}
-use lib.Seq.{take-all}
 use Rattle.fields.specs.Number.{toBe}
-use Rattle.fields.specs.Entries.{joined}
 use Rattle.fields.specs.Overwrite.{overwritten}
 use Rattle.fields.proofs.OverwriteLaws.{overwritten-one, overwritten-next}
-use Rattle.fields.proofs.EntriesLaws.{length-entries, joined-entries}
 use Rattle.model.specs.Requests.{Command}
 use Rattle.model.specs.Lists.{idsIn}
 use Rattle.model.specs.Commands.{commandBytes}
 use Rattle.model.specs.Layout.{idSize}
+pub use Rattle.model.proofs.ListLaws.{joined-ids, length-ids}
 
 pub written-next : (p k : ℕ) (a b d o o′ : List ℕ) → length a ≡ k → p + k + length b ≤ length d → o ≡ overwritten p a d → o′ ≡ overwritten (p + k) b o
     → o′ ≡ overwritten p (a ++ b) d
 written-next p k a b d o o′ l h e f = f ∙ rw (e, ← l) (overwritten-next p a b d (rw l h))
-
-pub length-ids : (bytes : List ℕ) → length (idsIn bytes) ≡ length bytes / idSize
-unfolding idsIn
-length-ids bytes = length-entries idSize (length bytes / idSize) bytes
-
--- whole ids joined again
-pub joined-ids : (bytes : List ℕ) → length bytes % idSize ≡ 0 → joined (idsIn bytes) ≡ bytes
-unfolding idsIn
-joined-ids bytes h = joined-entries idSize (length bytes / idSize) bytes ∙ take-all (length bytes / idSize * idSize) bytes (omega arith)
 
 pub two-written : (p a b : ℕ) (d : List ℕ) → p + 2 ≤ length d → set (set d p a) (p + 1) b ≡ overwritten p (a ∷ b ∷ []) d
 two-written p a b d h =

@@ -6,7 +6,6 @@ use mathlib.Core.List.{List, _++_}
 use native.Mathlib.Omega.{arith}
 use lib.Dec.{eqb, leb}
 use lib.ListN.{length, take, drop, length-append, length-map}
-use lib.Seq.{take-all}
 use borrow.Author.Tests.{le-leb, lt-leb}
 use Rattle.fields.specs.Facts.{All, Bytes}
 use Rattle.fields.specs.Overwrite.{overwritten}
@@ -23,6 +22,7 @@ use Rattle.model.specs.Protocol.{Id, isAmong, trackedLimit}
 use Rattle.model.specs.Delivery.{Request, markReceived, pendingAfterEviction, evictedAfterEviction}
 use Rattle.model.specs.Image.{requestOf}
 use Rattle.model.specs.Lists.{idsIn}
+use Rattle.model.proofs.ListLaws.{joined-ids}
 use Rattle.model.proofs.RecordLaws.{records-of-requests}
 use Rattle.commands.specs.Pending.{requestsIn, holding}
 use Rattle.delivery.specs.Records.{unlisted}
@@ -64,14 +64,8 @@ length-after evicted ids region =
     length-append (evictedIn evicted region) (idsIn ids)
     ∙ rw (length-entries idSize evicted (drop (length region - evicted * idSize) region), length-entries idSize (length ids / idSize) ids)
 
-joined-ids : (ids : List ℕ) → length ids % idSize ≡ 0 → joined (idsIn ids) ≡ ids
-unfolding idsIn
-joined-ids ids h =
-    let e : length ids / idSize * idSize ≡ length ids = omega arith in
-    joined-entries idSize (length ids / idSize) ids ∙ rw e (take-all (length ids) ids (omega arith))
-
-pub appended : (evicted at : ℕ) (ids region x y : List ℕ) → length ids % idSize ≡ 0 → evicted * idSize + length ids ≤ length region
-    → x ≡ moved (length region - evicted * idSize) (length region - evicted * idSize - length ids) (evicted * idSize) region
+pub appended : (evicted at : ℕ) (ids region x y : List ℕ) → length ids % 32 ≡ 0 → evicted * 32 + length ids ≤ length region
+    → x ≡ moved (length region - evicted * 32) (length region - evicted * 32 - length ids) (evicted * 32) region
     → at ≡ length region - length ids → y ≡ overwritten at ids x
     → y ≡ endingWith (evictedAfterEviction (idsIn ids) (evictedIn evicted region)) region
 unfolding endingWith evictedAfterEviction moved

@@ -14,13 +14,14 @@ use Rattle.fields.specs.Number.{fromBe}
 use Rattle.fields.specs.Entries.{entries, entry}
 use Rattle.fields.proofs.NumberLaws.{bytes-take, bytes-drop, fromBe-below}
 use Rattle.fields.proofs.EntriesLaws.{length-entries, entries-at, length-entry}
-use Rattle.fields.proofs.AllLaws.{all-map, all-at, all-weaker, either, entries-all}
+use Rattle.fields.proofs.AllLaws.{all-map, all-at, all-weaker, all-both, either, entries-all}
 use Rattle.fields.proofs.OrderLaws.{and-left, and-right}
 use Rattle.model.specs.Sections.{absent, present}
 use Rattle.model.specs.Lists.{listFits, idsIn, peersIn, pairOf, pairsIn, entriesOf, idsFit, continuationFits, pairsFit, viewFits, sectionOf, headerOf, usedPlaces, rowFits, rowsFit, firstHeight, rowCount, viewOf}
 use Rattle.model.specs.Calls.{Call, stepOf, argsOf, listsFit}
 use Rattle.model.specs.Demand3.{InWidth}
 use Rattle.model.proofs.Well.{WellId}
+use Rattle.model.proofs.ListLaws.{ids-wide, length-ids, ids-bytes}
 use Rattle.model.proofs.Widths.{IfSome, WellPeer, WellHeight, WellPair, WellSection, WellHeader, WellView, WellStep, WellArgs}
 use Rattle.model.specs.Layout.{idSize, pairSize, peerSize, placeSize, rowSize}
 use Rattle.model.specs.Protocol.{trackedLimit}
@@ -28,16 +29,15 @@ use Rattle.model.specs.Protocol.{trackedLimit}
 -- ---- lists
 
 pub ids-well : (bytes : List ℕ) → Bytes bytes → All WellId (idsIn bytes)
-unfolding idsIn
 ids-well bytes b =
-    let h : length bytes / idSize * idSize ≤ length bytes = omega arith in
-    all-weaker (λ (e : List ℕ). (length e ≡ idSize) × Bytes e) WellId (λ e p. record { long = p .0; bytes = p .1 }) (entriesOf idSize bytes) (entries-all idSize (length bytes / idSize) bytes h b)
+    all-weaker (λ (e : List ℕ). (length e ≡ idSize) × Bytes e) WellId (λ e p. record { long = p .0; bytes = p .1 }) (idsIn bytes)
+    (all-both (λ (e : List ℕ). length e ≡ idSize) Bytes (idsIn bytes) (ids-wide bytes) (ids-bytes bytes b))
 
 pub ids-few : (most : ℕ) (bytes : List ℕ) → listFits idSize most bytes ≡ true → length (idsIn bytes) ≤ most
-unfolding idsIn listFits
+unfolding listFits
 ids-few most bytes h =
     let l : length bytes ≤ most * idSize = leb-true (length bytes) (most * idSize) (and-right (eqb (length bytes % idSize) 0) (leb (length bytes) (most * idSize)) h) in
-    rw length-entries (omega arith)
+    rw (length-ids bytes) (omega arith)
 
 peer-well : (e : List ℕ) → (length e ≡ peerSize) × Bytes e → WellPeer (fromBe e)
 peer-well e p = let f : fromBe e < 256 ^ length e = fromBe-below e (p .1) in rw (p .0) at f

@@ -20,7 +20,7 @@ use Rattle.model.specs.Requests.{Pair, isStored, Act, ask, send, wanted,
 use Rattle.model.specs.Requests
 use Rattle.model.specs.Sections.{Item}
 use Rattle.model.specs.Check.{markAllRetried}
-use Rattle.model.specs.Book.{Stay, Requested, Entering, takesPeer, enters, stayBefore, enter, enterAll}
+use Rattle.model.specs.Book.{Stay, Requested, Entering, requestedAgain, takesPeer, enters, stayBefore, enter, enterAll}
 use Rattle.model.proofs.Widths.{WellAct}
 use Rattle.model.proofs.PendingLaws.{most-positive}
 use Rattle.model.proofs.IdLaws.{Distinct, EachAmong, NoneAmong, none-among-cons, among-inserted, distinct-inserted, among-sorted}
@@ -90,12 +90,15 @@ agrees-as settings gone pending pending′ b b′ p q h = rw (p, q) h
 
 -- ---- taking a peer
 
+-- What the core makes of a request that it asks again for is what the book makes of its stay.
+asked-again : (peer : ℕ) (s : Stay) → withPeer peer (s .request) ≡ requestedAgain peer s .request
+asked-again peer s = refl
+
 takes-request : (i : Item) (s : Stay) → cond (same (s .request .id) (i .id)) (withPeer (i .peer) (s .request)) (s .request) ≡ takesPeer (requestedItem i) s .request
 takes-request i s = go (same (s .request .id) (i .id))
   where
-    go : (t : Bool) → cond t (withPeer (i .peer) (s .request)) (s .request)
-        ≡ (cond t (record { request = withPeer (i .peer) (s .request); entry = s .entry; requests = suc (s .requests); outlived = s .outlived }) s) .request
-    go true = refl
+    go : (t : Bool) → cond t (withPeer (i .peer) (s .request)) (s .request) ≡ (cond t (requestedAgain (i .peer) s) s) .request
+    go true = asked-again (i .peer) s
     go false = refl
 
 takes-requests : (i : Item) (stays : List Stay) → markRetried (i .peer) (i .id) (openRequests stays) ≡ openRequests (map (takesPeer (requestedItem i)) stays)
@@ -105,7 +108,7 @@ takes-requests i (s ∷ stays) = rw (takes-request i s, takes-requests i stays)
 takes-id : (q : Requested) (s : Stay) → takesPeer q s .request .id ≡ s .request .id
 takes-id q s = go (same (s .request .id) (q .id))
   where
-    go : (t : Bool) → (cond t (record { request = withPeer (q .peer) (s .request); entry = s .entry; requests = suc (s .requests); outlived = s .outlived }) s) .request .id ≡ s .request .id
+    go : (t : Bool) → (cond t (requestedAgain (q .peer) s) s) .request .id ≡ s .request .id
     go true = refl
     go false = refl
 
@@ -119,7 +122,7 @@ takes-good settings q ids [] k g = tt
 takes-good settings q ids (s ∷ stays) k g = (go (same (s .request .id) (q .id)) refl, takes-good settings q ids stays (k .1) (g .1))
   where
     go : (t : Bool) → same (s .request .id) (q .id) ≡ t
-        → Good settings (cond t (record { request = withPeer (q .peer) (s .request); entry = s .entry; requests = suc (s .requests); outlived = s .outlived }) s)
+        → Good settings (cond t (requestedAgain (q .peer) s) s)
     go true e =
         let room = k .0 (or-left (same (s .request .id) (q .id)) (isAmong (s .request .id) ids) e) in
         record { few = g .0 .few; requested = omega arith; last = g .0 .last; stamped = g .0 .stamped; inPatience = g .0 .inPatience }
@@ -131,7 +134,7 @@ takes-room q ids [] n k = tt
 takes-room q ids (s ∷ stays) n k = (go (same (s .request .id) (q .id)) refl, takes-room q ids stays n (k .1))
   where
     go : (t : Bool) → same (s .request .id) (q .id) ≡ t
-        → Room ids (cond t (record { request = withPeer (q .peer) (s .request); entry = s .entry; requests = suc (s .requests); outlived = s .outlived }) s)
+        → Room ids (cond t (requestedAgain (q .peer) s) s)
     go true e = λ h. let p : s .request .id ≡ q .id = same-eq (s .request .id) (q .id) e in absurd (false≢true (sym n ∙ ap (λ z. isAmong z ids) (sym p) ∙ h))
     go false e = λ h. k .0 (rw e h)
 

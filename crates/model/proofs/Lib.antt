@@ -14,6 +14,7 @@ pub mod FormedLaws
 pub mod HeaderLaws
 pub mod IdLaws
 pub mod ImageLaws
+pub mod ListLaws
 pub mod ModeLaws
 pub mod PeerLaws
 pub mod PendingLaws

@@ -197,7 +197,8 @@ module _ (settings : Settings) (clock : ℕ) where
   mark-well : (peer : ℕ) (id : Id) (rs : List Request) → WellPeer peer → All (WellRequest settings clock) rs → All (WellRequest settings clock) (markRetried peer id rs)
   mark-well peer id rs w =
       all-map (WellRequest settings clock) (WellRequest settings clock) (λ (r : Request). cond (same (r .id) id) (withPeer peer r) r)
-      (λ r p. either (WellRequest settings clock) (same (r .id) id) (withPeer peer r) r (record { id = p .id; typeId = p .typeId; peer = w; stamp = p .stamp; checks = p .checks }) p) rs
+      (λ r p. either (WellRequest settings clock) (same (r .id) id) (withPeer peer r) r
+      (record { id = p .id; typeId = p .typeId; peer = search; stamp = p .stamp; checks = p .checks }) p) rs
 
   pub retried-well : (items : List Item) (rs : List Request) → All WellItem items → All (WellRequest settings clock) rs → All (WellRequest settings clock) (markAllRetried items rs)
   retried-well [] rs w h = h

@@ -1,6 +1,7 @@
 -- Demand 3's book. "Demand 3's book is fed only the opening's settings and each finished step's arguments other than the areas,
--- its outcome and its commands; the mode follows from these." It shares with the rules how lists are read from bytes, and
--- check_timeouts, to which document 01 sends it; what a step ends, the mode and the requests it works out by itself.
+-- its outcome and its commands; the mode follows from these." It shares with the rules how lists are read from bytes, whether an
+-- id is in a list, and check_timeouts, to which document 01 sends it; what a step ends, the mode and the requests it works out by
+-- itself.
 use Prim.Native.Nat.{ℕ, zero, suc, _+_, _*_, _≤_, max}
 use mathlib.Core.Bool.{Bool, true, false, not, cond, _||_, _&&_}
 use mathlib.Core.List.{List, [], _∷_, _++_, map}
@@ -12,7 +13,7 @@ use Rattle.fields.specs.Sort.{inserted}
 use Rattle.model.specs.Protocol.{Id, isAmong}
 use Rattle.model.specs.Settings.{Settings}
 use Rattle.model.specs.Delivery as delivery
-use Rattle.model.specs.Delivery.{Request, Verdict, verdict, restarted, withPeer}
+use Rattle.model.specs.Delivery.{Request, Verdict, verdict, restarted}
 use Rattle.model.specs.Requests.{Command}
 use Rattle.model.specs.Lists.{idsIn}
 use Rattle.model.specs.Commands.{commandsIn}
@@ -124,11 +125,18 @@ pub record Entering : Type 0 where
 abbrev pub isOpen : Id → List Stay → Bool
 isOpen id stays = isAmong id (map (λ (s : Stay). s .request .id) stays)
 
+-- "takes the command's peer; each adds a request"
+abbrev pub requestedAgain : ℕ → Stay → Stay
+requestedAgain peer s =
+    record {
+      request = record { id = s .request .id; typeId = s .request .typeId; peer = peer; stamp = s .request .stamp; checks = s .request .checks };
+      entry = s .entry;
+      requests = suc (s .requests);
+      outlived = s .outlived;
+    }
+
 abbrev pub takesPeer : Requested → Stay → Stay
-takesPeer q s =
-    cond (same (s .request .id) (q .id))
-    (record { request = withPeer (q .peer) (s .request); entry = s .entry; requests = suc (s .requests); outlived = s .outlived })
-    s
+takesPeer q s = cond (same (s .request .id) (q .id)) (requestedAgain (q .peer) s) s
 
 -- "enters with the command's type and peer, entry and stamp this clock, checks 0"
 abbrev pub enters : ℕ → Requested → Stay
