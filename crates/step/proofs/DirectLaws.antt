@@ -1,51 +1,37 @@
--- A plan whose work may not overfill, carried out on the areas themselves.
+-- A plan whose work needs no copies, carried out on the areas themselves.
 use Prim.Native.Nat.{ℕ, _+_, _/_, _≤_, _<_}
 use mathlib.Core.Path.{_≡_, sym, ap, _∙_}
-use mathlib.Core.Bool.{Bool, true, false}
+use mathlib.Core.Bool.{true, false, false≢true}
 use mathlib.Core.List.{List, _++_}
-use native.Mathlib.Nat.{zero-add, lt-irrefl}
+use native.Mathlib.Nat.{zero-add}
 use native.Mathlib.Omega.{arith}
 use lib.ListN.{length, take, drop, take-append-drop}
 use Rattle.fields.specs.Facts.{Bytes}
 use Rattle.fields.specs.Overwrite.{overwritten}
 use Rattle.fields.proofs.OverwriteLaws.{length-overwritten, drop-after}
-use Rattle.fields.proofs.EntriesLaws.{length-entries}
 use Rattle.model.specs.Image.{decode}
-use Rattle.model.specs.Lists.{idsIn}
 use Rattle.model.specs.Calls as calls
 use Rattle.model.specs.Demand3.{InWidth}
 use Rattle.image.specs.declared.head.Head.{Head}
-use Rattle.image.specs.Heads.{headIn, headOf}
-use Rattle.image.proofs.HeadLaws.{head-decode}
+use Rattle.image.specs.Heads.{headIn}
 use Rattle.peers.specs.Peers.{listedPeer}
 use Rattle.commands.specs.Sent.{sentBytes}
 use Rattle.plan.specs.declared.Plan.{Plan}
 use Rattle.plan.specs.Plans.{Follows}
 use Rattle.work.specs.declared.Counts.{Counts}
 use Rattle.work.specs.declared.Performed.the-variants.{Done as Finished, Full}
-use Rattle.work.specs.Worked.{regionOf, Worked, fits, performedAs}
+use Rattle.work.specs.Worked.{regionOf, Worked, fits, performedAs, isOneList}
 use Rattle.refusals.specs.Refusals.{givenRefusal}
 use Rattle.refusals.proofs.RefusalLaws.{Given, given}
 use Rattle.work_asks.specs.Carried.{carriedBy}
 use Rattle.step.specs.Stalling.{placesOf, stalledThen}
 use Rattle.step.specs.Finished.{said, counted, completed}
-use Rattle.step.specs.Filling.{mayOverfill}
+use Rattle.step.specs.Copies.{worksOnCopies}
 use Rattle.step.proofs.AreaLaws.{area-well}
 use Rattle.step.proofs.FillingLaws.{few-fit}
-use Rattle.step.proofs.EndLaws.{untouched, full-fails, done-fits}
-use Rattle.step.proofs.StepLaws.{too-stalled, finishes}
-use Rattle.model.specs.Layout.{idSize, mostBytes, regionAt}
-
--- what is answered where there is room
-performed : (at batch : ℕ) (w : Worked) → fits w ≡ true
-    → Finished (record { pending = length (w .pending); evicted = length (w .evicted); retried = w .retried; fresh = w .fresh; abandoned = w .abandoned; forgotten = w .forgotten; at = at + length (sentBytes batch (w .sendings)); batch = batch + length (w .sendings) })
-    ≡ performedAs at batch w
-unfolding performedAs
-performed at batch w e = rw e
-
-length-ids : (bytes : List ℕ) → length (idsIn bytes) ≡ length bytes / idSize
-unfolding idsIn
-length-ids bytes = length-entries idSize (length bytes / idSize) bytes
+use Rattle.step.proofs.EndLaws.{full-fails, done-fits}
+use Rattle.step.proofs.StepLaws.{finishes}
+use Rattle.model.specs.Layout.{mostBytes, regionAt}
 
 -- what stands behind two writes one after another
 behind-both : (a b s s₁ s₂ : List ℕ) (at : ℕ) → at ≡ length a → at + length b ≤ length s → s₁ ≡ overwritten 0 a s → s₂ ≡ overwritten at b s₁
@@ -58,30 +44,18 @@ behind-both a b s s₁ s₂ at n room e f =
     f ∙ sym (take-append-drop (at + length b) (overwritten at b s₁)) ∙ ap (λ (x : List ℕ). take (at + length b) (overwritten at b s₁) ++ x) d
 
 module _ (area commands : List ℕ) (c : calls.Call) (p : Plan) (g : givenRefusal area (length commands) c ≡ 0) (f : Follows (decode area) c p)
-    (seen : p .seen ≡ true) (head : Head) (h : head ≡ headIn area) (small : mayOverfill (head .pending + head .evicted) (length (c .ids) / idSize) (p .work) ≡ false) (bytes : Bytes area) where
+    (seen : p .seen ≡ true) (head : Head) (h : head ≡ headIn area) (bytes : Bytes area) where
   abbrev w : Worked
   w = carriedBy (decode area) c p
 
   facts : Given area (length commands) c
   facts = given area (length commands) c g
 
-  -- The header counts what is held.
-  counted-held : head .pending + head .evicted ≡ length (decode area .pending) + length (decode area .sync .evicted)
-  unfolding headOf
-  counted-held =
-      let e : headOf (decode area) ≡ head = head-decode area (facts .image) ∙ sym h in
-      sym (ap (λ (x : Head). x .pending + x .evicted) e)
-
-  pub room : fits w ≡ true
-  room =
-      few-fit (decode area) c p (area-well area (facts .stateSize) bytes (facts .image) .tracked)
-      (rw (← counted-held, length-ids (c .ids)) small)
-
-  pub not-full : {A : Type 0} → Full ≡ performedAs 0 0 w → A
-  not-full h = let z : _≡_ {A = Bool} true false = sym room ∙ full-fails 0 0 w h in absurd (lt-irrefl 0 (let y : _≡_ {A = ℕ} 0 1 = cc in omega arith))
-
-  pub direct-stalled : 256 < p .head .stalled → untouched area commands c g 11 ≡ calls.step area commands c
-  direct-stalled = too-stalled area commands c p g f seen _ (performed 0 0 w room)
+  -- a work that is not of one list always has room
+  pub not-full : {A : Type 0} → worksOnCopies (p .work) (p .announces) ≡ false → isOneList (p .work) ≡ false → Full ≡ performedAs 0 0 w → A
+  not-full small several full =
+      let room : fits w ≡ true = few-fit (decode area) c p (area-well area (facts .stateSize) bytes (facts .image) .tracked) small several in
+      absurd (false≢true (sym (full-fails 0 0 w full) ∙ room))
 
   module _ (counts : Counts) (d : Finished counts ≡ performedAs 0 0 w) (l : p .head .stalled ≤ 256) (width : InWidth c) (few : counts .at ≤ mostBytes) where
     pub direct-finishes : (image out state′ commands′ : List ℕ) (answer : calls.Answer) → take regionAt image ≡ take regionAt area → drop regionAt image ≡ regionOf (w .pending) (w .evicted)

@@ -1,12 +1,12 @@
--- A work that may not overfill leaves at most 1,024 pending and evicted.
+-- A work that needs no copies and is not of one list leaves at most 1,024 pending and evicted.
 use Prim.Native.Nat.{ℕ, suc, _+_, _≤_}
-use mathlib.Core.Path.{_≡_, refl, _∙_}
-use mathlib.Core.Bool.{Bool, true, false, not, cond}
+use mathlib.Core.Path.{_≡_, refl, sym, _∙_}
+use mathlib.Core.Bool.{Bool, true, false, not, cond, false≢true}
 use mathlib.Core.List.{List, [], _∷_}
 use native.Mathlib.Omega.{arith}
 use lib.ListN.{length, length-map, length-append}
 use lib.Dec.{eqb}
-use borrow.Author.Tests.{le-leb, ltb-false}
+use borrow.Author.Tests.{le-leb}
 use Rattle.fields.specs.Filter.{kept}
 use Rattle.fields.specs.Sort.{inserted}
 use Rattle.fields.proofs.AllLaws.{either}
@@ -21,13 +21,15 @@ use Rattle.model.specs.Check.{markAllRetried}
 use Rattle.model.specs.State.{State}
 use Rattle.model.specs.Lists.{idsIn, pairsIn}
 use Rattle.model.specs.Calls as calls
+use Rattle.peers.specs.declared.Listed.{Listed}
+use Rattle.peers.specs.declared.Listed.the-variants.{Peer, Nobody}
 use Rattle.plan.specs.declared.Plan.{Plan}
 use Rattle.plan.specs.declared.Work.{Work}
 use Rattle.plan.specs.declared.Work.the-variants.{Nothing, Ids, Sections, Received, Evicted, Purge, PurgeSections, Lose, LoseAsk, Check, CheckFresh}
 use Rattle.plan.specs.Plans.{retriedBy}
-use Rattle.work.specs.Worked.{actedBy, workedBy, fits}
+use Rattle.work.specs.Worked.{actedBy, workedBy, fits, isOneList}
 use Rattle.work_asks.specs.Carried.{carriedBy}
-use Rattle.step.specs.Filling.{mayOverfill}
+use Rattle.step.specs.Copies.{isTold, worksOnCopies}
 
 length-marked : (items : List Item) (pending : List Request) → length (markAllRetried items pending) ≡ length pending
 length-marked [] pending = refl
@@ -64,38 +66,30 @@ wanted-few pending typeId pairs ids =
     omega
     (arith, length-kept (λ (id : Id). not (isStored pairs typeId id)) (kept (λ (id : Id). not (isPending id pending)) ids), length-kept (λ (id : Id). not (isPending id pending)) ids)
 
+untold : (announces : Listed) → isTold announces ≡ false → announces ≡ Nobody
+untold (Peer peer) e = absurd (false≢true (sym e))
+untold Nobody e = refl
+
 module _ (st : State) (c : calls.Call) (downloaded : ℕ) where
   abbrev held : ℕ
   held = length (st .pending) + length (st .sync .evicted)
 
-  stays-few : (work : Work) → held ≤ trackedLimit → mayOverfill held (length (idsIn (c .ids))) work ≡ false
+  stays-few : (work : Work) (announces : Listed) → held ≤ trackedLimit → worksOnCopies work announces ≡ false → isOneList work ≡ false
       → length (workedBy st c downloaded work .pending) + length (workedBy st c downloaded work .evicted) ≤ trackedLimit
   unfolding workedBy actedBy retriedBy markReceived pendingAfterEviction evictedAfterEviction purgePeer purgeAll
-  stays-few Nothing h e = omega arith
-  stays-few (Ids peer) h e =
-      omega (
-        arith,
-        ltb-false trackedLimit (held + length (idsIn (c .ids))) e,
-        asked-few (eqb (c .gate) 1) (c .clock) (c .typeid) peer (wanted (st .pending) (c .typeid) (pairsIn (c .stored)) (idsIn (c .ids))) (st .pending),
-        wanted-few (st .pending) (c .typeid) (pairsIn (c .stored)) (idsIn (c .ids)),
-      )
-  stays-few (Sections peer) h e = let z : _≡_ {A = ℕ} 0 1 = cc in absurd (omega arith)
-  stays-few Received h e = omega (arith, length-kept (λ (r : Request). not (isAmong (r .id) (idsIn (c .ids)))) (st .pending))
-  stays-few Evicted h e =
-      omega (
-        arith,
-        ltb-false trackedLimit (held + length (idsIn (c .ids))) e,
-        length-kept (λ (r : Request). not (isAmong (r .id) (idsIn (c .ids)))) (st .pending),
-        length-append (st .sync .evicted) (idsIn (c .ids)),
-      )
-  stays-few Purge h e = omega arith
-  stays-few (PurgeSections peer) h e = let z : _≡_ {A = ℕ} 0 1 = cc in absurd (omega arith)
-  stays-few Lose h e = omega (arith, length-kept (λ (r : Request). not (eqb (r .peer) (st .sync .syncPeer))) (st .pending))
-  stays-few (LoseAsk peer) h e = let z : _≡_ {A = ℕ} 0 1 = cc in absurd (omega arith)
-  stays-few Check h e =
+  stays-few Nothing announces h e one = omega arith
+  stays-few (Ids peer) announces h e one = absurd (false≢true (sym one))
+  stays-few (Sections peer) announces h e one = absurd (false≢true (sym e))
+  stays-few Received announces h e one = omega (arith, length-kept (λ (r : Request). not (isAmong (r .id) (idsIn (c .ids)))) (st .pending))
+  stays-few Evicted announces h e one = absurd (false≢true (sym one))
+  stays-few Purge announces h e one = omega arith
+  stays-few (PurgeSections peer) announces h e one = absurd (false≢true (sym e))
+  stays-few Lose announces h e one = omega (arith, length-kept (λ (r : Request). not (eqb (r .peer) (st .sync .syncPeer))) (st .pending))
+  stays-few (LoseAsk peer) announces h e one = absurd (false≢true (sym e))
+  stays-few Check announces h e one =
       omega
       (arith, length-marked (retriedBy st c Check) (checkTimeouts (st .settings) (c .clock) (st .pending)), checked-few (st .settings) (c .clock) (st .pending))
-  stays-few (CheckFresh peer) h e =
+  stays-few (CheckFresh peer) announces h e one =
       let base : List Request = markAllRetried (retriedBy st c (CheckFresh peer)) (checkTimeouts (st .settings) (c .clock) (st .pending)) in
       omega (
         arith,
@@ -106,8 +100,22 @@ module _ (st : State) (c : calls.Call) (downloaded : ℕ) where
       )
 
 pub few-fit : (st : State) (c : calls.Call) (p : Plan) → length (st .pending) + length (st .sync .evicted) ≤ trackedLimit
-    → mayOverfill (length (st .pending) + length (st .sync .evicted)) (length (idsIn (c .ids))) (p .work) ≡ false → fits (carriedBy st c p) ≡ true
+    → worksOnCopies (p .work) (p .announces) ≡ false → isOneList (p .work) ≡ false → fits (carriedBy st c p) ≡ true
 unfolding fits carriedBy
-few-fit st c p h e =
+few-fit st c p h e one =
     le-leb (length (workedBy st c (p .head .downloaded) (p .work) .pending) + length (workedBy st c (p .head .downloaded) (p .work) .evicted)) trackedLimit
-    (stays-few st c (p .head .downloaded) (p .work) h e)
+    (stays-few st c (p .head .downloaded) (p .work) (p .announces) h e one)
+
+-- a work of one list that needs no copies tells nobody before it
+pub nobody-told : (work : Work) (announces : Listed) → worksOnCopies work announces ≡ false → isOneList work ≡ true → announces ≡ Nobody
+nobody-told Nothing announces e one = absurd (false≢true one)
+nobody-told (Ids peer) announces e one = untold announces e
+nobody-told (Sections peer) announces e one = absurd (false≢true one)
+nobody-told Received announces e one = absurd (false≢true one)
+nobody-told Evicted announces e one = untold announces e
+nobody-told Purge announces e one = absurd (false≢true one)
+nobody-told (PurgeSections peer) announces e one = absurd (false≢true one)
+nobody-told Lose announces e one = absurd (false≢true one)
+nobody-told (LoseAsk peer) announces e one = absurd (false≢true one)
+nobody-told Check announces e one = absurd (false≢true one)
+nobody-told (CheckFresh peer) announces e one = absurd (false≢true one)

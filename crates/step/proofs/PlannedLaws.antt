@@ -1,11 +1,11 @@
 -- A planned step at each place of its code: what it asks of its callees, and how it ends. One law for each.
 use Prim.Native.Nat.{ℕ, _+_, _-_, _/_, _%_, _≤_, _<_}
 use mathlib.Core.Path.{_≡_, refl, sym, ap, _∙_}
-use mathlib.Core.Bool.{true, false}
+use mathlib.Core.Bool.{Bool, true, false}
 use mathlib.Core.List.{List, _++_}
 use native.Mathlib.Omega.{arith}
 use lib.ListN.{length, take, drop}
-use borrow.Rule.Slice.PartMut.{midOf, putMid, same-len-mid}
+use borrow.Rule.Slice.PartMut.{midOf, putMid, put-same}
 use Rattle.fields.specs.Facts.{Bytes}
 use Rattle.fields.specs.Overwrite.{overwritten}
 use Rattle.model.specs.State.{State}
@@ -14,6 +14,7 @@ use Rattle.model.specs.Lists.{pairsFit, viewFits, continuationFits}
 use Rattle.model.specs.Calls as calls
 use Rattle.model.specs.Demand3.{InWidth}
 use Rattle.image.specs.declared.head.Head.{Head}
+use Rattle.peers.specs.declared.Listed.the-variants.{Nobody}
 use Rattle.peers.specs.Peers.{listedPeer}
 use Rattle.commands.specs.Sent.{sentBytes}
 use Rattle.plan.specs.declared.Call.{Call}
@@ -22,17 +23,18 @@ use Rattle.work.specs.declared.Counts.{Counts}
 use Rattle.work.specs.declared.Performed.{Performed}
 use Rattle.work.specs.declared.Performed.the-variants.{Done as Finished, Full}
 use Rattle.work.specs.Worked as worked
-use Rattle.work.specs.Worked.{Tracked, Performs, fits}
+use Rattle.work.specs.Worked.{Tracked, Performs, isOneList, Untouched}
 use Rattle.work_asks.specs.Carried.{carriedBy}
 use Rattle.plan.specs.Plans.{callOf}
 use Rattle.step.specs.Stalling.{placesOf, stalledThen, stalledCountThen}
 use Rattle.step.specs.Finished.{said, counted, completed}
 use Rattle.step.proofs.SaidLaws.{said-short}
-use Rattle.step.specs.Filling.{mayOverfill}
+use Rattle.step.specs.Copies.{worksOnCopies}
 use Rattle.step.specs.Planned.{Lists, called, workOf, Planned, StepsTo}
 use Rattle.step.proofs.EndLaws.{done-fits}
 use Rattle.step.proofs.StepLaws.{too-many, too-stalled, finish-ready, finishes}
-use Rattle.step.proofs.DirectLaws.{room, not-full, direct-stalled, direct-finishes}
+use Rattle.step.proofs.FillingLaws.{nobody-told}
+use Rattle.step.proofs.DirectLaws.{not-full, direct-finishes}
 use Rattle.step.proofs.WorkLaws.{front-kept, tail-put, its-continuation, its-ids, area-long, commands-long, lists-whole, stored-fit, view-fits, work-tracked, work-given}
 use Rattle.model.specs.Layout.{areaSize, idListSize, idSize, mostBytes, regionAt}
 use Rattle.model.specs.Protocol.{trackedLimit}
@@ -159,34 +161,37 @@ module _ {area commands : List ℕ} {head : Head} {plan : Plan} {call : Call} {l
             (front-kept regionAt image region long-enough ∙ ap (take regionAt) same) (tail-put regionAt image region long-enough ∙ d .left full) enough (d .written full)
             (settled .0) (settled .1 .0) (settled .1 .1)
 
-    -- on the areas themselves, where the work may not overfill
-    module _ (small : mayOverfill (head .pending + head .evicted) (length (lent .ids) / idSize) (plan .work) ≡ false) where
-      pub stalled-first : {r : calls.Answer} → 256 < plan .head .stalled → r ≡ calls.refused 11 → StepsTo area commands call lent r area commands
+    -- on the areas themselves
+    module _ {region out : List ℕ} {answer : Performed} (d : Performs 0 0 (workOf area call lent plan) commands answer region out) where
+      -- refused as 10: a work of one list has touched nothing, and any other has room
+      pub full-in-place : {r : calls.Answer} → worksOnCopies (plan .work) (plan .announces) ≡ false
+          → (plan .announces ≡ Nobody → Untouched (plan .work) answer (midOf regionAt (length area - regionAt) area) region commands out)
+          → answer ≡ Full → r ≡ calls.refused 10 → StepsTo area commands call lent r (putMid regionAt (length area - regionAt) area region) out
+      full-in-place {r} small kept f q = go (isOneList (plan .work)) refl
+        where
+          go : (one : Bool) → isOneList (plan .work) ≡ one → StepsTo area commands call lent r (putMid regionAt (length area - regionAt) area region) out
+          go true one =
+              let left = kept (nobody-told (plan .work) (plan .announces) small one) one f in
+              let same : putMid regionAt (length area - regionAt) area region ≡ area =
+              ap (putMid regionAt (length area - regionAt) area) (left .0) ∙ put-same regionAt (length area - regionAt) area in
+              rw (same, left .1) (full-stops d f q)
+          go false several =
+              let p = e .planned in
+              not-full area commands (called call lent) plan (p .given) (p .follows) (p .seen) head (p .read) (e .bytes) small several (sym f ∙ d .answered)
+
+      pub settled-in-place : (counts : Counts) → answer ≡ Finished counts → plan .head .stalled ≤ 256
+          → {r : calls.Answer} {area′ commands′ : List ℕ}
+          → ImageSettled plan counts (head .stalled) (putMid regionAt (length area - regionAt) area region) area′
+          × ((commands′ ≡ overwritten (counts .at) (last plan counts) out) × (r ≡ answered plan counts))
+          → StepsTo area commands call lent r area′ commands′
       unfolding callOf
-      stalled-first many r =
+      settled-in-place counts f few {r} {area′} {commands′} settled =
           let p = e .planned in
-          stops area commands (called call lent) 11 r (direct-stalled area commands (called call lent) plan (p .given) (p .follows) (p .seen) head (p .read) small (e .bytes) many)
-
-      module _ {region out : List ℕ} {answer : Performed} (d : Performs 0 0 (workOf area call lent plan) commands answer region out) where
-        pub never-full : {A : Type 0} → answer ≡ Full → A
-        unfolding callOf
-        never-full f =
-            let p = e .planned in
-            not-full area commands (called call lent) plan (p .given) (p .follows) (p .seen) head (p .read) small (e .bytes) (sym f ∙ d .answered)
-
-        pub settled-in-place : (counts : Counts) → answer ≡ Finished counts → plan .head .stalled ≤ 256
-            → {r : calls.Answer} {area′ commands′ : List ℕ}
-            → ImageSettled plan counts (head .stalled) (putMid regionAt (length area - regionAt) area region) area′
-            × ((commands′ ≡ overwritten (counts .at) (last plan counts) out) × (r ≡ answered plan counts))
-            → StepsTo area commands call lent r area′ commands′
-        unfolding callOf
-        settled-in-place counts f few {r} {area′} {commands′} settled =
-            let p = e .planned in
-            let full : fits (workOf area call lent plan) ≡ true =
-            room area commands (called call lent) plan (p .given) (p .follows) (p .seen) head (p .read) small (e .bytes) in
-            let long-enough : regionAt ≤ length area = omega (arith, long p) in
-            direct-finishes area commands (called call lent) plan (p .given) (p .follows) (p .seen) head (p .read) small (e .bytes)
-            counts (sym f ∙ d .answered) few (e .width) (settle-asks d counts f few .0 .1)
-            (putMid regionAt (length area - regionAt) area region) out area′ commands′ r
-            (front-kept regionAt area region long-enough) (tail-put regionAt area region long-enough ∙ d .left full) (d .written full)
-            (said-short (counts .batch) (listedPeer (plan .says))) (settled .0) (settled .1 .0) (settled .1 .1)
+          let done = sym f ∙ d .answered in
+          let full = done-fits 0 0 (workOf area call lent plan) counts done .0 in
+          let long-enough : regionAt ≤ length area = omega (arith, long p) in
+          direct-finishes area commands (called call lent) plan (p .given) (p .follows) (p .seen) head (p .read) (e .bytes)
+          counts done few (e .width) (settle-asks d counts f few .0 .1)
+          (putMid regionAt (length area - regionAt) area region) out area′ commands′ r
+          (front-kept regionAt area region long-enough) (tail-put regionAt area region long-enough ∙ d .left full) (d .written full)
+          (said-short (counts .batch) (listedPeer (plan .says))) (settled .0) (settled .1 .0) (settled .1 .1)

@@ -1,4 +1,4 @@
-pub mod Filling
+pub mod Copies
 pub mod Stalling
 pub mod Answers
 pub mod Finished

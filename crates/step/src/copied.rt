@@ -1,4 +1,4 @@
-// A step that may still be refused as 10, on copies: the areas are written only where it finished.
+// A step on copies, since it may be refused after something was written: the areas are written only where it finished.
 ghost use mathlib.Core.Path.{_≡_};
 ghost use Prim.Native.Nat.{_≤_};
 ghost use lib.ListN.{length};

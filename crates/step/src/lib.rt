@@ -1,12 +1,12 @@
-// A step on bytes: its plan, carried out on the areas themselves or, where it may still be refused as 10, on copies. It is
-// refused as 9, 10 or 11 with both areas as they were.
+// A step on bytes: its plan, carried out on the areas themselves, or on copies where a refusal may come after something was
+// written. It is refused as 9, 10 or 11 with both areas as they were.
 //
-// It costs the records and rows that its rules read and the bytes that it writes; where it may still be refused as 10,
-// also a copy of the state area and one back.
+// It costs the records and rows that its rules read and the bytes that it writes; on copies also a copy of the state area
+// and one back.
 pub mod copied;
+pub mod copies;
 pub mod direct;
 pub mod finish;
-pub mod overfill;
 mod parts;
 pub mod stalling;
 
@@ -17,7 +17,6 @@ ghost use Rattle.plan.specs.Plans.{callOf};
 ghost use Rattle.refusals.specs.Refusals.{givenRefusal};
 ghost use Rattle.step.specs.Answers.{answerOf};
 use crate::finish::Answer;
-use model::layout::ID_SIZE;
 use plan::Call;
 
 // A step that none of 1 to 8 refuses.
@@ -40,8 +39,10 @@ pub fn run(
         return crate::finish::refused(9);
     }
     let work = plan.work;
-    let held = head.pending + head.evicted;
-    if crate::overfill::may_overfill(work, held, ids.len() / ID_SIZE) {
+    let announces = plan.announces;
+    let after = plan.head;
+    let copies = crate::copies::works_on_copies(work, announces);
+    if copies | (256 < after.stalled) {
         return crate::copied::work_out(
             state,
             commands,

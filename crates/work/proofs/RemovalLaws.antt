@@ -3,6 +3,7 @@ use Prim.Native.Nat.{ℕ, _+_, _/_, _≤_}
 use mathlib.Core.Path.{_≡_, refl, sym, _∙_}
 use mathlib.Core.Bool.{Bool, true, false, not, cond, false≢true}
 use mathlib.Core.List.{List, []}
+use native.Mathlib.Nat.{lt-irrefl}
 use native.Mathlib.Omega.{arith}
 use lib.ListN.{length, length-append}
 use lib.Dec.{eqb, leb}
@@ -149,3 +150,16 @@ module _ (head : Head) (call : Call) (region ids stored peers view : List ℕ) (
     evicts left gone a b h =
         rw (evicted-worked st c downloaded (requestsIn (head .pending) region) (evictedIn (head .evicted) region) (g .pending) (g .evicted) ids (g .itsIds))
         (schedule-done head clock region t f ids fi at batch after out left gone (sym a ∙ made) b h)
+
+-- ---- no room
+
+-- where evicted ids find no room, the region stays
+pub full-stays : {answer : schedule.Evicted} (most count : ℕ) (pending : List Request) (gone : List Id) (region after : List ℕ)
+    → answer ≡ scheduledAs most pending gone → answer ≡ scheduled.Full → after ≡ regionThen most count pending gone region → after ≡ region
+unfolding scheduledAs regionThen
+full-stays {answer} most count pending gone region after a f e = go (leb (length pending + length gone) most) (sym f ∙ a) e
+  where
+    go : (fits : Bool) → scheduled.Full ≡ cond fits (scheduled.Pending (length pending)) scheduled.Full
+        → after ≡ cond fits (endingWith gone (holding count pending region)) region → after ≡ region
+    go true h q = let z : _≡_ {A = ℕ} 0 1 = cc in absurd (lt-irrefl 0 (omega arith))
+    go false h q = q

@@ -1,7 +1,7 @@
 -- What a plan's work makes of pending requests and evicted ids, and the region of the state area that holds them.
 use Prim.Native.Nat.{ℕ, _+_, _-_, _*_, _≤_, _<_, _^_}
 use mathlib.Core.Path.{_≡_}
-use mathlib.Core.Bool.{Bool, true, cond}
+use mathlib.Core.Bool.{Bool, true, false, cond}
 use mathlib.Core.List.{List, _++_, map}
 use lib.ListN.{length}
 use lib.Dec.{eqb, leb}
@@ -23,6 +23,7 @@ use Rattle.commands.specs.Sent.{sentBytes}
 use Rattle.delivery.specs.Region.{evictedIn}
 use Rattle.plan.specs.declared.Call.{Call}
 use Rattle.plan.specs.declared.Work.{Work}
+use Rattle.plan.specs.declared.Work.the-variants.{Nothing, Ids, Sections, Received, Evicted, Purge, PurgeSections, Lose, LoseAsk, Check, CheckFresh}
 use Rattle.plan.specs.Plans.{numbersOf, isCheckBy, remainingBy, retriedBy, evictedBy, actsBy}
 use Rattle.work.specs.declared.Performed.{Performed}
 use Rattle.work.specs.declared.Performed.the-variants.{Done as Finished, Full}
@@ -111,3 +112,21 @@ pub record Performs (at batch : ℕ) (w : Worked) (commands : List ℕ) (answer 
   pub answered : answer ≡ performedAs at batch w
   pub left : fits w ≡ true → region ≡ regionOf (w .pending) (w .evicted)
   pub written : fits w ≡ true → out ≡ overwritten at (sentBytes batch (w .sendings)) commands
+
+-- the works that enter one list of ids and can find no room for it
+abbrev pub isOneList : Work → Bool
+isOneList Nothing = false
+isOneList (Ids peer) = true
+isOneList (Sections peer) = false
+isOneList Received = false
+isOneList Evicted = true
+isOneList Purge = false
+isOneList (PurgeSections peer) = false
+isOneList Lose = false
+isOneList (LoseAsk peer) = false
+isOneList Check = false
+isOneList (CheckFresh peer) = false
+
+-- Where there is no room for its one list, such a work leaves what it was lent as it was.
+abbrev pub Untouched : Work → Performed → List ℕ → List ℕ → List ℕ → List ℕ → Type 0
+Untouched work answer region region′ out out′ = isOneList work ≡ true → answer ≡ Full → (region′ ≡ region) × (out′ ≡ out)

@@ -8,6 +8,7 @@ ghost use Rattle.model.specs.State.{State};
 ghost use Rattle.model.specs.Calls as calls;
 ghost use Rattle.work.specs.Worked.{Tracked, Given, Performs, workedBy};
 ghost use Rattle.plan.specs.declared.Work.the-variants as works;
+ghost use Rattle.work.specs.declared.Performed.the-variants.{Full};
 ghost use mathlib.Core.List.{List};
 ghost use Rattle.model.specs.Layout.{idListSize, idSize};
 use crate::Counts;
@@ -56,6 +57,7 @@ pub fn evicted(
     requires { ⌜ Tracked head (call .clock) (now region) ⌝ }
     requires { ⌜ (length (now ids) % idSize ≡ 0) × (length (now ids) ≤ idListSize) ⌝ }
     ensures { λ r. ⌜ ((st : State) (c : calls.Call) (stored peers view out : List ℕ) → Given head (now (region .entry)) call (now (ids .entry)) stored peers view st c → (downloaded : ℕ) → Performs at batch (workedBy st c downloaded works.Evicted) out r (now (region .exit)) out) ⌝ }
+    ensures { λ r. ⌜ (r ≡ Full → now (region .exit) ≡ now (region .entry)) ⌝ }
 {
     let gone = head.evicted;
     match delivery::evict::schedule_rerequest(region, head.pending, gone, ids) {

@@ -3,7 +3,7 @@ use Prim.Native.Nat.{ℕ, _+_, _-_, _^_, _≤_, _<_}
 use mathlib.Core.Path.{_≡_, refl, sym, ap, _∙_}
 use mathlib.Core.Bool.{Bool, true, false, cond}
 use mathlib.Core.List.{List, [], _∷_, _++_, append-nil}
-use native.Mathlib.Nat.{add-zero}
+use native.Mathlib.Nat.{add-zero, lt-irrefl}
 use native.Mathlib.Omega.{arith}
 use lib.ListN.{length, length-append}
 use lib.Dec.{leb}
@@ -57,6 +57,22 @@ list-asked gate clock act before region out r answer after out′ a b h o =
           λ t. o ∙ few-sent (trackedLimit - before .evicted) (before .at) (before .batch) done out t
           ∙ ap (λ (x : List Sending). overwritten (before .at) (sentBytes (before .batch) x) out) (sym (append-nil (done .sendings)));
     }
+
+-- where there is no room for the list, table and commands stay
+pub list-full : (most at batch count : ℕ) (done : Done) (before : Counts) {region out after out′ : List ℕ} {r : Requested} {answer : Performed}
+    → r ≡ requestedAs most at batch done → answer ≡ answeredAs r before
+    → after ≡ heldWithin most count (done .pending) region → out′ ≡ sentWithin most at batch done out
+    → answer ≡ Full → (after ≡ region) × (out′ ≡ out)
+unfolding requestedAs heldWithin sentWithin
+list-full most at batch count done before {region} {out} {after} {out′} {r} {answer} a b h o f =
+    go (leb (length (done .pending)) most) (sym f ∙ b ∙ ap (λ (x : Requested). answeredAs x before) a) h o
+  where
+    go : (fits : Bool)
+        → Full ≡ answeredAs (cond fits (requested.Done (record { count = length (done .pending); at = at + length (sentBytes batch (done .sendings)); batch = batch + length (done .sendings) })) requested.Full) before
+        → after ≡ cond fits (holding count (done .pending) region) region → out′ ≡ cond fits (overwritten at (sentBytes batch (done .sendings)) out) out
+        → (after ≡ region) × (out′ ≡ out)
+    go true e p q = let z : _≡_ {A = ℕ} 0 1 = cc in absurd (lt-irrefl 0 (omega arith))
+    go false e p q = (p, q)
 
 -- ---- acts keep requests in width
 

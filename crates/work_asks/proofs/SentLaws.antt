@@ -83,6 +83,12 @@ module _ (announces : Listed) (bytes out : List ℕ) where
       let b : commandBytes c ++ [] ≡ commandBytes c = append-nil (commandBytes c) in
       rw (p, s, b) (e, ((n ∙ sym (announcement-long 0 peer bytes (w .0)), refl), (omega (arith, w .1), omega arith)))
 
+-- with nobody told, the commands are as they were
+pub nothing-before : (announces : Listed) (bytes out out′ : List ℕ) → out′ ≡ overwritten 0 (sentBytes 0 (announced (listedPeer announces) (idsIn bytes))) out
+    → announces ≡ Nobody → out′ ≡ out
+unfolding sentBytes
+nothing-before announces bytes out out′ e nobody = e ∙ rw nobody (overwritten-nil 0 out)
+
 -- ---- work behind an announcement
 
 -- a write that keeps the length was within it

@@ -15,6 +15,7 @@ ghost use Rattle.request_announced.specs.ByType.{asksByType};
 ghost use Rattle.work_asks.specs.Asked.{answeredAs, unasked, Asks};
 ghost use Rattle.model.specs.Layout.{commandSize, idListSize, idSize, pairListSize, pairSize, recordSize, tableSize};
 ghost use Rattle.model.specs.Protocol.{trackedLimit};
+ghost use Rattle.work.specs.declared.Performed.the-variants.{Full};
 use model::layout::ID_LIST_SIZE;
 use model::layout::TRACKED_LIMIT;
 use plan::Call;
@@ -73,6 +74,7 @@ fn ask_list_with(
     requires { ⌜ pairsFit (now stored) ≡ true ⌝ }
     requires { ⌜ (before .at + length (now ids) / idSize * commandSize ≤ length (now out)) × (before .batch + 1 < 65536) ⌝ }
     ensures { λ r. ⌜ Asks (eqb (call .gate) 1) (call .clock) (ask typeid peer (pairsIn (now (stored .entry))) (idsIn (now (ids .entry))) ∷ []) before (now (region .entry)) (now (out .entry)) r (now (region .exit)) (now (out .exit)) ⌝ }
+    ensures { λ r. ⌜ (r ≡ Full → (now (region .exit) ≡ now (region .entry)) × (now (out .exit) ≡ now (out .entry))) ⌝ }
 {
     let asked = request_announced::request::request_announced(
         region,
@@ -108,6 +110,7 @@ pub fn ask_list(
     requires { ⌜ pairsFit (now stored) ≡ true ⌝ }
     requires { ⌜ (before .at + length (now ids) / idSize * commandSize ≤ length (now out)) × (before .batch + 1 < 65536) ⌝ }
     ensures { λ r. ⌜ Asks (eqb (call .gate) 1) (call .clock) (ask typeid peer (pairsIn (now (stored .entry))) (idsIn (now (ids .entry))) ∷ []) before (now (region .entry)) (now (out .entry)) r (now (region .exit)) (now (out .exit)) ⌝ }
+    ensures { λ r. ⌜ (r ≡ Full → (now (region .exit) ≡ now (region .entry)) × (now (out .exit) ≡ now (out .entry))) ⌝ }
 {
     if ids.len() <= 1024 {
         let mut few = [0u8; TRACKED_LIMIT];

@@ -11,7 +11,8 @@ ghost use Rattle.model.specs.Lists.{idsIn, pairsFit, viewFits, continuationFits
 ghost use Rattle.model.specs.Calls as calls;
 ghost use Rattle.peers.specs.Peers.{listedPeer};
 ghost use Rattle.commands.specs.Sent.{sentBytes};
-ghost use Rattle.work.specs.Worked.{Tracked, Given, Performs};
+ghost use Rattle.work.specs.Worked.{Tracked, Given, Performs, Untouched};
+ghost use Rattle.peers.specs.declared.Listed.the-variants.{Nobody};
 ghost use Rattle.work_asks.specs.Carried.{announced, carriedBy};
 ghost use Rattle.model.specs.Layout.{areaSize, idListSize, idSize, mostBytes};
 use image::head::Head;
@@ -60,6 +61,7 @@ pub fn carry_out(
     requires { ⌜ (length (now ids) % idSize ≡ 0) × ((length (now ids) ≤ idListSize) × (continuationFits (now continuation) ≡ true)) ⌝ }
     requires { ⌜ (pairsFit (now stored) ≡ true) × ((viewFits (now view) ≡ true) × (areaSize ≤ length (now out))) ⌝ }
     ensures { λ r. ⌜ ((st : State) (c : calls.Call) → Given head (now (region .entry)) call (now (ids .entry)) (now (stored .entry)) (now (peers .entry)) (now (view .entry)) st c → c .continuation ≡ now (continuation .entry) → Performs 0 0 (carriedBy st c plan) (now (out .entry)) r (now (region .exit)) (now (out .exit))) ⌝ }
+    ensures { λ r. ⌜ (plan .announces ≡ Nobody → Untouched (plan .work) r (now (region .entry)) (now (region .exit)) (now (out .entry)) (now (out .exit))) ⌝ }
 {
     let announces = plan.announces;
     let work = plan.work;

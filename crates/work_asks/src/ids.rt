@@ -10,6 +10,7 @@ ghost use Rattle.model.specs.Calls as calls;
 ghost use Rattle.plan.specs.declared.Work.the-variants as works;
 ghost use Rattle.work.specs.Worked.{Tracked, Given, Performs, workedBy};
 ghost use Rattle.model.specs.Layout.{idListSize, idSize, mostBatches, mostBytes};
+ghost use Rattle.work.specs.declared.Performed.the-variants.{Full};
 use image::head::Head;
 use plan::Call;
 use work::Performed;
@@ -31,6 +32,7 @@ pub fn ids(
     requires { ⌜ pairsFit (now stored) ≡ true ⌝ }
     requires { ⌜ (at + mostBytes ≤ length (now out)) × (batch + mostBatches < 65536) ⌝ }
     ensures { λ r. ⌜ ((st : State) (c : calls.Call) (peers view : List ℕ) → Given head (now (region .entry)) call (now (ids .entry)) (now (stored .entry)) peers view st c → (downloaded : ℕ) → Performs at batch (workedBy st c downloaded (works.Ids peer)) (now (out .entry)) r (now (region .exit)) (now (out .exit))) ⌝ }
+    ensures { λ r. ⌜ (r ≡ Full → (now (region .exit) ≡ now (region .entry)) × (now (out .exit) ≡ now (out .entry))) ⌝ }
 {
     let before = crate::asks::unasked_counts(head.pending, head.evicted, at, batch);
     crate::asks::ask_list(region, before, call, call.typeid, peer, stored, ids, out)

@@ -9,7 +9,7 @@ ghost use lib.ListN.{length};
 ghost use Rattle.model.specs.State.{State};
 ghost use Rattle.model.specs.Lists.{pairsFit, viewFits};
 ghost use Rattle.model.specs.Calls as calls;
-ghost use Rattle.work.specs.Worked.{Tracked, Given, Performs, workedBy};
+ghost use Rattle.work.specs.Worked.{Tracked, Given, Performs, Untouched, workedBy};
 ghost use Rattle.model.specs.Layout.{idListSize, idSize, mostBatches, mostBytes};
 use image::head::Head;
 use plan::Call;
@@ -36,6 +36,7 @@ pub fn perform(
     requires { ⌜ (pairsFit (now stored) ≡ true) × (viewFits (now view) ≡ true) ⌝ }
     requires { ⌜ (at + mostBytes ≤ length (now out)) × (batch + mostBatches < 65536) ⌝ }
     ensures { λ r. ⌜ ((st : State) (c : calls.Call) → Given head (now (region .entry)) call (now (ids .entry)) (now (stored .entry)) (now (peers .entry)) (now (view .entry)) st c → Performs at batch (workedBy st c downloaded work) (now (out .entry)) r (now (region .exit)) (now (out .exit))) ⌝ }
+    ensures { λ r. ⌜ Untouched work r (now (region .entry)) (now (region .exit)) (now (out .entry)) (now (out .exit)) ⌝ }
 {
     match work {
         Work::Nothing => work::nothing(head, at, batch),

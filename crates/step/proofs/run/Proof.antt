@@ -1,23 +1,27 @@
 -- The plan follows the model's: `plan-follows`; 9 by `unseen`.
-use borrow.Author.Tests.{not-true, not-false}
+use lib.Dec.{ltb}
+use borrow.Author.Tests.{not-true, not-false, ltb-false}
 use Rattle.model.specs.Image.{decode}
 use Rattle.model.specs.Calls as calls
 use Rattle.plan.specs.declared.Plan.{Plan}
 use Rattle.plan.specs.Plans.{callOf, Follows}
 use Rattle.step.specs.Planned.{lists, Planned}
 use Rattle.step.proofs.StepLaws.{unseen}
-use Rattle.step.proofs.WorkLaws.{area-long, lists-whole, work-tracked, plan-ready, plan-follows}
+use Rattle.step.proofs.WorkLaws.{area-long, plan-ready, plan-follows}
 use borrow.Author.Needs.{needs}
 use native.Mathlib.Omega.{arith}
-use Prim.Native.Nat.{ℕ, _+_, _≤_}
+use Prim.Native.Nat.{ℕ}
 use mathlib.Core.Path.{_≡_, refl, sym, ap, _∙_}
-use mathlib.Core.Bool.{true}
+use mathlib.Core.Bool.{Bool, true, false, _||_, false≢true}
 use mathlib.Core.List.{List}
 use lib.ListN.{length}
 use Rattle.step.proofs.run.Statement.{statement}
 use Rattle.step.proofs.run.Tie as tie
-use Rattle.model.specs.Layout.{areaSize, idListSize}
-use Rattle.model.specs.Protocol.{trackedLimit}
+use Rattle.model.specs.Layout.{areaSize}
+
+neither : (a b : Bool) → a || b ≡ false → (a ≡ false) × (b ≡ false)
+neither true b h = absurd (false≢true (sym h))
+neither false b h = (refl, h)
 
 -- ---- the entry
 
@@ -34,21 +38,11 @@ module _ (s : tie.Start) where
   long : length area ≡ areaSize
   long = area-long (s .args .call) (s .args .ids .now) (s .args .continuation .now) (s .args .stored .now) (s .args .peers .now) (s .args .view .now) area commands (s .pre)
 
-  ids-few : length (s .args .ids .now) ≤ idListSize
-  ids-few = lists-whole (s .args .call) (s .args .ids .now) (s .args .continuation .now) (s .args .stored .now) (s .args .peers .now) (s .args .view .now) area commands (s .pre) .1 .0
-
 -- ---- the header read
 
 module _ (c : tie.After-read-head) where
   abbrev start : tie.Start
   start = search
-
-  held-few : c .read-head .result .pending + c .read-head .result .evicted ≤ trackedLimit
-  held-few =
-      let state : tie.After-slice-known = search in
-      let a = start .args in
-      work-tracked (a .call) (a .ids .now) (a .continuation .now) (a .stored .now) (a .peers .now) (a .view .now) (area start) (commands start) (start .pre)
-      (λ i. omega (arith, state .slice-known .given i)) (area start) (c .read-head .result) refl (c .read-head .ensures) .few
 
 -- ---- the step planned
 
@@ -104,11 +98,8 @@ returns c =
     ap (λ (x : calls.Answer). record { answer = x; state = area s; commands = commands s }) (c .refused .ensures)
     ∙ unseen (area s) (commands s) (call s) (plan k) (s .pre) (follows k) (not-true (plan k .seen) (c .before .if1 .taken))
 
-add-held : tie.Need-add-held
-add-held c = let h : tie.After-read-head = search in omega (arith, held-few h)
-
-may-overfill-requires : tie.Need-may-overfill-requires
-may-overfill-requires c κs = let h : tie.After-read-head = search in (held-few h, omega (arith, ids-few (start h)))
+works-on-copies-requires : tie.Need-works-on-copies-requires
+works-on-copies-requires c κs = search needs
 
 work-out-requires : tie.Need-work-out-requires
 work-out-requires c κs =
@@ -129,9 +120,12 @@ step-directly-requires : tie.Need-step-directly-requires
 step-directly-requires c κs =
     let k : tie.After-plan-step = search in
     let past : tie.Else1 = search in
-    let asked : tie.After-may-overfill = search in
-    let room : tie.Else2 = search in
-    (planned k (not-false (plan k .seen) (past .if1 .left)), sym (asked .may-overfill .ensures) ∙ room .if2 .left)
+    let asked : tie.After-works-on-copies = search in
+    let direct : tie.Else2 = search in
+    let both = neither (asked .works-on-copies .result) (ltb 256 (plan k .head .stalled)) (direct .if2 .left) in (
+      planned k (not-false (plan k .seen) (past .if1 .left)),
+      (sym (asked .works-on-copies .ensures) ∙ both .0, ltb-false 256 (plan k .head .stalled) (both .1)),
+    )
 
 same-length-4 : tie.Need-same-length-4
 same-length-4 c = search needs
@@ -154,8 +148,7 @@ run-spec =
     refused-requires
     same-length
     returns
-    add-held
-    may-overfill-requires
+    works-on-copies-requires
     work-out-requires
     same-length-2
     same-length-3

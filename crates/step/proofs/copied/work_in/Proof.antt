@@ -79,7 +79,7 @@ module _ (c : tie.After-carry-out) where
   its-work = workOf (area entry) (start entry .args .call) (lent entry) (start entry .args .plan)
 
   performs : Performs 0 0 its-work (out entry) (c .carry-out .result) (c .carry-out .last .0) (c .carry-out .last .1 .0)
-  performs = carried (entered entry) (copy entry) (out entry) (c .carry-out .ensures)
+  performs = carried (entered entry) (copy entry) (out entry) (c .carry-out .ensures .0)
 
   image-kept : length (putMid regionAt (length (image entry) - regionAt) (image entry) (c .carry-out .last .0)) ≡ length (image entry)
   image-kept = same-len-mid regionAt (length (image entry) - regionAt) (image entry) (c .carry-out .last .0) (c .carry-out .kept .0)

@@ -1,10 +1,14 @@
--- One list is one act: `list-asked`.
-use lib.Dec.{eqb}
-use Rattle.model.specs.Requests.{ask}
-use Rattle.model.specs.Lists.{idsIn, pairsIn}
-use Rattle.work_asks.proofs.AskedLaws.{list-asked}
-use borrow.Author.Needs.{needs}
+-- One list is one act: `list-asked`; where there is no room for it, all stays: `list-full`.
+use Prim.Native.Nat.{ℕ, _-_}
+use mathlib.Core.List.{List}
 use native.Mathlib.Omega.{arith}
+use lib.Dec.{eqb}
+use borrow.Author.Needs.{needs}
+use Rattle.model.specs.Protocol.{trackedLimit}
+use Rattle.model.specs.Requests.{Act, ask, perform}
+use Rattle.model.specs.Lists.{idsIn, pairsIn}
+use Rattle.commands.specs.Pending.{requestsIn}
+use Rattle.work_asks.proofs.AskedLaws.{list-asked, list-full}
 use Rattle.work_asks.proofs.asks.ask_list_with.Statement.{statement}
 use Rattle.work_asks.proofs.asks.ask_list_with.Tie as tie
 
@@ -12,7 +16,7 @@ sub-request-announced : tie.Need-sub-request-announced
 sub-request-announced c = search needs
 
 request-announced-requires : tie.Need-request-announced-requires
-request-announced-requires c κs = let s = c .before .before .before .before .before .before .before .before .before .before in (
+request-announced-requires c κs = let s : tie.Start = search in (
   (s .pre .0 .0, (s .pre .0 .1 .0, (omega (arith, s .pre .0), (omega arith, omega (arith, s .pre .0))))),
   (s .pre .1 .0, (s .pre .1 .1 .0, (s .pre .0 .1 .1 .0, s .pre .1 .1 .1))),
 )
@@ -30,10 +34,18 @@ same-length-3 : tie.Need-same-length-3
 same-length-3 c = search needs
 
 returns : tie.Need-returns
-returns c = let a = c .before .before .before .before .before .before .before .before .before .before .before .before .before .before .before .before .before .before .args in
-    let m = c .before .before .before .before .before .before .before .request-announced in
-    list-asked (eqb (a .call .gate) 1) (a .call .clock) (ask (a .typeid) (a .peer) (pairsIn (a .stored .now)) (idsIn (a .ids .now))) (a .before) (a .region .now) (a .out .now) (m .result) (c .answer .result) (m .last .0) (m .last .1 .1 .1 .1 .1 .1 .1 .1 .1 .1 .0)
-    (m .ensures .0) (c .answer .ensures) (m .ensures .1 .0) (m .ensures .1 .1)
+returns c = let s : tie.Start = search in
+    let m : tie.After-request-announced = search in
+    let a = s .args in
+    let said = m .request-announced in
+    let gate = eqb (a .call .gate) 1 in
+    let act : Act = ask (a .typeid) (a .peer) (pairsIn (a .stored .now)) (idsIn (a .ids .now)) in (
+      list-asked gate (a .call .clock) act (a .before) (a .region .now) (a .out .now) (said .result) (c .answer .result) _ _
+          (said .ensures .0) (c .answer .ensures) (said .ensures .1 .0) (said .ensures .1 .1),
+      list-full (trackedLimit - a .before .evicted) (a .before .at) (a .before .batch) (a .before .pending)
+          (perform gate (a .call .clock) act (requestsIn (a .before .pending) (a .region .now))) (a .before)
+          (said .ensures .0) (c .answer .ensures) (said .ensures .1 .0) (said .ensures .1 .1),
+    )
 
 pub ask-list-with-spec : {M : Type 1} → statement M
 ask-list-with-spec =

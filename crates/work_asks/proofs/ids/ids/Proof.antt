@@ -40,9 +40,11 @@ returns c = let s = c .before .before .before .before .before .before .before .b
     let fi : Bytes (a .ids .now) = λ i. omega (arith, c .before .before .before .before .before .before .before .before .before .before .shared-slice-known .given i) in
     let k : a .call .clock < 2 ^ 64 = omega (arith, s .good .1 .1 .0) in
     let ht : a .call .typeid < 2 ^ 8 = omega (arith, s .good .1 .1 .0) in
-    let hp : a .peer < 2 ^ 64 = omega (arith, s .fits) in
-    λ st call peers view g downloaded.
-    asks-ids (a .head) (a .call) (a .region .now) (a .ids .now) (a .stored .now) peers view st call g (s .pre .0) f k (a .at) (a .batch) downloaded (a .peer) hp (a .out .now) (s .pre .1 .1 .1 .0) (m .result) (m .last .0) (m .last .1 .1 .1 .1 .1 .1 .1 .0) (u .result) ht fi (s .pre .1 .0 .1) (u .ensures) (m .ensures)
+    let hp : a .peer < 2 ^ 64 = omega (arith, s .fits) in (
+      λ st call peers view g downloaded.
+          asks-ids (a .head) (a .call) (a .region .now) (a .ids .now) (a .stored .now) peers view st call g (s .pre .0) f k (a .at) (a .batch) downloaded (a .peer) hp (a .out .now) (s .pre .1 .1 .1 .0) (m .result) (m .last .0) (m .last .1 .1 .1 .1 .1 .1 .1 .0) (u .result) ht fi (s .pre .1 .0 .1) (u .ensures) (m .ensures .0),
+      m .ensures .1,
+    )
 
 pub ids-spec : {M : Type 1} → statement M
 ids-spec =

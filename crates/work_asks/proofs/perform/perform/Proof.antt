@@ -1,7 +1,8 @@
 -- Each arm is the function of its work: `as-work`.
+use mathlib.Core.Path.{refl}
 use borrow.Author.Needs.{needs}
 use Rattle.work.proofs.WorkedLaws.{clock-given}
-use Rattle.work_asks.proofs.WorkLaws.{as-work}
+use Rattle.work_asks.proofs.WorkLaws.{as-work, several}
 use Rattle.work_asks.proofs.perform.perform.Statement.{statement}
 use Rattle.work_asks.proofs.perform.perform.Tie as tie
 
@@ -15,7 +16,7 @@ enum-known-work : tie.Need-enum-known-work
 enum-known-work c = search needs
 
 ids-requires : tie.Need-ids-requires
-ids-requires c κs = let s = c .before .before .before .before .before .before .before .before .before .before .before in (s .pre .0, (s .pre .1 .0, (s .pre .1 .1 .0 .0, s .pre .1 .1 .1)))
+ids-requires c κs = let s : tie.Start = search in (s .pre .0, (s .pre .1 .0, (s .pre .1 .1 .0 .0, s .pre .1 .1 .1)))
 
 enum-known-work-2 : tie.Need-enum-known-work-2
 enum-known-work-2 c = search needs
@@ -72,11 +73,15 @@ check-fresh-requires : tie.Need-check-fresh-requires
 check-fresh-requires c κs = search needs
 
 returns : tie.Need-returns
-returns c = let s = c .before .before .before .before .before .before .before .before .before in
-    let a = s .args in
-    λ st call g.
-    as-work st call (a .downloaded) (c .before .enum-told .given .1)
-    (c .nothing .ensures st call (a .region .now) (a .ids .now) (a .stored .now) (a .peers .now) (a .view .now) (a .out .now) (a .call) (rw (clock-given (a .head) (a .call) (a .region .now) (a .ids .now) (a .stored .now) (a .peers .now) (a .view .now) st call g) (s .pre .0)) g (a .downloaded))
+returns c = let s : tie.Start = search in
+    let told : tie.After-enum-told = search in
+    let did : tie.After-nothing = search in
+    let a = s .args in (
+      λ st call g. as-work st call (a .downloaded) (told .enum-told .given .1)
+          (did .nothing .ensures st call (a .region .now) (a .ids .now) (a .stored .now) (a .peers .now) (a .view .now) (a .out .now) (a .call)
+          (rw (clock-given (a .head) (a .call) (a .region .now) (a .ids .now) (a .stored .now) (a .peers .now) (a .view .now) st call g) (s .pre .0)) g (a .downloaded)),
+      several (told .enum-told .given .1) refl,
+    )
 
 same-length : tie.Need-same-length
 same-length c = search needs
@@ -85,7 +90,14 @@ same-length-2 : tie.Need-same-length-2
 same-length-2 c = search needs
 
 returns-2 : tie.Need-returns-2
-returns-2 c = let s = c .before .before .before .before .before .before .before .before .before .before .before .before .before .before .before .before in let a = s .args in λ st call g. as-work st call (a .downloaded) (c .before .before .before .before .before .before .before .before .work .given .1) (c .before .before .before .before .ids .ensures st call (a .peers .now) (a .view .now) g (a .downloaded))
+returns-2 c = let s : tie.Start = search in
+    let told : tie.After-work = search in
+    let did : tie.After-ids = search in
+    let a = s .args in (
+      λ st call g. as-work st call (a .downloaded) (told .work .given .1)
+          (did .ids .ensures .0 st call (a .peers .now) (a .view .now) g (a .downloaded)),
+      λ one full. did .ids .ensures .1 full,
+    )
 
 same-length-3 : tie.Need-same-length-3
 same-length-3 c = search needs
@@ -94,25 +106,53 @@ same-length-4 : tie.Need-same-length-4
 same-length-4 c = search needs
 
 returns-3 : tie.Need-returns-3
-returns-3 c = let s = c .before .before .before .before .before .before .before .before .before .before .before .before .before .before .before .before in let a = s .args in λ st call g. as-work st call (a .downloaded) (c .before .before .before .before .before .before .before .before .work2 .given .1) (c .before .before .before .before .sections .ensures st call (a .ids .now) (a .stored .now) (a .peers .now) g)
+returns-3 c = let s : tie.Start = search in
+    let told : tie.After-work2 = search in
+    let did : tie.After-sections = search in
+    let a = s .args in (
+      λ st call g. as-work st call (a .downloaded) (told .work2 .given .1)
+          (did .sections .ensures st call (a .ids .now) (a .stored .now) (a .peers .now) g),
+      several (told .work2 .given .1) refl,
+    )
 
 same-length-5 : tie.Need-same-length-5
 same-length-5 c = search needs
 
 returns-4 : tie.Need-returns-4
-returns-4 c = let s = c .before .before .before .before .before .before .before .before .before .before .before .before in let a = s .args in λ st call g. as-work st call (a .downloaded) (c .before .before .before .before .enum-told2 .given .1) (c .before .before .received .ensures st call (a .stored .now) (a .peers .now) (a .view .now) (a .out .now) g (a .downloaded))
+returns-4 c = let s : tie.Start = search in
+    let told : tie.After-enum-told2 = search in
+    let did : tie.After-received = search in
+    let a = s .args in (
+      λ st call g. as-work st call (a .downloaded) (told .enum-told2 .given .1)
+          (did .received .ensures st call (a .stored .now) (a .peers .now) (a .view .now) (a .out .now) g (a .downloaded)),
+      several (told .enum-told2 .given .1) refl,
+    )
 
 same-length-6 : tie.Need-same-length-6
 same-length-6 c = search needs
 
 returns-5 : tie.Need-returns-5
-returns-5 c = let s = c .before .before .before .before .before .before .before .before .before .before .before .before in let a = s .args in λ st call g. as-work st call (a .downloaded) (c .before .before .before .before .enum-told3 .given .1) (c .before .before .evicted .ensures st call (a .stored .now) (a .peers .now) (a .view .now) (a .out .now) g (a .downloaded))
+returns-5 c = let s : tie.Start = search in
+    let told : tie.After-enum-told3 = search in
+    let did : tie.After-evicted = search in
+    let a = s .args in (
+      λ st call g. as-work st call (a .downloaded) (told .enum-told3 .given .1)
+          (did .evicted .ensures .0 st call (a .stored .now) (a .peers .now) (a .view .now) (a .out .now) g (a .downloaded)),
+      λ one full. (did .evicted .ensures .1 full, refl),
+    )
 
 same-length-7 : tie.Need-same-length-7
 same-length-7 c = search needs
 
 returns-6 : tie.Need-returns-6
-returns-6 c = let s = c .before .before .before .before .before .before .before .before .before .before .before .before in let a = s .args in λ st call g. as-work st call (a .downloaded) (c .before .before .before .before .enum-told4 .given .1) (c .before .before .purge .ensures st call (a .ids .now) (a .stored .now) (a .peers .now) (a .view .now) (a .out .now) g (a .downloaded))
+returns-6 c = let s : tie.Start = search in
+    let told : tie.After-enum-told4 = search in
+    let did : tie.After-purge = search in
+    let a = s .args in (
+      λ st call g. as-work st call (a .downloaded) (told .enum-told4 .given .1)
+          (did .purge .ensures st call (a .ids .now) (a .stored .now) (a .peers .now) (a .view .now) (a .out .now) g (a .downloaded)),
+      several (told .enum-told4 .given .1) refl,
+    )
 
 same-length-8 : tie.Need-same-length-8
 same-length-8 c = search needs
@@ -121,13 +161,27 @@ same-length-9 : tie.Need-same-length-9
 same-length-9 c = search needs
 
 returns-7 : tie.Need-returns-7
-returns-7 c = let s = c .before .before .before .before .before .before .before .before .before .before .before .before .before .before .before .before in let a = s .args in λ st call g. as-work st call (a .downloaded) (c .before .before .before .before .before .before .before .before .work3 .given .1) (c .before .before .before .before .purge-sections .ensures st call (a .ids .now) (a .stored .now) (a .peers .now) g)
+returns-7 c = let s : tie.Start = search in
+    let told : tie.After-work3 = search in
+    let did : tie.After-purge-sections = search in
+    let a = s .args in (
+      λ st call g. as-work st call (a .downloaded) (told .work3 .given .1)
+          (did .purge-sections .ensures st call (a .ids .now) (a .stored .now) (a .peers .now) g),
+      several (told .work3 .given .1) refl,
+    )
 
 same-length-10 : tie.Need-same-length-10
 same-length-10 c = search needs
 
 returns-8 : tie.Need-returns-8
-returns-8 c = let s = c .before .before .before .before .before .before .before .before .before .before .before .before in let a = s .args in λ st call g. as-work st call (a .downloaded) (c .before .before .before .before .enum-told5 .given .1) (c .before .before .lose .ensures st call (a .ids .now) (a .stored .now) (a .peers .now) (a .view .now) (a .out .now) g (a .downloaded))
+returns-8 c = let s : tie.Start = search in
+    let told : tie.After-enum-told5 = search in
+    let did : tie.After-lose = search in
+    let a = s .args in (
+      λ st call g. as-work st call (a .downloaded) (told .enum-told5 .given .1)
+          (did .lose .ensures st call (a .ids .now) (a .stored .now) (a .peers .now) (a .view .now) (a .out .now) g (a .downloaded)),
+      several (told .enum-told5 .given .1) refl,
+    )
 
 same-length-11 : tie.Need-same-length-11
 same-length-11 c = search needs
@@ -136,7 +190,14 @@ same-length-12 : tie.Need-same-length-12
 same-length-12 c = search needs
 
 returns-9 : tie.Need-returns-9
-returns-9 c = let s = c .before .before .before .before .before .before .before .before .before .before .before .before .before .before .before .before in let a = s .args in λ st call g. as-work st call (a .downloaded) (c .before .before .before .before .before .before .before .before .work4 .given .1) (c .before .before .before .before .lose-ask .ensures st call (a .ids .now) (a .peers .now) (a .view .now) g (a .downloaded))
+returns-9 c = let s : tie.Start = search in
+    let told : tie.After-work4 = search in
+    let did : tie.After-lose-ask = search in
+    let a = s .args in (
+      λ st call g. as-work st call (a .downloaded) (told .work4 .given .1)
+          (did .lose-ask .ensures st call (a .ids .now) (a .peers .now) (a .view .now) g (a .downloaded)),
+      several (told .work4 .given .1) refl,
+    )
 
 same-length-13 : tie.Need-same-length-13
 same-length-13 c = search needs
@@ -145,7 +206,14 @@ same-length-14 : tie.Need-same-length-14
 same-length-14 c = search needs
 
 returns-10 : tie.Need-returns-10
-returns-10 c = let s = c .before .before .before .before .before .before .before .before .before .before .before .before .before .before .before in let a = s .args in λ st call g. as-work st call (a .downloaded) (c .before .before .before .before .before .before .before .enum-told6 .given .1) (c .before .before .before .before .check .ensures st call (a .ids .now) (a .stored .now) (a .view .now) g (a .downloaded))
+returns-10 c = let s : tie.Start = search in
+    let told : tie.After-enum-told6 = search in
+    let did : tie.After-check = search in
+    let a = s .args in (
+      λ st call g. as-work st call (a .downloaded) (told .enum-told6 .given .1)
+          (did .check .ensures st call (a .ids .now) (a .stored .now) (a .view .now) g (a .downloaded)),
+      several (told .enum-told6 .given .1) refl,
+    )
 
 same-length-15 : tie.Need-same-length-15
 same-length-15 c = search needs
@@ -154,7 +222,14 @@ same-length-16 : tie.Need-same-length-16
 same-length-16 c = search needs
 
 returns-11 : tie.Need-returns-11
-returns-11 c = let s = c .before .before .before .before .before .before .before .before .before .before .before .before .before .before .before .before in let a = s .args in λ st call g. as-work st call (a .downloaded) (c .before .before .before .before .before .before .before .before .work5 .given .1) (c .before .before .before .before .check-fresh .ensures st call (a .ids .now) (a .view .now) g (a .downloaded))
+returns-11 c = let s : tie.Start = search in
+    let told : tie.After-work5 = search in
+    let did : tie.After-check-fresh = search in
+    let a = s .args in (
+      λ st call g. as-work st call (a .downloaded) (told .work5 .given .1)
+          (did .check-fresh .ensures st call (a .ids .now) (a .view .now) g (a .downloaded)),
+      several (told .work5 .given .1) refl,
+    )
 
 pub perform-spec : {M : Type 1} → statement M
 perform-spec =
