@@ -21,6 +21,7 @@ use model::layout::RECORD_SIZE;
 use model::layout::REGION_AT;
 use settings::Settings;
 
+// Whether the pending ids rise.
 fn ids_rise(area: &[u8]) -> bool
     requires { ⌜ length (now area) ≡ areaSize ⌝ }
     requires { ⌜ image.pendingCount (now area) ≤ trackedLimit ⌝ }
@@ -64,6 +65,7 @@ fn records_fit(region: &[u8], count: usize, settings: Settings, clock: u64) -> b
     true
 }
 
+// Whether every pending record of the area fits.
 fn pending_fits(area: &[u8]) -> bool
     requires { ⌜ length (now area) ≡ areaSize ⌝ }
     requires { ⌜ image.pendingCount (now area) ≤ trackedLimit ⌝ }

@@ -1,6 +1,7 @@
 // The question: the pairs of type and id that a check or a lost peer may read, strictly rising.
 //
-// n pairs cost n log n comparisons. The area is read only.
+// Equal to `questionPairs` of model/specs/Calls.antt. The state area is read only, and of the command area the pairs' bytes
+// are written. n pairs cost n log n comparisons.
 pub mod rising;
 
 ghost use mathlib.Core.Path.{_≡_};

@@ -23,7 +23,7 @@ fn room() -> [u8; 65536]
     [0u8; 65536]
 }
 
-// The plan carried out on a copy of the state area and on room for commands.
+// The same as `work_out`, with room to work in: `image`, a copy of the state area, and `out` for commands.
 fn work_in(
     state: &mut [u8],
     commands: &mut [u8],

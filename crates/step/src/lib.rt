@@ -1,8 +1,9 @@
 // A step on bytes: its plan, carried out on the areas themselves or, where it may still be refused as 10, on copies. It is
 // refused as 9, 10 or 11 with both areas as they were.
 //
-// It costs the records and rows that its rules read and the bytes that it writes; where it may still be refused as 10,
-// also a copy of the state area and one back.
+// `run` equals `step` of model/specs/Calls.antt for every call that none of 1 to 8 refuses. It costs the records and rows
+// that its rules read and the bytes that it writes; where it may still be refused as 10, also a copy of the state area and
+// one back.
 pub mod copied;
 pub mod direct;
 pub mod finish;
