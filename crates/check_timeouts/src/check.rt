@@ -55,6 +55,7 @@ pub fn retry_aim(peers: &[u8], gate: bool) -> Aim
     }
 }
 
+// Where a retry of what this peer failed goes.
 fn target(aim: Aim, failed: u64) -> u64
     ensures { λ r. ⌜ r ≡ aimedAt aim failed ⌝ }
 {

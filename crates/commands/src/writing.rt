@@ -10,6 +10,7 @@ ghost use Rattle.model.specs.Lists.{idsIn};
 ghost use Rattle.model.specs.Layout.{idListSize, idSize};
 use model::layout::ID_SIZE;
 
+// The first two bytes of a command.
 fn put_kind(out: &mut [u8], at: usize, kind: u8, typeid: u8)
     requires { ⌜ at + 2 ≤ length (now out) ⌝ }
     ensures { λ _. ⌜ now (out .exit) ≡ overwritten at (kind ∷ typeid ∷ []) (now (out .entry)) ⌝ }

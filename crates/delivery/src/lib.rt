@@ -1,8 +1,9 @@
-// delivery.rs on the region of a scratch image: pending records, ids rising, at its low end, evicted ids at its high end.
+// delivery.rs on the region of an image, be it the state area's own or a copy's: pending records, ids rising, at its low
+// end, evicted ids at its high end.
 //
-// A list of n ids costs n log n comparisons and one pass over the table. What is removed is zero again. Each function
-// equals the definition of its name in model/specs/Delivery.antt; check_timeouts and mark_retried stand in
-// delivery_check, what concerns a peer in purge and orphans.
+// Received, evicted, purged and orphaned ids: each function equals the definition of its name in model/specs/Delivery.antt.
+// mark_requested and check_timeouts are crates of their own. Only the region is written, and what is removed is zero again.
+// A list of n ids costs n log n comparisons and one pass over the table.
 pub mod evict;
 mod marks;
 pub mod orphans;

@@ -1,4 +1,4 @@
-// purge_peer and purge_all of delivery.rs, on the region of a scratch image. What is removed is zero again.
+// purge_peer and purge_all of delivery.rs, on the region of an image. What is removed is zero again.
 ghost use mathlib.Core.Path.{_≡_};
 ghost use mathlib.Core.Bool.{cond};
 ghost use mathlib.Core.List.{List, map};
@@ -40,6 +40,7 @@ fn mark_others(table: &[u8], count: usize, peer: u64, marks: &mut [u8])
     }
 }
 
+// The same for all records of a table.
 fn marks_of_others(table: &[u8], count: usize, peer: u64) -> [u8; TRACKED_LIMIT]
     requires { ⌜ (count ≤ trackedLimit) × (count * recordSize ≤ length (now table)) ⌝ }
     ensures { λ r. ⌜ marked r (entries recordSize count (now (table .entry))) ≡ kept (ofOther peer) (entries recordSize count (now (table .entry))) ⌝ }

@@ -1,13 +1,15 @@
 // Numbers of 1 to 8 bytes in a byte slice, the high byte first.
 //
-// The crate's specs/ also hold what every other crate shares: the order of byte lists, tables of entries of any width,
-// filters and the plain sort. Reading and writing cost one load or store where the width is known.
+// Reading equals `fromBe`, writing is `overwritten` with `toBe`. The crate's specs/ also hold what every other crate
+// shares: the order of byte lists, tables of entries of any width, filters and the plain sort. A write touches its own
+// bytes of the slice that it is lent. Either costs one load or store where the width is known.
 ghost use mathlib.Core.Path.{_≡_};
 ghost use Prim.Native.Nat.{_+_, _*_, _^_, _≤_, _<_};
 ghost use lib.ListN.{length, take, drop};
 ghost use Rattle.fields.specs.Number.{fromBe, toBe, toLe};
 ghost use Rattle.fields.specs.Overwrite.{overwritten};
 
+// A byte as a number of 64 bits.
 fn wide(x: u8) -> u64
     ensures { λ r. ⌜ (r ≡ x) × (r < 256) ⌝ }
 {
@@ -51,6 +53,7 @@ fn pair(s: &[u8], at: usize) -> u64
     wide(s[at]) * 256 + wide(s[at + 1])
 }
 
+// The number in 2 bytes.
 pub fn read_u16(s: &[u8], at: usize) -> u16
     requires { ⌜ at + 2 ≤ length (now s) ⌝ }
     ensures { λ r. ⌜ r ≡ fromBe (take 2 (drop at (now (s .entry)))) ⌝ }
@@ -58,6 +61,7 @@ pub fn read_u16(s: &[u8], at: usize) -> u16
     pair(s, at) as u16
 }
 
+// The number in 4 bytes.
 pub fn read_u32(s: &[u8], at: usize) -> u32
     requires { ⌜ at + 4 ≤ length (now s) ⌝ }
     ensures { λ r. ⌜ r ≡ fromBe (take 4 (drop at (now (s .entry)))) ⌝ }
@@ -115,6 +119,7 @@ fn turned(n: u64) -> u64
     high
 }
 
+// The number in 8 bytes.
 pub fn read_u64(s: &[u8], at: usize) -> u64
     requires { ⌜ at + 8 ≤ length (now s) ⌝ }
     ensures { λ r. ⌜ r ≡ fromBe (take 8 (drop at (now (s .entry)))) ⌝ }
@@ -122,6 +127,7 @@ pub fn read_u64(s: &[u8], at: usize) -> u64
     turned(read_low_first(s, at))
 }
 
+// A number in 2 bytes.
 pub fn write_u16(s: &mut [u8], at: usize, n: u16)
     requires { ⌜ at + 2 ≤ length (now s) ⌝ }
     ensures { λ _. ⌜ now (s .exit) ≡ overwritten at (toBe 2 n) (now (s .entry)) ⌝ }
@@ -129,6 +135,7 @@ pub fn write_u16(s: &mut [u8], at: usize, n: u16)
     write(s, at, 2, n as u64)
 }
 
+// A number in 4 bytes.
 pub fn write_u32(s: &mut [u8], at: usize, n: u32)
     requires { ⌜ at + 4 ≤ length (now s) ⌝ }
     ensures { λ _. ⌜ now (s .exit) ≡ overwritten at (toBe 4 n) (now (s .entry)) ⌝ }
@@ -136,6 +143,7 @@ pub fn write_u32(s: &mut [u8], at: usize, n: u32)
     write(s, at, 4, n as u64)
 }
 
+// A number in 8 bytes.
 pub fn write_u64(s: &mut [u8], at: usize, n: u64)
     requires { ⌜ at + 8 ≤ length (now s) ⌝ }
     ensures { λ _. ⌜ now (s .exit) ≡ overwritten at (toBe 8 n) (now (s .entry)) ⌝ }

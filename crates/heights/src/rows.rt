@@ -12,6 +12,7 @@ ghost use Rattle.model.specs.Layout.{rowSize};
 use model::layout::PLACE_SIZE;
 use model::layout::ROW_SIZE;
 
+// The height of the first row.
 pub fn first_height(view: &[u8]) -> u32
     requires { ⌜ 4 ≤ length (now view) ⌝ }
     ensures { λ r. ⌜ r ≡ firstHeight (now (view .entry)) ⌝ }
@@ -19,6 +20,7 @@ pub fn first_height(view: &[u8]) -> u32
     fields::read_u32(view, 0)
 }
 
+// How many heights have a row.
 pub fn row_count(view: &[u8]) -> usize
     requires { ⌜ 4 ≤ length (now view) ⌝ }
     ensures { λ r. ⌜ r ≡ rowCount (now (view .entry)) ⌝ }
@@ -44,6 +46,7 @@ pub fn count_at(view: &[u8], i: usize) -> usize
     view[i * ROW_SIZE + 4] as usize
 }
 
+// Whether row i says that the header is absent.
 pub fn is_absent(view: &[u8], i: usize) -> bool
     requires { ⌜ i * rowSize + 107 ≤ length (now view) ⌝ }
     ensures { λ r. ⌜ r ≡ isAbsent (headerOf (rowAt i (now (view .entry)))) ⌝ }

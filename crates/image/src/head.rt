@@ -31,6 +31,7 @@ pub fn count_at(area: &[u8], at: usize) -> usize
     fields::read_u16(area, at) as usize
 }
 
+// The four settings.
 pub fn read_settings(area: &[u8]) -> Settings
     requires { ⌜ 74 ≤ length (now area) ⌝ }
     ensures { λ r. ⌜ r ≡ headIn (now (area .entry)) .settings ⌝ }
@@ -43,6 +44,7 @@ pub fn read_settings(area: &[u8]) -> Settings
     }
 }
 
+// Last send and sends counted.
 fn read_send_clock(area: &[u8]) -> SendClock
     requires { ⌜ 74 ≤ length (now area) ⌝ }
     ensures { λ r. ⌜ r ≡ headIn (now (area .entry)) .send ⌝ }
@@ -53,6 +55,7 @@ fn read_send_clock(area: &[u8]) -> SendClock
     }
 }
 
+// The whole header.
 pub fn read_head(area: &[u8]) -> Head
     requires { ⌜ 74 ≤ length (now area) ⌝ }
     ensures { λ r. ⌜ r ≡ headIn (now (area .entry)) ⌝ }

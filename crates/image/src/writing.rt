@@ -12,6 +12,7 @@ ghost use Rattle.image.specs.Heads.{headBytes};
 use crate::head::Head;
 use settings::Settings;
 
+// A mark as its byte.
 fn mark(on: bool) -> u8
     ensures { λ r. ⌜ r ≡ bit on ⌝ }
 {
@@ -21,7 +22,7 @@ fn mark(on: bool) -> u8
     0
 }
 
-// The header's parts, one function each, so that each is a write of one run of bytes.
+// Mark, version, mode and the two marks. The header's parts have a function each, so that each is a write of one run of bytes.
 fn write_start(area: &mut [u8], mode: u8, used: bool, sent: bool)
     requires { ⌜ 74 ≤ length (now area) ⌝ }
     ensures { λ _. ⌜ now (area .exit) ≡ overwritten 0 (69 ∷ 68 ∷ 84 ∷ 0 ∷ 1 ∷ mode ∷ bit used ∷ bit sent ∷ []) (now (area .entry)) ⌝ }
@@ -36,6 +37,7 @@ fn write_start(area: &mut [u8], mode: u8, used: bool, sent: bool)
     area[7] = mark(sent);
 }
 
+// The four settings.
 fn write_settings(area: &mut [u8], settings: Settings)
     requires { ⌜ 74 ≤ length (now area) ⌝ }
     ensures { λ _. ⌜ now (area .exit) ≡ overwritten 16 (toBe 4 (settings .timeout) ++ (toBe 4 (settings .checks) ++ (toBe 4 (settings .interval) ++ toBe 4 (settings .stall)))) (now (area .entry)) ⌝ }
@@ -46,6 +48,7 @@ fn write_settings(area: &mut [u8], settings: Settings)
     fields::write_u32(area, 28, settings.stall);
 }
 
+// Last progress, last send and sync peer.
 fn write_syncing(area: &mut [u8], progress: u64, send: u64, peer: u64)
     requires { ⌜ 74 ≤ length (now area) ⌝ }
     ensures { λ _. ⌜ now (area .exit) ≡ overwritten 32 (toBe 8 progress ++ (toBe 8 send ++ toBe 8 peer)) (now (area .entry)) ⌝ }
@@ -55,6 +58,7 @@ fn write_syncing(area: &mut [u8], progress: u64, send: u64, peer: u64)
     fields::write_u64(area, 48, peer);
 }
 
+// Sends counted, downloaded height and known tip.
 fn write_heights(area: &mut [u8], sends: u32, downloaded: u32, tip: u32)
     requires { ⌜ 74 ≤ length (now area) ⌝ }
     ensures { λ _. ⌜ now (area .exit) ≡ overwritten 56 (toBe 4 sends ++ (toBe 4 downloaded ++ toBe 4 tip)) (now (area .entry)) ⌝ }
@@ -64,6 +68,7 @@ fn write_heights(area: &mut [u8], sends: u32, downloaded: u32, tip: u32)
     fields::write_u32(area, 64, tip);
 }
 
+// How many are stalled, pending and evicted.
 fn write_counts(area: &mut [u8], stalled: usize, pending: usize, evicted: usize)
     requires { ⌜ 74 ≤ length (now area) ⌝ }
     ensures { λ _. ⌜ now (area .exit) ≡ overwritten 68 (toBe 2 stalled ++ (toBe 2 pending ++ toBe 2 evicted)) (now (area .entry)) ⌝ }
@@ -73,6 +78,7 @@ fn write_counts(area: &mut [u8], stalled: usize, pending: usize, evicted: usize)
     fields::write(area, 72, 2, evicted as u64);
 }
 
+// The whole header.
 pub fn write_head(area: &mut [u8], head: Head)
     requires { ⌜ 74 ≤ length (now area) ⌝ }
     ensures { λ _. ⌜ now (area .exit) ≡ overwritten 0 (headBytes head) (now (area .entry)) ⌝ }

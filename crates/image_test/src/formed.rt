@@ -20,14 +20,16 @@ use model::layout::ID_SIZE;
 use model::layout::RECORD_SIZE;
 use model::layout::REGION_AT;
 use settings::Settings;
+use model::layout::STALLED_AT;
 
+// Whether the pending ids rise.
 fn ids_rise(area: &[u8]) -> bool
     requires { ⌜ length (now area) ≡ areaSize ⌝ }
     requires { ⌜ image.pendingCount (now area) ≤ trackedLimit ⌝ }
     ensures { λ r. ⌜ r ≡ rising idSize (entries recordSize (image.pendingCount (now (area .entry))) (drop regionAt (now (area .entry)))) ⌝ }
 {
     let pending = image::head::count_at(area, 70);
-    keys::rising::is_rising(&area[2560..], RECORD_SIZE, pending, 32)
+    keys::rising::is_rising(&area[REGION_AT..], RECORD_SIZE, pending, ID_SIZE)
 }
 
 // Stamp and checks of record i, and the high byte of its type. In branches, since they nearly always go the same way: 16
@@ -64,6 +66,7 @@ fn records_fit(region: &[u8], count: usize, settings: Settings, clock: u64) -> b
     true
 }
 
+// Whether every pending record of the area fits.
 fn pending_fits(area: &[u8]) -> bool
     requires { ⌜ length (now area) ≡ areaSize ⌝ }
     requires { ⌜ image.pendingCount (now area) ≤ trackedLimit ⌝ }
@@ -72,7 +75,7 @@ fn pending_fits(area: &[u8]) -> bool
     let clock = fields::read_u64(area, 8);
     let pending = image::head::count_at(area, 70);
     let settings = image::head::read_settings(area);
-    records_fit(&area[2560..], pending, settings, clock)
+    records_fit(&area[REGION_AT..], pending, settings, clock)
 }
 
 // The room of version 1, the stalled places beyond the count, the region between pending and evicted.
@@ -82,7 +85,7 @@ fn room_is_zero(area: &[u8]) -> bool
     requires { ⌜ image.pendingCount (now area) + image.evictedCount (now area) ≤ trackedLimit ⌝ }
     ensures { λ r. ⌜ r ≡ allZero (take 438 (drop 74 (now (area .entry)))) && (allZero (take ((256 - image.stalledCount (now (area .entry))) * 8) (drop (512 + image.stalledCount (now (area .entry)) * 8) (now (area .entry)))) && allZero (take (regionSize - image.pendingCount (now (area .entry)) * recordSize - image.evictedCount (now (area .entry)) * idSize) (drop (regionAt + image.pendingCount (now (area .entry)) * recordSize) (now (area .entry))))) ⌝ }
 {
-    let stalled = 512 + image::head::count_at(area, 68) * 8;
+    let stalled = STALLED_AT + image::head::count_at(area, 68) * 8;
     let pending = REGION_AT + image::head::count_at(area, 70) * RECORD_SIZE;
     let evicted = 65536 - image::head::count_at(area, 72) * ID_SIZE;
     let header = spans::copying::is_zero(&area[74..512]);

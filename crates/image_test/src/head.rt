@@ -32,6 +32,7 @@ fn most_mark(mode: u8) -> u8
     0
 }
 
+// Whether both marks are 0 or 1, and 0 outside syncing.
 fn marks_fit(area: &[u8]) -> bool
     requires { ⌜ 74 ≤ length (now area) ⌝ }
     ensures { λ r. ⌜ r ≡ image.marksFit (now (area .entry)) ⌝ }
@@ -40,6 +41,7 @@ fn marks_fit(area: &[u8]) -> bool
     (area[6] <= most) & (area[7] <= most)
 }
 
+// Whether the tables have room for as many as the counts say.
 fn counts_fit(area: &[u8]) -> bool
     requires { ⌜ 74 ≤ length (now area) ⌝ }
     ensures { λ r. ⌜ r ≡ image.countsFit (now (area .entry)) ⌝ }
@@ -50,6 +52,7 @@ fn counts_fit(area: &[u8]) -> bool
     (stalled <= 256) & (pending + evicted <= 1024)
 }
 
+// Whether last progress and last send are not after the last clock.
 fn clocks_fit(area: &[u8]) -> bool
     requires { ⌜ 74 ≤ length (now area) ⌝ }
     ensures { λ r. ⌜ r ≡ image.clocksFit (now (area .entry)) ⌝ }

@@ -13,6 +13,8 @@ ghost use Rattle.model.specs.Image.{noneTwice};
 ghost use Rattle.peers.specs.Stalled.{elements};
 ghost use Rattle.image_test.specs.Flags.{Flagged};
 ghost use Rattle.model.specs.Layout.{areaSize};
+use model::layout::STALLED_AT;
+use model::layout::REGION_AT;
 
 // Whether a peer is among those from `from` on. No early exit: many are compared at a time.
 fn is_listed_from(peers: &[u64; 256], from: usize, count: usize, peer: u64) -> bool
@@ -68,7 +70,7 @@ pub fn stalled_once(area: &[u8]) -> bool
     if count < 2 {
         return true;
     }
-    let stalled = peers::stalled::read_stalled(&area[512..2560], count);
+    let stalled = peers::stalled::read_stalled(&area[STALLED_AT..REGION_AT], count);
     let peers = stalled.peers;
     is_none_twice(&peers, count)
 }

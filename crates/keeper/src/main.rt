@@ -1,7 +1,7 @@
 // Program `keeper` of document 01: a row of clock, retried, fresh, abandoned, forgotten and pending for each check.
 //
-// What it prints is said and proved in the crate printing; here it is read and written in pieces. A line of 1,536 bytes or
-// more is "any other line".
+// What it prints is said and proved in keeper_text; here it is read and written in pieces, by standard input and output alone.
+// A line of 1,536 bytes or more is "any other line".
 ghost use mathlib.Core.Path.{_≡_};
 ghost use mathlib.Core.Bool.{true};
 ghost use Prim.Native.Nat.{_+_, _*_, _≤_, _<_};
@@ -85,6 +85,7 @@ fn answer_all(table: &mut [u8], text: &mut [u8], out: &mut [u8])
     }
 }
 
+// All of the input, with the table and both buffers made here.
 fn main() {
     let mut table = io::large_buffer();
     let mut text = [0u8; 1536];

@@ -26,6 +26,7 @@ fn case(text: &[u8]) {
     }
 }
 
+// All cases, each from its `%` to the next.
 fn cases(text: &[u8]) {
     let mut from = bytes::scan::find(text, 0, text.len(), b'%');
     while from < text.len() {
@@ -36,6 +37,7 @@ fn cases(text: &[u8]) {
     }
 }
 
+// The list from standard input.
 fn main() {
     let mut text = io::large_buffer();
     let size = io::read_full(0, &mut text);

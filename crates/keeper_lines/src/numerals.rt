@@ -11,6 +11,7 @@ pub enum Number {
     Nothing,
 }
 
+// A byte as a number of 64 bits.
 fn wide(x: u8) -> u64
     ensures { λ r. ⌜ r ≡ x ⌝ }
 {
@@ -44,6 +45,7 @@ pub fn read_decimal(s: &[u8], most: u64) -> Number
     Number::Value(n)
 }
 
+// The value of a hex digit, of either case.
 fn hex_digit(byte: u64) -> Number
     ensures { λ r. ⌜ r ≡ numberOf (hexDigit byte) ⌝ }
 {

@@ -32,6 +32,7 @@ pub enum Answer {
     Ended,
 }
 
+// The settings that `t` gives: no send is held back, and nobody stalls.
 fn limits(timeout: u32, limit: u32) -> Settings
     ensures { λ r. ⌜ r ≡ valuesOf (timed timeout limit) ⌝ }
 {

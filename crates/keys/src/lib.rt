@@ -1,7 +1,8 @@
-// The order of byte runs, at the cost of a few loads.
+// The order of byte runs, whether a table's keys rise, and where a key stands in it.
 //
-// Equal in meaning to a byte by byte comparison. Runs of 32 bytes cost the same wherever they differ; keys of a table,
-// whose first words nearly always differ, cost two loads.
+// Equal in meaning to a byte by byte comparison (`before` and `same` of fields) and to a walk from the front. Reads only.
+// Runs of 32 bytes cost the same wherever they differ; keys of a table, whose first words nearly always differ, cost two
+// loads; a search costs a guess and six steps where words are spread evenly, else halving.
 pub mod find;
 pub mod rising;
 pub mod unlike;

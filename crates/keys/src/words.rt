@@ -51,6 +51,7 @@ fn among_63(table: &[u8], width: usize, count: usize, word: u64, from: usize) ->
     past(table, width, count, word, e, 2, 1)
 }
 
+// What a test adds to a count.
 fn one(test: bool) -> usize
     ensures { λ r. ⌜ (r ≡ cond test 1 0) × (r ≤ 1) ⌝ }
 {

@@ -1,7 +1,9 @@
 // The leaves for a caller in Rust, to be timed.
 //
-// Exported functions ask nothing: they test what a leaf requires and answer a neutral value where it does not hold.
+// Exported functions ask nothing: they test what a leaf requires and answer a neutral value where it does not hold. They
+// have no contracts, since they are for timing and outside the core.
 
+// A whole slice copied over one as long.
 #[no_mangle]
 pub extern "C" fn leaf_copy(src: &[u8], dst: &mut [u8]) -> bool {
     if src.len() != dst.len() {
@@ -11,6 +13,7 @@ pub extern "C" fn leaf_copy(src: &[u8], dst: &mut [u8]) -> bool {
     true
 }
 
+// The first `count` bytes copied.
 #[no_mangle]
 pub extern "C" fn leaf_copy_prefix(src: &[u8], count: usize, dst: &mut [u8]) -> bool {
     if src.len() < count {
@@ -28,10 +31,12 @@ pub struct Area {
     pub bytes: [u8; 65536],
 }
 
+// An area where there is none to copy.
 fn no_area() -> [u8; 65536] {
     [0u8; 65536]
 }
 
+// A copy of an area to work on.
 #[no_mangle]
 pub extern "C" fn leaf_scratch(src: &[u8]) -> Area {
     if src.len() != 65536 {
@@ -42,16 +47,19 @@ pub extern "C" fn leaf_scratch(src: &[u8]) -> Area {
     Area { bytes: area }
 }
 
+// Whether all bytes are zero.
 #[no_mangle]
 pub extern "C" fn leaf_is_zero(s: &[u8]) -> bool {
     spans::copying::is_zero(s)
 }
 
+// All bytes made zero.
 #[no_mangle]
 pub extern "C" fn leaf_fill_zero(s: &mut [u8]) {
     spans::copying::fill_zero(s)
 }
 
+// Whether one run of bytes comes before another.
 #[no_mangle]
 pub extern "C" fn leaf_run_before(s: &[u8], p: usize, t: &[u8], q: usize, size: usize) -> bool {
     if s.len() < size {
@@ -69,6 +77,7 @@ pub extern "C" fn leaf_run_before(s: &[u8], p: usize, t: &[u8], q: usize, size: 
     keys::run_before(s, p, t, q, size)
 }
 
+// Whether two runs of bytes are the same.
 #[no_mangle]
 pub extern "C" fn leaf_run_same(s: &[u8], p: usize, t: &[u8], q: usize, size: usize) -> bool {
     if s.len() < size {
@@ -132,21 +141,25 @@ pub extern "C" fn leaf_read_u16(s: &[u8; 8]) -> u16 {
     fields::read_u16(s, 0)
 }
 
+// The number in 4 bytes.
 #[no_mangle]
 pub extern "C" fn leaf_read_u32(s: &[u8; 8]) -> u32 {
     fields::read_u32(s, 0)
 }
 
+// A number in 2 bytes.
 #[no_mangle]
 pub extern "C" fn leaf_write_u16(s: &mut [u8; 8], n: u16) {
     fields::write_u16(s, 0, n)
 }
 
+// A number in 4 bytes.
 #[no_mangle]
 pub extern "C" fn leaf_write_u32(s: &mut [u8; 8], n: u32) {
     fields::write_u32(s, 0, n)
 }
 
+// A number in 8 bytes.
 #[no_mangle]
 pub extern "C" fn leaf_write_u64(s: &mut [u8; 8], n: u64) {
     fields::write_u64(s, 0, n)

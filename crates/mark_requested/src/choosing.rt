@@ -72,6 +72,7 @@ fn compare(table: &[u8], p: usize, ids: &[u8], q: usize) -> Choice
     Choice::Enter
 }
 
+// The record at i, if there is one, or the id at a place.
 fn choose(table: &[u8], count: usize, i: usize, ids: &[u8], place: usize) -> Choice
     requires { ⌜ (count * recordSize ≤ length (now table)) × ((i ≤ count) × ((count ≤ trackedLimit) × Listed (now ids) place)) ⌝ }
     ensures { λ r. ⌜ r ≡ choiceFor (entry idSize place (now (ids .entry))) (map requestOf (drop i (entries recordSize count (now (table .entry))))) ⌝ }

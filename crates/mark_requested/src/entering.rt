@@ -37,6 +37,7 @@ fn put_record(out: &mut [u8], at: usize, clock: u64, typeid: u8, peer: u64, id: 
     fields::write_u32(out, at + 50, 0);
 }
 
+// The record of a new request.
 pub fn new_record(clock: u64, typeid: u8, peer: u64, id: &[u8]) -> [u8; RECORD_SIZE]
     requires { ⌜ length (now id) ≡ idSize ⌝ }
     ensures { λ r. ⌜ r ≡ requestBytes (newRequest clock typeid peer (now (id .entry))) ⌝ }

@@ -1,6 +1,8 @@
 // mark_requested: new ids enter the table of pending requests.
 //
-// A few cost a search and a move of the records behind them each. Many are sorted and merged with the table in one pass.
+// Equal to `markRequested` of model/specs/Delivery.antt, one id after another. Only the table is written; where it would
+// hold too many, it stays. A few ids cost a search and a move of the records behind them each. Many are sorted and merged
+// with the table in one pass.
 pub mod choosing;
 pub mod entering;
 pub mod merging;
@@ -35,7 +37,7 @@ fn sort_ids(ids: &[u8], places: &mut [u16], spare: &mut [u16])
     order::sort(ids, 32, 0, 32, places, spare);
 }
 
-// Many ids at once; `places`, `spare` and `room` are room to work in.
+// The same as `mark_requested` for many ids at once, with room to work in: `places`, `spare` and `room`.
 fn mark_many(
     table: &mut [u8],
     count: usize,

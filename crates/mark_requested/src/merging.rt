@@ -40,6 +40,7 @@ fn blank_record(clock: u64, typeid: u8, peer: u64) -> [u8; RECORD_SIZE]
     crate::entering::new_record(clock, typeid, peer, &id)
 }
 
+// A new request's record, its id and then what all share.
 fn put_new(room: &mut [u8], at: usize, id: &[u8], blank: &[u8])
     requires { ⌜ (length (now id) ≡ idSize) × ((length (now blank) ≡ recordSize) × (at + recordSize ≤ length (now room))) ⌝ }
     ensures { λ _. ⌜ now (room .exit) ≡ overwritten at (now (id .entry) ++ drop idSize (now (blank .entry))) (now (room .entry)) ⌝ }

@@ -1,6 +1,7 @@
 // Document 01 as definitions (specs/), and demand 3 proved over them (proofs/).
 //
-// Here only the numbers that code and definitions share, under the names that the Rust gives them.
+// Here only the numbers that code and definitions share: the protocol's under the names that the Rust gives them, and in
+// `layout` the widths and sizes of docs/LAYOUT.md.
 pub mod layout;
 
 pub const TRANSACTION_TYPE_ID: u8 = 2;

@@ -26,6 +26,7 @@ impl Stalled {
         }
     }
 
+    // Whether a peer is in the set.
     pub fn contains(self, peer: u64) -> bool
         requires { ⌜ self .count ≤ 256 ⌝ }
         ensures { λ r. ⌜ r ≡ model.isListed peer (stalledPeers self) ⌝ }

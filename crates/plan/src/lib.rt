@@ -1,7 +1,8 @@
-// What a step comes to, worked out by value before anything is written.
+// What a step comes to, worked out by value before anything is written: outcome, header after it, one work, sync info.
 //
-// `specs/Plans.antt` says what a plan stands for in the model. The plans that several steps share are in `continuing`,
-// `sync_infos` and `next_sections`; the crate `kinds` has a function for each kind of step.
+// `specs/Plans.antt` says what a plan stands for in the model. Here are its types and the plans that several steps share
+// (`continuing`, `sync_infos`, `next_sections`); plan_modes and plan_messages have those of single steps, plan_step that of
+// any call. Reads header, numbers, peers and view, never a record, and costs the view rows that rules 4 and 5 read.
 pub mod continuing;
 pub mod next_sections;
 pub mod sync_infos;

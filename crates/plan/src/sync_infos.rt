@@ -32,8 +32,8 @@ pub fn says_if(sent: bool, peer: u64) -> Listed
     Listed::Nobody
 }
 
-// Entry to syncing from a header that has what led to it: rule 2 sends, progress may send again, and the entry mark says whether
-// this send went out.
+// Entry to syncing from a header that has what led to it: rule 2 sends, progress may send again, and the entry mark says
+// whether this send went out.
 pub fn enters_syncing(
     head: Head,
     clock: u64,

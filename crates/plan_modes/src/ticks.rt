@@ -21,6 +21,7 @@ use plan::Plan;
 use plan::Stalling;
 use plan::Work;
 
+// A check's work: with nobody listed, fresh ids are lost.
 fn check_work(peers: &[u8]) -> Work
     ensures { λ r. ⌜ r ≡ checkWork (firstOf (peersIn (now (peers .entry)))) ⌝ }
 {
@@ -95,6 +96,7 @@ pub fn ticks_synced(head: Head, clock: u64, peers: &[u8], view: &[u8], height: u
     }
 }
 
+// What is done when the sync peer is lost in syncing: with nobody listed, nothing is asked again.
 fn lose_work(peers: &[u8]) -> Work
     ensures { λ r. ⌜ r ≡ loseWork (firstOf (peersIn (now (peers .entry)))) ⌝ }
 {

@@ -22,6 +22,7 @@ fn fallen(downloaded: u32, fork: u32) -> u32
     downloaded
 }
 
+// A needed modifier goes to the sync peer; a reorg purges and runs rules 5 and 4.
 pub fn handle_control_event(head: Head, call: Call, peers: &[u8], view: &[u8]) -> Plan
     requires { ⌜ viewFits (now view) ≡ true ⌝ }
     ensures { λ r. ⌜ ((st : State) (c : calls.Call) → headOf st ≡ head → numbersOf c ≡ call → c .peers ≡ now (peers .entry) → c .view ≡ now (view .entry) → 3 ≤ c .kind → c .kind < 5 → Follows st c r) ⌝ }

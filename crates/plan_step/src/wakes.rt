@@ -39,6 +39,7 @@ pub fn ids_step(head: Head, call: Call, peers: &[u8], view: &[u8]) -> Plan
     }
 }
 
+// The scheduled tick, by mode.
 fn scheduled_tick(head: Head, call: Call, places: &[u8], peers: &[u8], view: &[u8]) -> Plan
     requires { ⌜ (viewFits (now view) ≡ true) × (length (now places) ≡ 2048) ⌝ }
     requires { ⌜ (head .stalled ≤ 256) × ((head .send .last ≤ call .clock) × (head .progress ≤ call .clock)) ⌝ }
@@ -65,6 +66,7 @@ pub fn timed_step(head: Head, call: Call, places: &[u8], peers: &[u8], view: &[u
     }
 }
 
+// A pick, with the stalled set read from its places.
 fn pick(head: Head, call: Call, places: &[u8], peers: &[u8]) -> Plan
     requires { ⌜ (length (now places) ≡ 2048) × ((head .stalled ≤ 256) × (head .send .last ≤ call .clock)) ⌝ }
     ensures { λ r. ⌜ ((st : State) (c : calls.Call) → headOf st ≡ head → numbersOf c ≡ call → c .peers ≡ now (peers .entry) → st .sync .stalledPeers ≡ map fromBe (entries 8 (head .stalled) (now (places .entry))) → c .kind ≡ 2 → Follows st c r) ⌝ }

@@ -1,6 +1,7 @@
 // The question: the pairs of type and id that a check or a lost peer may read, strictly rising.
 //
-// n pairs cost n log n comparisons. The area is read only.
+// Equal to `questionPairs` of model/specs/Calls.antt. The state area is read only, and of the command area the pairs' bytes
+// are written. n pairs cost n log n comparisons.
 pub mod rising;
 
 ghost use mathlib.Core.Path.{_≡_};
@@ -21,6 +22,7 @@ use image::head::Head;
 use model::layout::ID_SIZE;
 use model::layout::PAIR_LIST_SIZE;
 use model::layout::PAIR_SIZE;
+use model::layout::REGION_AT;
 
 // Id i as a header's pair, at index i of the pairs.
 fn put_header(ids: &[u8], i: usize, pairs: &mut [u8])
@@ -60,7 +62,7 @@ fn gather(area: &[u8], head: Head, flag: u8, pairs: &mut [u8]) -> usize
         put_headers(&area[from..], count, pairs);
         return count;
     }
-    delivery::orphans::orphans(&area[2560..], head.pending, head.peer, pairs)
+    delivery::orphans::orphans(&area[REGION_AT..], head.pending, head.peer, pairs)
 }
 
 // Whether a mode has a sync peer.

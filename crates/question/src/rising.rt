@@ -59,7 +59,7 @@ fn put_distinct(pairs: &[u8], places: &[u16], out: &mut [u8]) -> usize
     at
 }
 
-// By a sort of places, one for each pair; `spare` is room to work in.
+// The same as `put_rising`, with room to work in: `places`, one for each pair, which are sorted, and `spare`.
 fn put_sorted(pairs: &[u8], places: &mut [u16], spare: &mut [u16], out: &mut [u8]) -> usize
     requires { ⌜ (length (now places) * pairSize ≡ length (now pairs)) × ((length (now pairs) ≤ pairListSize) × (length (now pairs) ≤ length (now out))) ⌝ }
     requires { ⌜ length (now spare) ≡ length (now places) ⌝ }

@@ -1,6 +1,7 @@
-// The refusals that are known before a step is worked out, in document 01's order.
+// The refusals that are known before a step is worked out, 1 to 8, in document 01's order; for a question 1, 2, 3 and 5.
 //
-// A refused call costs what was read up to the fault: one pass over the state area, then the lists, then the view.
+// Equal to these of `stepRefusal` and `questionRefusal` in model/specs/Calls.antt. Reads only. A refused call costs what
+// was read up to the fault: one pass over the state area, then the lists, then the view.
 pub mod lists;
 pub mod view;
 

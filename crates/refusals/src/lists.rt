@@ -19,18 +19,21 @@ fn list_fits(list: &[u8], size: usize, most: usize) -> bool
     (list.len() % size == 0) & (list.len() <= most * size)
 }
 
+// Ids: at most 1,024.
 pub fn ids_fit(ids: &[u8]) -> bool
     ensures { λ r. ⌜ r ≡ idsFit (now (ids .entry)) ⌝ }
 {
     list_fits(ids, 32, 1024)
 }
 
+// Continuation ids: at most 400.
 pub fn continuation_fits(ids: &[u8]) -> bool
     ensures { λ r. ⌜ r ≡ continuationFits (now (ids .entry)) ⌝ }
 {
     list_fits(ids, 32, 400)
 }
 
+// Stored pairs: at most 1,024, strictly rising.
 pub fn pairs_fit(stored: &[u8]) -> bool
     ensures { λ r. ⌜ r ≡ pairsFit (now (stored .entry)) ⌝ }
 {
@@ -41,6 +44,7 @@ pub fn pairs_fit(stored: &[u8]) -> bool
     keys::rising::is_rising(stored, PAIR_SIZE, stored.len() / PAIR_SIZE, PAIR_SIZE)
 }
 
+// Peers: at most 128.
 pub fn peers_fit(peers: &[u8]) -> bool
     ensures { λ r. ⌜ r ≡ peersFit (now (peers .entry)) ⌝ }
 {

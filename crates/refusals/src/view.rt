@@ -54,6 +54,7 @@ fn rows_fit(rows: &[u8], count: usize) -> bool
     true
 }
 
+// Whether a view's length, heights and rows all fit.
 pub fn view_fits(view: &[u8]) -> bool
     ensures { λ r. ⌜ r ≡ viewFits (now (view .entry)) ⌝ }
 {

@@ -41,6 +41,7 @@ pub fn held(listing: Listing, replay: Replay) -> Listing {
     next
 }
 
+// Which number or area differs.
 fn print_what(fault: u8) {
     if fault == replay::NUMBER {
         io::write_all(1, b" differs in number ");

@@ -37,6 +37,7 @@ pub const STATE_AREA: u8 = 4;
 
 pub const COMMAND_AREA: u8 = 5;
 
+// The stream with what differs noted.
 pub fn differs(mut replay: Replay, fault: u8, place: usize) -> Replay {
     replay.fault = fault;
     replay.place = place;

@@ -7,6 +7,7 @@ use replay_text::numbers;
 use replay_text::words::Words;
 use step::finish::Answer;
 
+// A step through the exported entry.
 fn step(
     state: &mut [u8],
     commands: &mut [u8],
@@ -67,6 +68,7 @@ fn step_on(
     )
 }
 
+// The nine numbers of an answer, as a line lists them.
 fn nine(answer: Answer) -> [u64; 9] {
     [
         answer.number as u64,
@@ -105,6 +107,7 @@ fn ask(state: &[u8], commands: &mut [u8], numbers: &[u64; 17]) -> [u64; 9] {
     [number, size, 0, 0, 0, 0, 0, 0, 0]
 }
 
+// Whichever call it is.
 fn run(
     kind: u8,
     state: &mut [u8],

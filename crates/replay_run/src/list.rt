@@ -5,6 +5,7 @@ ghost use lib.ListN.{length};
 use replay_expect::listing::Listing;
 use replay_text::line_words::NO_CALL;
 
+// One line of a list.
 fn take(memory: &mut [u8], line: &[u8], listing: Listing) -> Listing
     requires { ⌜ 655360 ≤ length (now memory) ⌝ }
 {
@@ -18,6 +19,7 @@ fn take(memory: &mut [u8], line: &[u8], listing: Listing) -> Listing
     replay_expect::listing::held(next, crate::stream::take_call(memory, kind, line, last))
 }
 
+// All lines of a list.
 fn lines(memory: &mut [u8], text: &[u8]) -> Listing
     requires { ⌜ 655360 ≤ length (now memory) ⌝ }
 {
@@ -31,6 +33,7 @@ fn lines(memory: &mut [u8], text: &[u8]) -> Listing
     replay_expect::listing::end_stream(listing)
 }
 
+// Room for a list, or for what a replay holds.
 fn room() -> [u8; 1048576]
     ensures { λ r. ⌜ 1048576 ≡ length r ⌝ }
 {

@@ -19,6 +19,7 @@ pub fn blank() -> [u8; 131072]
     [165; 131072]
 }
 
+// A byte as an index.
 fn size(x: u8) -> usize
     ensures { λ r. ⌜ r < 256 ⌝ }
 {

@@ -29,10 +29,12 @@ pub fn byte(n: u64) -> u8 {
     (n % 256) as u8
 }
 
+// The same for a number of 32 bits.
 fn half(n: u64) -> u32 {
     (n % 4294967296) as u32
 }
 
+// The numbers of a step's line.
 pub fn of_step(numbers: &[u64; 17]) -> Step {
     Step {
         kind: byte(numbers[0]),
@@ -48,6 +50,7 @@ pub fn of_step(numbers: &[u64; 17]) -> Step {
     }
 }
 
+// The numbers of an opening's line.
 pub fn of_opening(numbers: &[u64; 17]) -> Opening {
     Opening {
         clock: numbers[0],

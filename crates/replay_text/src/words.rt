@@ -23,6 +23,7 @@ pub struct Put {
     pub end: usize,
 }
 
+// Whether a word is `-`, which stands for nothing.
 fn none(word: &[u8]) -> bool {
     if word.len() != 1 {
         return false;

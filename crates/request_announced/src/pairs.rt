@@ -13,6 +13,7 @@ use model::layout::ID_LIST_SIZE;
 use model::layout::PAIR_SIZE;
 use model::layout::TRACKED_LIMIT;
 
+// The same as `fill`, with room to work in: `spare`.
 fn number_and_sort(pairs: &[u8], places: &mut [u16], spare: &mut [u16])
     requires { ⌜ (length (now places) ≡ length (now pairs) / pairSize) × ((length (now places) ≤ trackedLimit) × (length (now places) ≤ length (now spare))) ⌝ }
     ensures { λ _. ⌜ now (places .exit) ≡ placesByType (now (pairs .entry)) ⌝ }
@@ -22,6 +23,7 @@ fn number_and_sort(pairs: &[u8], places: &mut [u16], spare: &mut [u16])
     order::sort(pairs, PAIR_SIZE, 0, 1, places, &mut spare[..count]);
 }
 
+// The places of all pairs, types rising, into a slice of just their number.
 fn fill(pairs: &[u8], places: &mut [u16])
     requires { ⌜ (length (now places) ≡ length (now pairs) / pairSize) × (length (now places) ≤ trackedLimit) ⌝ }
     ensures { λ _. ⌜ now (places .exit) ≡ placesByType (now (pairs .entry)) ⌝ }

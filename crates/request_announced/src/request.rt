@@ -60,7 +60,7 @@ fn mark_and_send(
 }
 
 // Rule 3: with the gate shut nothing; else ids that are pending are dropped, then stored ones, and the rest is marked, then
-// sent. A list of which nothing is left takes no batch number. `rest` is room to work in.
+// sent. A list of which nothing is left takes no batch number. With room to work in: `rest`.
 pub fn request_announced(
     table: &mut [u8],
     count: usize,

@@ -50,6 +50,7 @@ fn is_stored(stored: &[u8], typeid: u8, id: &[u8]) -> bool
     has_key(stored, PAIR_SIZE, stored.len() / PAIR_SIZE, &key)
 }
 
+// Whether an id is neither pending nor stored.
 fn is_wanted(table: &[u8], count: usize, stored: &[u8], typeid: u8, id: &[u8]) -> bool
     requires { ⌜ (length (now id) ≡ idSize) × ((count * recordSize ≤ length (now table)) × (pairsFit (now stored) ≡ true)) ⌝ }
     requires { ⌜ rising idSize (entries recordSize count (now table)) ≡ true ⌝ }

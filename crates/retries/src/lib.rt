@@ -1,6 +1,8 @@
 // The retries of a delivery check, sent in batches by target, then type.
 //
-// One sort of the retried places, one pass over their ids. Where nothing is sent, no room is made.
+// The commands are those of `retrySendings` in model/specs/Check.antt. The table is read only; the places are sorted, and
+// commands are written from `at` on. One sort of the retried places, one pass over their ids. Where nothing is sent, no
+// room is made.
 pub mod batches;
 
 ghost use mathlib.Core.Path.{_≡_};
@@ -82,8 +84,8 @@ fn put_batches(
     }
 }
 
-// Requests for the records at `places`, each from the peer that it names, as batches by target, then type. `spare` and
-// `ids` are room to work in.
+// Requests for the records at `places`, each from the peer that it names, as batches by target, then type; with room to work
+// in: `spare` and `ids`, one for each place.
 fn put_retries(
     table: &[u8],
     places: &mut [u16],
@@ -106,7 +108,7 @@ fn put_retries(
     put_batches(table, places, ids, out, at, batch)
 }
 
-// `spare` and `ids` have room for all places.
+// The same as `put_places`, with room to work in: `spare` and `ids` for 1,024 places.
 fn put_with_room(
     table: &[u8],
     places: &mut [u16],
@@ -137,6 +139,7 @@ fn put_with_room(
     )
 }
 
+// Requests for the records at `places`, at most 1,024.
 fn put_places(table: &[u8], places: &mut [u16], out: &mut [u8], at: usize, batch: u16) -> Written
     requires { ⌜ All (λ (place : ℕ). place * recordSize + recordSize ≤ length (now table)) (now places) ⌝ }
     requires { ⌜ All (λ (place : ℕ). requestOf (entry recordSize place (now table)) .typeId < 256) (now places) ⌝ }

@@ -1,7 +1,8 @@
-// Settings held with their rules and the send clock, by value.
+// Settings held with their rules, and the send clock, by value.
 //
 // Every rule that asks whether a request is expired or given up, whether a send is throttled or a peer has stalled asks
-// here. Each function equals its definition in model/specs.
+// here. Each function equals its definition in model/specs, at the cost of a comparison. Nothing is written but the send
+// clock that `sending` is lent.
 pub mod sending;
 
 ghost use mathlib.Core.Path.{_≡_};
@@ -27,6 +28,7 @@ impl Settings {
         self.timeout as u64
     }
 
+    // Whether a request has waited for its patience or longer.
     pub fn expired(self, clock: u64, typeid: u16, checks: u32, stamp: u64) -> bool
         requires { ⌜ stamp ≤ clock ⌝ }
         ensures { λ r. ⌜ r ≡ model.expired (settingsOf self) clock typeid checks stamp ⌝ }
@@ -34,12 +36,14 @@ impl Settings {
         self.patience(typeid, checks) <= clock - stamp
     }
 
+    // Whether a request with so many checks is abandoned.
     pub fn given_up(self, checks: u32) -> bool
         ensures { λ r. ⌜ r ≡ model.givenUp (settingsOf self) checks ⌝ }
     {
         self.checks <= checks
     }
 
+    // Whether a sync info is held back, so soon after the last.
     pub fn throttled(self, clock: u64, last: u64) -> bool
         requires { ⌜ last ≤ clock ⌝ }
         ensures { λ r. ⌜ r ≡ model.throttled (settingsOf self) clock last ⌝ }
@@ -47,6 +51,7 @@ impl Settings {
         clock - last < (self.interval as u64)
     }
 
+    // Whether the sync peer has let syncing stall.
     pub fn stalled(self, clock: u64, progress: u64) -> bool
         requires { ⌜ progress ≤ clock ⌝ }
         ensures { λ r. ⌜ r ≡ model.stalled (settingsOf self) clock progress ⌝ }

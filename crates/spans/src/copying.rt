@@ -1,6 +1,6 @@
 // Copies, zero scans and fills of whole areas at memory speed.
 //
-// A step works on a copy of the state area and copies back what finished, so these are most of its cost.
+// A step that may still be refused works on a copy of the state area and copies back what finished: most of its cost is here.
 ghost use mathlib.Core.Path.{_≡_};
 ghost use mathlib.Core.List.{_++_};
 ghost use Prim.Native.Nat.{_+_, _≤_};

@@ -6,7 +6,7 @@ ghost use Rattle.fields.specs.Zero.{zeros};
 ghost use Rattle.fields.specs.Overwrite.{overwritten};
 ghost use Rattle.spans.specs.Move.{moved};
 
-// These three read all bytes before they write one, so the two places may overlap either way.
+// 32 bytes moved. These three read all bytes before they write one, so the two places may overlap either way.
 fn move_block(s: &mut [u8], from: usize, to: usize)
     requires { ⌜ (from + 32 ≤ length (now s)) × (to + 32 ≤ length (now s)) ⌝ }
     ensures { λ _. ⌜ now (s .exit) ≡ moved from to 32 (now (s .entry)) ⌝ }
@@ -21,6 +21,7 @@ fn move_block(s: &mut [u8], from: usize, to: usize)
     fields::write_u64(s, to + 24, d);
 }
 
+// 8 bytes moved.
 fn move_eight(s: &mut [u8], from: usize, to: usize)
     requires { ⌜ (from + 8 ≤ length (now s)) × (to + 8 ≤ length (now s)) ⌝ }
     ensures { λ _. ⌜ now (s .exit) ≡ moved from to 8 (now (s .entry)) ⌝ }
@@ -29,6 +30,7 @@ fn move_eight(s: &mut [u8], from: usize, to: usize)
     fields::write_u64(s, to, word);
 }
 
+// Up to 8 bytes moved.
 fn move_word(s: &mut [u8], from: usize, to: usize, size: usize)
     requires { ⌜ (size ≤ 8) × ((from + size ≤ length (now s)) × (to + size ≤ length (now s))) ⌝ }
     ensures { λ _. ⌜ now (s .exit) ≡ moved from to size (now (s .entry)) ⌝ }

@@ -10,6 +10,7 @@ use image::head::Head;
 use plan::Call;
 use plan::Plan;
 use work::Performed;
+use model::layout::REGION_AT;
 
 // Room for the commands of a step.
 fn room() -> [u8; 65536]
@@ -18,7 +19,7 @@ fn room() -> [u8; 65536]
     [0u8; 65536]
 }
 
-// The plan carried out on a copy of the state area and on room for commands.
+// The same as `work_out`, with room to work in: `image`, a copy of the state area, and `out` for commands.
 fn work_in(
     state: &mut [u8],
     commands: &mut [u8],
@@ -38,7 +39,7 @@ fn work_in(
     ensures { λ r. ⌜ StepsTo (now (state .entry)) (now (commands .entry)) call (lists (now (ids .entry)) (now (continuation .entry)) (now (stored .entry)) (now (peers .entry)) (now (view .entry))) (answerOf r) (now (state .exit)) (now (commands .exit)) ⌝ }
 {
     let Performed::Done(counts) = work_asks::carry::carry_out(
-        &mut image[2560..],
+        &mut image[REGION_AT..],
         out,
         head,
         plan,

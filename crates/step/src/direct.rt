@@ -10,6 +10,7 @@ use image::head::Head;
 use plan::Call;
 use plan::Plan;
 use work::Performed;
+use model::layout::REGION_AT;
 
 // A work that needs no copies finds out that there is no room before it writes, or always has room.
 pub fn step_directly(
@@ -29,7 +30,7 @@ pub fn step_directly(
     ensures { λ r. ⌜ StepsTo (now (state .entry)) (now (commands .entry)) call (lists (now (ids .entry)) (now (continuation .entry)) (now (stored .entry)) (now (peers .entry)) (now (view .entry))) (answerOf r) (now (state .exit)) (now (commands .exit)) ⌝ }
 {
     let Performed::Done(counts) = work_asks::carry::carry_out(
-        &mut state[2560..],
+        &mut state[REGION_AT..],
         commands,
         head,
         plan,

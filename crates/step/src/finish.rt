@@ -1,6 +1,7 @@
 // What a step answers, and what a finished step writes: its sync info, the image after it, and both areas.
 //
-// It costs a copy of the image to the state area and one of the commands' bytes.
+// It costs the header and the stalled places where they change; for a step on copies also a copy of the image to the state area
+// and one of the commands' bytes.
 ghost use mathlib.Core.Path.{_≡_};
 ghost use mathlib.Core.List.{List, _++_};
 ghost use Prim.Native.Nat.{ℕ, _+_, _≤_, _<_, _^_};
@@ -31,6 +32,7 @@ pub struct Answer {
     pub length: u32,
 }
 
+// A refused step's answer: its number, all else 0.
 pub fn refused(number: u32) -> Answer
     ensures { λ r. ⌜ answerOf r ≡ calls.refused number ⌝ }
 {

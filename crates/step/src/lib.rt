@@ -1,8 +1,8 @@
 // A step on bytes: its plan, carried out on the areas themselves, or on copies where a refusal may come after something was
 // written. It is refused as 9, 10 or 11 with both areas as they were.
 //
-// It costs the records and rows that its rules read and the bytes that it writes; on copies also a copy of the state area
-// and one back.
+// `run` equals `step` of model/specs/Calls.antt for every call that none of 1 to 8 refuses. It costs the records and rows
+// that its rules read and the bytes that it writes; on copies also a copy of the state area and one back.
 pub mod copied;
 pub mod copies;
 pub mod direct;
@@ -18,6 +18,8 @@ ghost use Rattle.refusals.specs.Refusals.{givenRefusal};
 ghost use Rattle.step.specs.Answers.{answerOf};
 use crate::finish::Answer;
 use plan::Call;
+use model::layout::STALLED_AT;
+use model::layout::REGION_AT;
 
 // A step that none of 1 to 8 refuses.
 pub fn run(
@@ -34,7 +36,7 @@ pub fn run(
     ensures { λ r. ⌜ record { answer = answerOf r; state = now (state .exit); commands = now (commands .exit) } ≡ calls.step (now (state .entry)) (now (commands .entry)) (callOf call (now (ids .entry)) (now (continuation .entry)) (now (stored .entry)) (now (peers .entry)) (now (view .entry))) ⌝ }
 {
     let head = image::head::read_head(state);
-    let plan = plan_step::step::plan_step(head, call, &state[512..2560], ids, peers, view);
+    let plan = plan_step::step::plan_step(head, call, &state[STALLED_AT..REGION_AT], ids, peers, view);
     if !plan.seen {
         return crate::finish::refused(9);
     }

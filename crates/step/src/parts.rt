@@ -13,6 +13,8 @@ use image::head::Head;
 use peers::Listed;
 use plan::Stalling;
 use work::Counts;
+use model::layout::STALLED_AT;
+use model::layout::REGION_AT;
 
 // A sync info, if one goes out; `none` is an empty list. Answers the place behind it.
 pub fn say(out: &mut [u8], says: Listed, at: usize, batch: u16, none: &[u8]) -> usize
@@ -26,12 +28,12 @@ pub fn say(out: &mut [u8], says: Listed, at: usize, batch: u16, none: &[u8]) -> 
     commands::writing::put_command(out, at, 3, 0, batch, peer, none)
 }
 
-// The image after a step on whose scratch the work was done: stalled places, and the header with the counts.
+// The image after a step, its region being worked on already: stalled places, and the header with the counts.
 pub fn complete(image: &mut [u8], count: usize, stalling: Stalling, head: Head, counts: Counts)
     requires { ⌜ (length (now image) ≡ areaSize) × (stalledCountThen stalling count ≤ 256) ⌝ }
     ensures { λ _. ⌜ ((peers : List ℕ) → length peers ≡ count → take 2048 (drop 512 (now (image .entry))) ≡ placesOf peers → now (image .exit) ≡ completed (counted head (counts .pending) (counts .evicted)) (placesOf (stalledThen stalling peers)) (now (image .entry))) ⌝ }
 {
-    crate::stalling::stall(&mut image[512..2560], count, stalling);
+    crate::stalling::stall(&mut image[STALLED_AT..REGION_AT], count, stalling);
     let mut after = head;
     after.pending = counts.pending;
     after.evicted = counts.evicted;

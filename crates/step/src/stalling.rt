@@ -19,6 +19,7 @@ fn join(places: &mut [u8], count: usize, peer: u64)
     peers::stalled::write_stalled(joined, places);
 }
 
+// The places of the stalled set as a plan changes them.
 pub fn stall(places: &mut [u8], count: usize, stalling: Stalling)
     requires { ⌜ (length (now places) ≡ 2048) × (stalledCountThen stalling count ≤ 256) ⌝ }
     ensures { λ _. ⌜ ((peers : List ℕ) → length peers ≡ count → now (places .entry) ≡ placesOf peers → now (places .exit) ≡ placesOf (stalledThen stalling peers)) ⌝ }

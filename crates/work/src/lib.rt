@@ -1,7 +1,9 @@
-// A plan's work on the region of a scratch image: what it answers, and what stands in the region after it.
+// A plan's work on the region of an image, be it the state area's own or a copy's: what it answers, and what stands in the
+// region after it.
 //
-// Each work (plan::Work) has a function of its name: `nothing` here, those that take requests out of pending in removals,
-// the check in region_check, those with a peer to ask above them.
+// Here are the works (plan::Work) that ask nobody: `nothing`, those that take requests out of pending in `removals`, the
+// check in `region_check`; work_asks has those with a peer to ask. Each equals `workedBy` of specs/Worked.antt. The region
+// is written and, by a check, commands; a work costs what delivery, check_timeouts and retries say.
 pub mod region_check;
 pub mod removals;
 

@@ -20,7 +20,7 @@ use model::layout::ID_SIZE;
 use model::layout::TRACKED_LIMIT;
 use plan::Call;
 
-// The evicted ids at the region's end.
+// Takes the evicted ids at the region's end away.
 fn clear_evicted(region: &mut [u8], evicted: usize)
     requires { ⌜ evicted * idSize ≤ length (now region) ⌝ }
     ensures { λ _. ⌜ now (region .exit) ≡ overwritten (length (now (region .entry)) - evicted * idSize) (zeros (evicted * idSize)) (now (region .entry)) ⌝ }
@@ -29,7 +29,7 @@ fn clear_evicted(region: &mut [u8], evicted: usize)
     spans::moving::clear(region, region.len() - size, size);
 }
 
-// `places` is room to note the retried requests.
+// The same as `check_region`, with room to work in: `places` notes the retried requests.
 fn check_noting(
     region: &mut [u8],
     head: Head,

@@ -1,7 +1,7 @@
 // Lists asked for through rule 3, behind what a work has done before.
 //
-// The works with a peer to ask stand above: asked_ids, asked_orphans, asked_fresh, asked_sections. Where there is no room,
-// the answer is Full and the scratch is of no use.
+// The works with a peer to ask call these: ids, orphans, fresh, sections. Where there is no room, the answer is Full, and what
+// stands in the region then is of no use.
 ghost use mathlib.Core.Path.{_≡_};
 ghost use mathlib.Core.Bool.{true};
 ghost use mathlib.Core.List.{[], _∷_};
@@ -23,6 +23,7 @@ use request_announced::request::Requested;
 use work::Counts;
 use work::Performed;
 
+// What a work answers when its list was asked for, behind what it did before.
 fn answer(asked: Requested, before: Counts) -> Performed
     ensures { λ r. ⌜ r ≡ answeredAs asked before ⌝ }
 {
@@ -57,7 +58,7 @@ pub fn unasked_counts(pending: usize, evicted: usize, at: usize, batch: u16) -> 
     }
 }
 
-// `rest` is room to work in.
+// The same as `ask_list`, with room to work in: `rest`.
 fn ask_list_with(
     region: &mut [u8],
     before: Counts,

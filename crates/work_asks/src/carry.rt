@@ -1,4 +1,4 @@
-// A plan carried out on the region of a scratch image and on a scratch of commands, up to its sync info.
+// A plan carried out on the region of an image and on room for commands, up to its sync info.
 //
 // It costs the announcement's bytes and the work.
 ghost use mathlib.Core.Path.{_≡_};

@@ -1,4 +1,4 @@
-// The work of a check that asks a peer for the evicted ids (plan::Work::CheckFresh), on the region of a scratch image.
+// The work of a check that asks a peer for the evicted ids (plan::Work::CheckFresh), on the region of an image.
 ghost use mathlib.Core.Path.{_≡_};
 ghost use mathlib.Core.Bool.{true};
 ghost use mathlib.Core.List.{List};
@@ -16,7 +16,7 @@ use model::layout::ID_SIZE;
 use plan::Call;
 use work::Performed;
 
-// The evicted ids are copied before the check clears them. `fresh` is room to work in.
+// The same as `check_fresh`, with room to work in: `fresh`. The evicted ids are copied before the check clears them.
 fn check_fresh_with(
     region: &mut [u8],
     head: Head,

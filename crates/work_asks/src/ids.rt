@@ -1,4 +1,4 @@
-// The work that asks a peer for the listed ids (plan::Work::Ids), on the region of a scratch image.
+// The work that asks a peer for the listed ids (plan::Work::Ids), on the region of an image.
 ghost use mathlib.Core.Path.{_≡_};
 ghost use mathlib.Core.Bool.{true};
 ghost use mathlib.Core.List.{List};

@@ -1,4 +1,4 @@
-// The work that asks another peer for what a lost one was asked for (plan::Work::LoseAsk), on the region of a scratch
+// The work that asks another peer for what a lost one was asked for (plan::Work::LoseAsk), on the region of an
 // image.
 ghost use mathlib.Core.Path.{_≡_};
 ghost use mathlib.Core.Bool.{true};
@@ -17,7 +17,7 @@ use model::layout::PAIR_SIZE;
 use plan::Call;
 use work::Performed;
 
-// Its pairs are gathered before it leaves the table. `pairs` is room to work in.
+// The same as `lose_ask`, with room to work in: `pairs`. They are gathered before the peer's requests leave the table.
 fn lose_ask_with(
     region: &mut [u8],
     head: Head,

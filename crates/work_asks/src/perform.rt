@@ -1,7 +1,7 @@
-// A plan's work on the region of a scratch image, whichever it is.
+// A plan's work on the region of an image, whichever it is.
 //
-// The works without a peer to ask stand in tracker, removals and region_check, those with one in asked_ids,
-// asked_orphans, asked_fresh and asked_sections. Where there is no room, the answer is Full and the scratch is of no use.
+// The works without a peer to ask stand in the crate work, those with one in ids, orphans, fresh and sections. Where there is
+// no room, the answer is Full, and what stands in the region then is of no use.
 ghost use mathlib.Core.Path.{_≡_};
 ghost use mathlib.Core.Bool.{true};
 ghost use Prim.Native.Nat.{_+_, _%_, _≤_, _<_};

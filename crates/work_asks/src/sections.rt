@@ -1,6 +1,6 @@
 // The works that ask a peer for sections: rule 4's, without and with a reorg before.
 //
-// `sections` and `purge_sections` are the works of their names (plan::Work) on the region of a scratch image.
+// `sections` and `purge_sections` are the works of their names (plan::Work) on the region of an image.
 ghost use mathlib.Core.Path.{_≡_};
 ghost use mathlib.Core.Bool.{true};
 ghost use mathlib.Core.List.{List};
@@ -25,7 +25,8 @@ use plan::Call;
 use work::Counts;
 use work::Performed;
 
-// The places' own flags decide what is stored, so there are no stored pairs.
+// The same as `ask_sections`, with room to work in: `pairs`. The places' own flags decide what is stored, so there are no
+// stored pairs.
 fn ask_missing(
     region: &mut [u8],
     before: Counts,
@@ -47,6 +48,7 @@ fn ask_missing(
     crate::asks::ask_pairs(region, before, call, peer, &view[..0], &pairs[..size], out)
 }
 
+// The window's missing sections through rule 3, behind what a work has done before.
 fn ask_sections(
     region: &mut [u8],
     before: Counts,
@@ -75,6 +77,7 @@ fn ask_sections(
     )
 }
 
+// The missing sections are asked for.
 pub fn sections(
     region: &mut [u8],
     head: Head,
