@@ -158,14 +158,15 @@ module _ {clock typeId peer most count : ℕ} {t ids places first : List ℕ} (p
       (pass .listed, (inside, (pass .places-le, in-room))),
     )
 
-    skipped : (front′ : Front) → front′ ≡ record { records = front .records; ids = front .ids + 1; held = front .held } → left front ≡ left front′ → Held room front′
-    skipped front′ at e = rw at (record {
+    skipped : left front ≡ left-over clock typeId peer t ids places count (front .ids + 1) (front .records)
+        → Held room (record { records = front .records; ids = front .ids + 1; held = front .held })
+    skipped e = record {
       records-le = s .records-le;
       ids-le = omega (arith, inside);
       held-le = s .held-le;
       long = s .long;
-      done = ap (λ (l : List (List ℕ)). entries recordSize (front .held) room ++ l) (sym (rw at at e)) ∙ s .done;
-    })
+      done = ap (λ (l : List (List ℕ)). entries recordSize (front .held) room ++ l) (sym e) ∙ s .done;
+    }
 
     written : (i j : ℕ) (e : List ℕ) → i ≤ count → j ≤ length places → length e ≡ recordSize → left front ≡ e ∷ left-over clock typeId peer t ids places count j i
         → Held (overwritten (front .held * recordSize) e room) (record { records = i; ids = j; held = front .held + 1 })
@@ -211,7 +212,7 @@ module _ {clock typeId peer most count : ℕ} {t ids places first : List ℕ} (p
         let n : drop (front .records) (entries recordSize count t) ≡ first-left ∷ drop (front .records + 1) (entries recordSize count t) = next-record count (front .records) t h in
         let b : requestBytes (requestOf first-left) ≡ first-left = bytes-of-request first-left le (entry-bytes (front .records) t (pass .bytes)) in
         written (front .records + 1) (front .ids) first-left (omega arith) (s .ids-le) le (rw (these, n) (ap (map requestBytes) (rw n at (rw e at turned)) ∙ rw b))
-    by-choice Skip e = skipped (frontAfter Skip front) refl (rw these (ap (map requestBytes) (rw e at turned)))
+    by-choice Skip e = skipped (rw these (ap (map requestBytes) (rw e at turned)))
     by-choice Enter e =
         let new = newRequest clock typeId peer x in
         written (front .records) (front .ids + 1) (requestBytes new) (s .records-le) (omega (arith, inside)) (length-request new long-id)
