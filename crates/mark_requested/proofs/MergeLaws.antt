@@ -31,7 +31,7 @@ use Rattle.mark_requested.specs.declared.merging.Front.{Front}
 use Rattle.mark_requested.specs.declared.choosing.Choice.{Choice}
 use Rattle.mark_requested.specs.declared.choosing.Choice.the-variants.{Keep, Skip, Enter}
 use Rattle.mark_requested.proofs.EnterLaws.{enter, enterAll, enter-twice, entered-behind, below-rest, below-unlike}
-use Rattle.mark_requested.proofs.ChoiceLaws.{next-id, next-record, place-listed, keep-inside}
+use Rattle.mark_requested.proofs.ChoiceLaws.{Next, next-id, next-record, place-listed, keep-inside}
 use Rattle.model.specs.Layout.{idSize, recordSize}
 
 -- ---- one turn, as lists
@@ -182,6 +182,9 @@ module _ {clock typeId peer most count : ℕ} {t ids places first : List ℕ} (p
           ∙ s .done);
     }
 
+    next : Next ids places (front .ids)
+    next = record { inside = inside; listed = pass .listed }
+
     abbrev x : Id
     x = entry idSize (getD places (front .ids) 0) ids
 
@@ -189,15 +192,13 @@ module _ {clock typeId peer most count : ℕ} {t ids places first : List ℕ} (p
     xs = idsAt ids (drop (front .ids + 1) places)
 
     these : idsAt ids (drop (front .ids) places) ≡ x ∷ xs
-    these = next-id ids places (front .ids) inside
+    these = next-id next
 
     this-rises : Rising before (x ∷ xs)
     this-rises = rw these at (rising-from ids (front .ids) places (rw (pass .order) at (sorted-rises before before-order (idsAt ids places))))
 
     long-id : length x ≡ idSize
-    long-id =
-        let listed = place-listed ids places (front .ids) inside (pass .listed) (getD places (front .ids) 0) refl in
-        length-entry idSize (getD places (front .ids) 0) ids listed
+    long-id = length-entry idSize (getD places (front .ids) 0) ids (place-listed next refl)
 
     turned : enterAll clock typeId peer (x ∷ xs) requests ≡ after clock typeId peer x xs this-rises (choiceAt (x ∷ xs) requests) requests
     turned = one-turn clock typeId peer x xs this-rises requests

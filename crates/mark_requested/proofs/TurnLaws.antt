@@ -9,13 +9,12 @@ use lib.Dec.{leb}
 use lib.ListN.{length, take, drop, getD, length-drop}
 use lib.Seq.{take-all}
 use borrow.Author.Tests.{le-leb, lt-leb}
-use Rattle.fields.specs.Facts.{All}
 use Rattle.fields.specs.Entries.{entries, entry}
 use Rattle.fields.specs.Overwrite.{overwritten}
 use Rattle.model.specs.Image.{requestOf}
 use Rattle.commands.proofs.WriteLaws.{written-next}
-use Rattle.mark_requested.specs.Choices.{Listed, idsAt, choiceAt}
-use Rattle.mark_requested.proofs.ChoiceLaws.{place-listed, keep-inside}
+use Rattle.mark_requested.specs.Choices.{idsAt, choiceAt}
+use Rattle.mark_requested.proofs.ChoiceLaws.{Next, keep-inside}
 use Rattle.mark_requested.specs.declared.entering.Marked.the-variants.{Pending, Full}
 use Rattle.mark_requested.specs.declared.choosing.Choice.{Choice}
 use Rattle.mark_requested.specs.declared.choosing.Choice.the-variants.{Keep, Skip, Enter}
@@ -36,8 +35,7 @@ new-written p id blank d o₁ o₂ l lb h e₁ e₂ =
 -- A turn: records of the table and ids at places are left to choose from.
 pub record Turning (count : ℕ) (t ids places blank room : List ℕ) (front : Front) : Type 0 where
   pub records-in : count * recordSize ≤ length t
-  pub listed : All (Listed ids) places
-  pub more : front .ids < length places
+  pub next : Next ids places (front .ids)
 
 module _ {count : ℕ} {t ids places blank room : List ℕ} {front : Front} (turn : Turning count t ids places blank room front) where
   abbrev told : Choice
@@ -55,9 +53,6 @@ module _ {count : ℕ} {t ids places blank room : List ℕ} {front : Front} (tur
   kept-inside {choice} e k =
       let h = keep-inside count (front .records) t (idsAt ids (drop (front .ids) places)) choice e k in
       omega (arith, turn .records-in, mul-le-mul-right recordSize h)
-
-  pub id-inside : {p : ℕ} → p ≡ getD places (front .ids) 0 → p * idSize + idSize ≤ length ids
-  id-inside {p} e = place-listed ids places (front .ids) (turn .more) (turn .listed) p e
 
   module _ {choice : Choice} (e : choice ≡ told) where
     pub kept-turn : {room′ : List ℕ} → choice ≡ Keep

@@ -1,7 +1,8 @@
 -- By the choice: `kept-turn`, `skipped-turn`, `entered-turn`.
 use borrow.Author.Needs.{needs}
 use native.Mathlib.Omega.{arith}
-use Rattle.mark_requested.proofs.TurnLaws.{Turning, kept-inside, id-inside, kept-turn, skipped-turn, entered-turn}
+use Rattle.mark_requested.proofs.ChoiceLaws.{place-listed}
+use Rattle.mark_requested.proofs.TurnLaws.{Turning, kept-inside, kept-turn, skipped-turn, entered-turn}
 use Rattle.mark_requested.proofs.merging.turn.Statement.{statement}
 use Rattle.mark_requested.proofs.merging.turn.Tie as tie
 
@@ -12,7 +13,7 @@ module _ (c : tie.After-slice-known) where
   start = search
 
   turning : let a = start .args in Turning (a .count) (a .table .now) (a .ids .now) (a .places .now) (a .blank .now) (a .room .now) (a .front)
-  turning = record { records-in = start .pre .0 .0; listed = start .pre .1 .0; more = start .pre .1 .1 .0 }
+  turning = record { records-in = start .pre .0 .0; next = record { inside = start .pre .1 .1 .0; listed = start .pre .1 .0 } }
 
 -- ---- the needs
 
@@ -72,10 +73,10 @@ wide-requires : tie.Need-wide-requires
 wide-requires c κs = search needs
 
 mul-from-2 : tie.Need-mul-from-2
-mul-from-2 c = let entry : tie.After-slice-known = search in omega (arith, id-inside (turning entry) (c .wide .ensures))
+mul-from-2 c = let entry : tie.After-slice-known = search in omega (arith, place-listed (turning entry .next) (c .wide .ensures))
 
 add-end-2 : tie.Need-add-end-2
-add-end-2 c = let entry : tie.After-slice-known = search in omega (arith, id-inside (turning entry) (c .wide .ensures))
+add-end-2 c = let entry : tie.After-slice-known = search in omega (arith, place-listed (turning entry .next) (c .wide .ensures))
 
 mul-put-new : tie.Need-mul-put-new
 mul-put-new c = search needs
@@ -87,7 +88,7 @@ part-put-new-start : tie.Need-part-put-new-start
 part-put-new-start c = search needs
 
 part-put-new-end : tie.Need-part-put-new-end
-part-put-new-end c = let entry : tie.After-slice-known = search in id-inside (turning entry) (c .before .wide .ensures)
+part-put-new-end c = let entry : tie.After-slice-known = search in place-listed (turning entry .next) (c .before .wide .ensures)
 
 put-new-requires : tie.Need-put-new-requires
 put-new-requires c κs = search needs
