@@ -31,12 +31,12 @@ use Rattle.mark_requested.proofs.EnterLaws.{marked-sorted}
 use Rattle.model.specs.Layout.{idSize, recordSize}
 
 -- few ids, all of which have room
-pub few-ids : (clock typeId peer most count : ℕ) (ids t t′ : List ℕ) (held : ℕ) → count + length ids / idSize ≤ most
+pub few-ids : (clock typeId peer most count : ℕ) (ids t : List ℕ) {t′ : List ℕ} {held : ℕ} → count + length ids / idSize ≤ most
     → (held ≡ length (markRequested clock typeId peer (idsIn ids) (requestsIn count t)))
     × (t′ ≡ holding count (markRequested clock typeId peer (idsIn ids) (requestsIn count t)) t)
     → (Pending held ≡ markedAs most (markRequested clock typeId peer (idsIn ids) (requestsIn count t)))
     × (t′ ≡ heldWithin most count (markRequested clock typeId peer (idsIn ids) (requestsIn count t)) t)
-few-ids clock typeId peer most count ids t t′ held room e =
+few-ids clock typeId peer most count ids t room e =
     let all : List Request = markRequested clock typeId peer (idsIn ids) (requestsIn count t) in
     let longer = marked-length clock typeId peer (idsIn ids) (requestsIn count t) in
     let fits : length all ≤ most = omega (arith, longer, length-requests count t, length-ids ids) in

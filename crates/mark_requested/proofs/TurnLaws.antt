@@ -23,9 +23,9 @@ use Rattle.mark_requested.specs.Turns.{frontAfter, roomAfter}
 use Rattle.model.specs.Layout.{idSize, recordSize}
 
 -- an id, then what follows it in another record
-pub new-written : (p : ℕ) (id blank d o₁ o₂ : List ℕ) → length id ≡ idSize → length blank ≡ recordSize → p + recordSize ≤ length d
+pub new-written : (p : ℕ) (id blank d : List ℕ) {o₁ o₂ : List ℕ} → length id ≡ idSize → length blank ≡ recordSize → p + recordSize ≤ length d
     → o₁ ≡ overwritten p id d → o₂ ≡ overwritten (p + idSize) (take 22 (drop idSize blank)) o₁ → o₂ ≡ overwritten p (id ++ drop idSize blank) d
-new-written p id blank d o₁ o₂ l lb h e₁ e₂ =
+new-written p id blank d {o₁} {o₂} l lb h e₁ e₂ =
     let n : length (drop idSize blank) ≡ 22 = length-drop idSize blank ∙ omega arith in
     let t : take 22 (drop idSize blank) ≡ drop idSize blank = take-all 22 (drop idSize blank) (omega arith) in
     written-next p 32 id (drop idSize blank) d o₁ o₂ l (omega arith) e₁ (rw t at e₂)
@@ -82,12 +82,12 @@ module _ {count : ℕ} {t ids places blank room : List ℕ} {front : Front} (tur
 pub rest-full : {X : Type 0} (most total : ℕ) → most < total → (Full ≡ cond (leb total most) (Pending total) Full) × (leb total most ≡ true → X)
 rest-full most total h = let e : leb total most ≡ false = lt-leb total most h in (rw e, λ t. absurd (false≢true (rw e at t)))
 
-pub rest-held : (most count records held : ℕ) (table room room′ : List ℕ) → held + (count - records) ≤ most
+pub rest-held : (most count records held : ℕ) (table room : List ℕ) {room′ : List ℕ} → held + (count - records) ≤ most
     → room′ ≡ overwritten (held * recordSize) (take (count * recordSize - records * recordSize) (drop (records * recordSize) table)) room
     → (Pending (held + (count - records)) ≡ cond (leb (held + (count - records)) most) (Pending (held + (count - records))) Full)
     × (leb (held + (count - records)) most ≡ true
     → room′ ≡ overwritten (held * recordSize) (take ((count - records) * recordSize) (drop (records * recordSize) table)) room)
-rest-held most count records held table room room′ h e =
+rest-held most count records held table room h e =
     let t : leb (held + (count - records)) most ≡ true = le-leb (held + (count - records)) most h in
     let d : count * recordSize - records * recordSize ≡ (count - records) * recordSize = omega arith in
     (rw t, λ u. rw d at e)
