@@ -73,7 +73,8 @@ module _ {clock typeId peer count : ℕ} {ids d : List ℕ} (each : Each clock t
         bytes = bytes-take (at + idSize - at) (drop at ids) (bytes-drop at ids (each .bytes-ids));
       }
 
-      pub each-turn : {held′ : ℕ} {t′ : List ℕ} → (held′ ≡ length new) × (t′ ≡ holding held new t) → Bytes t′ → Entering clock typeId peer count ids d t′ held′ (at + idSize)
+      pub each-turn : {held′ : ℕ} {t′ : List ℕ} → (held′ ≡ length new) × (t′ ≡ holding held new t) → Bytes t′
+          → Entering clock typeId peer count ids d t′ held′ (at + idSize)
       each-turn {held′} {t′} e f′ =
           let n : idsIn (drop at ids) ≡ id ∷ idsIn (drop (at + idSize) ids) = ids-from at ids (each .whole) (s .whole) o in
           let old-fit = grown-recorded count d held t (s .grown) in

@@ -11,7 +11,7 @@ use lib.Seq.{length-take-le}
 use borrow.Author.Tests.{leb-true, leb-false, ltb-false, le-leb, lt-leb}
 use Rattle.fields.specs.Facts.{Bytes}
 use Rattle.fields.specs.Order.{before, same}
-use Rattle.fields.specs.Entries.{entries, rising}
+use Rattle.fields.specs.Entries.{entries}
 use Rattle.fields.specs.Overwrite.{overwritten}
 use Rattle.fields.proofs.RisingLaws.{rising-ascending}
 use Rattle.fields.proofs.AllLaws.{all-drop}
@@ -58,6 +58,10 @@ module _ {clock typeId peer most count : ℕ} {t ids places first : List ℕ} (p
   abbrev total : ℕ
   total = front .held + (count - front .records)
 
+  -- the room with the records that are left behind those held
+  abbrev filled : List ℕ
+  filled = overwritten (front .held * recordSize) (take ((count - front .records) * recordSize) (drop (front .records * recordSize) t)) room
+
   entered : all ≡ enterAll clock typeId peer (idsAt ids places) (map requestOf (entries recordSize count t))
   entered =
       let ascend = rising-ascending idSize (entries recordSize count t) (pass .rises) in
@@ -90,8 +94,9 @@ module _ {clock typeId peer most count : ℕ} {t ids places first : List ℕ} (p
 
     rest-is : entries recordSize (front .held) room ++ records ≡ map requestBytes all
     rest-is =
-        let wide = all-drop (λ (e : List ℕ). length e ≡ recordSize) (front .records) (entries recordSize count t) (entries-wide recordSize count t (pass .records-in)) in
-        let bytes = all-drop Bytes (front .records) (entries recordSize count t) (entries-bytes recordSize count t (pass .bytes)) in
+        let es : List (List ℕ) = entries recordSize count t in
+        let wide = all-drop (λ (e : List ℕ). length e ≡ recordSize) (front .records) es (entries-wide recordSize count t (pass .records-in)) in
+        let bytes = all-drop Bytes (front .records) es (entries-bytes recordSize count t (pass .bytes)) in
         let b : map requestBytes (map requestOf records) ≡ records = records-of-requests records wide bytes in
         ap (λ (l : List (List ℕ)). entries recordSize (front .held) room ++ l) (sym b) ∙ rw none-left at whole
 
@@ -101,7 +106,8 @@ module _ {clock typeId peer most count : ℕ} {t ids places first : List ℕ} (p
         ∙ ap length rest-is
         ∙ length-map all requestBytes
 
-    in-place : (room′ : List ℕ) → room′ ≡ overwritten (front .held * recordSize) (take ((count - front .records) * recordSize) (drop (front .records * recordSize) t)) room
+    in-place : (room′ : List ℕ)
+        → room′ ≡ filled
         → entries recordSize (length all) room′ ≡ map requestBytes all
     in-place room′ e =
         let k : ℕ = count - front .records in
@@ -117,12 +123,12 @@ module _ {clock typeId peer most count : ℕ} {t ids places first : List ℕ} (p
 
   pub merge-ends : {answer : Marked} {room′ : List ℕ} → ltb (front .ids) (length places) && leb (front .held) most ≡ false
       → (answer ≡ cond (leb total most) (Pending total) Full)
-      × (leb total most ≡ true → room′ ≡ overwritten (front .held * recordSize) (take ((count - front .records) * recordSize) (drop (front .records * recordSize) t)) room)
+      × (leb total most ≡ true → room′ ≡ filled)
       → (answer ≡ markedAs most all) × (leb (length all) most ≡ true → entries recordSize (length all) room′ ≡ map requestBytes all)
   merge-ends {answer} {room′} over p = go (leb total most) refl (p .0) (p .1)
     where
       go : (b : Bool) → leb total most ≡ b → answer ≡ cond b (Pending total) Full
-          → (b ≡ true → room′ ≡ overwritten (front .held * recordSize) (take ((count - front .records) * recordSize) (drop (front .records * recordSize) t)) room)
+          → (b ≡ true → room′ ≡ filled)
           → (answer ≡ markedAs most all) × (leb (length all) most ≡ true → entries recordSize (length all) room′ ≡ map requestBytes all)
       go true h a w =
           let few : total ≤ most = leb-true total most h in

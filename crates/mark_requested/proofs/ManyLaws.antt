@@ -78,7 +78,8 @@ module _ {clock typeId peer most count : ℕ} {ids places t : List ℕ} (p : Pla
     pub few : held ≤ most
     few = omega (arith, says .1, leb-true (length all) most (says .0))
 
-    pub copied-back : (room : List ℕ) {t′ : List ℕ} → (leb (length all-placed) most ≡ true → entries recordSize (length all-placed) room ≡ map requestBytes all-placed)
+    pub copied-back : (room : List ℕ) {t′ : List ℕ}
+        → (leb (length all-placed) most ≡ true → entries recordSize (length all-placed) room ≡ map requestBytes all-placed)
         → t′ ≡ take (held * recordSize) room ++ drop (held * recordSize) t → (Pending held ≡ markedAs most all) × (t′ ≡ heldWithin most count all t)
     unfolding holding
     copied-back room {t′} w et =

@@ -168,7 +168,8 @@ module _ {clock typeId peer most count : ℕ} {t ids places first : List ℕ} (p
       done = ap (λ (l : List (List ℕ)). entries recordSize (front .held) room ++ l) (sym e) ∙ s .done;
     }
 
-    written : (i j : ℕ) (e : List ℕ) → i ≤ count → j ≤ length places → length e ≡ recordSize → left front ≡ e ∷ left-over clock typeId peer t ids places count j i
+    written : (i j : ℕ) (e : List ℕ) → i ≤ count → j ≤ length places → length e ≡ recordSize
+        → left front ≡ e ∷ left-over clock typeId peer t ids places count j i
         → Held (overwritten (front .held * recordSize) e room) (record { records = i; ids = j; held = front .held + 1 })
     written i j e li lj le q = record {
       records-le = li;
@@ -204,15 +205,18 @@ module _ {clock typeId peer most count : ℕ} {t ids places first : List ℕ} (p
     turned = one-turn clock typeId peer x xs this-rises requests
 
     by-choice : (chosen : Choice) → choiceAt (x ∷ xs) requests ≡ chosen
-        → Held (roomAfter chosen (entry recordSize (front .records) t) (requestBytes (newRequest clock typeId peer x)) (front .held) room) (frontAfter chosen front)
+        → let new = requestBytes (newRequest clock typeId peer x) in
+        Held (roomAfter chosen (entry recordSize (front .records) t) new (front .held) room) (frontAfter chosen front)
     by-choice Keep e =
         let h : front .records < count = keep-inside count (front .records) t (x ∷ xs) Keep (sym e) refl in
         let first-left : List ℕ = entry recordSize (front .records) t in
         let k : front .records * recordSize + recordSize ≤ length t = omega (arith, mul-le-mul-right recordSize h, pass .records-in) in
         let le : length first-left ≡ recordSize = length-entry recordSize (front .records) t k in
-        let n : drop (front .records) (entries recordSize count t) ≡ first-left ∷ drop (front .records + 1) (entries recordSize count t) = next-record count (front .records) t h in
+        let es : List (List ℕ) = entries recordSize count t in
+        let n : drop (front .records) es ≡ first-left ∷ drop (front .records + 1) es = next-record count (front .records) t h in
         let b : requestBytes (requestOf first-left) ≡ first-left = bytes-of-request first-left le (entry-bytes (front .records) t (pass .bytes)) in
-        written (front .records + 1) (front .ids) first-left (omega arith) (s .ids-le) le (rw (these, n) (ap (map requestBytes) (rw n at (rw e at turned)) ∙ rw b))
+        written (front .records + 1) (front .ids) first-left (omega arith) (s .ids-le) le
+        (rw (these, n) (ap (map requestBytes) (rw n at (rw e at turned)) ∙ rw b))
     by-choice Skip e = skipped (rw these (ap (map requestBytes) (rw e at turned)))
     by-choice Enter e =
         let new = newRequest clock typeId peer x in
@@ -220,7 +224,8 @@ module _ {clock typeId peer most count : ℕ} {t ids places first : List ℕ} (p
         (rw these (ap (map requestBytes) (rw e at turned)))
 
     pub turn-on : (blank : List ℕ) → blank ≡ requestBytes (newRequest clock typeId peer (zeros idSize)) → {front′ : Front} {room′ : List ℕ}
-        → (front′ ≡ frontAfter choice front) × (room′ ≡ roomAfter choice (entry recordSize (front .records) t) (x ++ drop idSize blank) (front .held) room) → Held room′ front′
+        → (front′ ≡ frontAfter choice front) × (room′ ≡ roomAfter choice (entry recordSize (front .records) t) (x ++ drop idSize blank) (front .held) room)
+        → Held room′ front′
     turn-on blank eb e = rw (e .0, e .1, ← new-split clock typeId peer x blank eb) (by-choice choice (rw these))
 
     -- each turn leaves less
@@ -230,6 +235,8 @@ module _ {clock typeId peer most count : ℕ} {t ids places first : List ℕ} (p
       where
         go : (c : Choice) → c ≡ choice
             → (count - frontAfter c front .records) + (length places - frontAfter c front .ids) < (count - front .records) + (length places - front .ids)
-        go Keep q = let h : front .records < count = keep-inside count (front .records) t (idsAt ids (drop (front .ids) places)) Keep q refl in omega (arith, inside)
+        go Keep q =
+            let h : front .records < count = keep-inside count (front .records) t (idsAt ids (drop (front .ids) places)) Keep q refl in
+            omega (arith, inside)
         go Skip q = omega (arith, inside)
         go Enter q = omega (arith, inside)

@@ -56,8 +56,9 @@ module _ {count : ℕ} {t ids places blank room : List ℕ} {front : Front} (tur
 
   module _ {choice : Choice} (e : choice ≡ told) where
     pub kept-turn : {room′ : List ℕ} → choice ≡ Keep
-        → room′ ≡ overwritten (front .held * recordSize) (take (front .records * recordSize + recordSize - front .records * recordSize) (drop (front .records * recordSize) t)) room
-        → (record { records = front .records + 1; ids = front .ids; held = front .held + 1 } ≡ frontAfter told front) × (room′ ≡ roomAfter told kept new (front .held) room)
+        → let from = front .records * recordSize in room′ ≡ overwritten (front .held * recordSize) (take (from + recordSize - from) (drop from t)) room
+        → (record { records = front .records + 1; ids = front .ids; held = front .held + 1 } ≡ frontAfter told front)
+        × (room′ ≡ roomAfter told kept new (front .held) room)
     unfolding entry
     kept-turn k r =
         let d : front .records * recordSize + recordSize - front .records * recordSize ≡ recordSize = omega arith in
@@ -65,12 +66,14 @@ module _ {count : ℕ} {t ids places blank room : List ℕ} {front : Front} (tur
         rw q (refl, rw d at r)
 
     pub skipped-turn : choice ≡ Skip
-        → (record { records = front .records; ids = front .ids + 1; held = front .held } ≡ frontAfter told front) × (room ≡ roomAfter told kept new (front .held) room)
+        → (record { records = front .records; ids = front .ids + 1; held = front .held } ≡ frontAfter told front)
+        × (room ≡ roomAfter told kept new (front .held) room)
     skipped-turn k = let q : told ≡ Skip = sym e ∙ k in rw q (refl, refl)
 
     pub entered-turn : {p : ℕ} {room′ : List ℕ} → p ≡ getD places (front .ids) 0 → choice ≡ Enter
         → room′ ≡ overwritten (front .held * recordSize) (take (p * idSize + idSize - p * idSize) (drop (p * idSize) ids) ++ drop idSize blank) room
-        → (record { records = front .records; ids = front .ids + 1; held = front .held + 1 } ≡ frontAfter told front) × (room′ ≡ roomAfter told kept new (front .held) room)
+        → (record { records = front .records; ids = front .ids + 1; held = front .held + 1 } ≡ frontAfter told front)
+        × (room′ ≡ roomAfter told kept new (front .held) room)
     unfolding entry
     entered-turn {p} ep k r =
         let d : p * idSize + idSize - p * idSize ≡ idSize = omega arith in

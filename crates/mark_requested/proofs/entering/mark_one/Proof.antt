@@ -40,8 +40,10 @@ insert-requires c κs =
     let made : tie.After-new-record = search in
     let place : tie.After-gap = search in
     let searched : tie.After-find = search in
-    let o = one searched in
-    (gap-fits o (searched .find .ensures) (place .gap .given .1), (ap length (made .new-record .ensures) ∙ new-long o, omega (arith, start searched .pre .0 .1)))
+    let o = one searched in (
+      gap-fits o (searched .find .ensures) (place .gap .given .1),
+      (ap length (made .new-record .ensures) ∙ new-long o, omega (arith, start searched .pre .0 .1)),
+    )
 
 add-result : tie.Need-add-result
 add-result c = search needs

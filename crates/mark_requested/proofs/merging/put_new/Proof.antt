@@ -31,7 +31,8 @@ returns c =
     let a = s .args in
     let id : tie.After-overwrite = search in
     let rest : tie.After-overwrite2 = search in
-    new-written (a .at) (a .id .now) (a .blank .now) (a .room .now) (s .pre .0) (s .pre .1 .0) (s .pre .1 .1) (id .overwrite .ensures) (rest .overwrite2 .ensures)
+    new-written (a .at) (a .id .now) (a .blank .now) (a .room .now) (s .pre .0) (s .pre .1 .0) (s .pre .1 .1)
+    (id .overwrite .ensures) (rest .overwrite2 .ensures)
 
 pub put-new-spec : {M : Type 1} → statement M
 put-new-spec =
