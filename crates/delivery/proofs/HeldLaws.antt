@@ -49,7 +49,8 @@ module _ {count : ℕ} {table : List ℕ} (t : Table count table) where
   filtered test =
       let all : List (List ℕ) = entries recordSize count table in
       let as-record : List ℕ → Bool = λ (e : List ℕ). test (requestOf e) in
-      let w : Wide recordSize (kept as-record all) = all-kept (λ (e : List ℕ). length e ≡ recordSize) as-record all (entries-wide recordSize count table (t .fits)) in
+      let wide = entries-wide recordSize count table (t .fits) in
+      let w : Wide recordSize (kept as-record all) = all-kept (λ (e : List ℕ). length e ≡ recordSize) as-record all wide in
       let n : All Bytes (kept as-record all) = all-kept Bytes as-record all (entries-bytes recordSize count table (t .bytes)) in
       rw (kept-map requestOf test all, records-of-requests (kept as-record all) w n)
 

@@ -104,7 +104,8 @@ pub record Unlisting (count : ℕ) (table ids marks₀ marks : List ℕ) (at : �
   pub whole : at % idSize ≡ 0
   pub at-le : at ≤ length ids
   pub long : length marks ≡ length marks₀
-  pub left : unlisted (idsIn (drop at ids)) (marked marks (entries recordSize count table)) ≡ unlisted (idsIn ids) (marked marks₀ (entries recordSize count table))
+  pub left : unlisted (idsIn (drop at ids)) (marked marks (entries recordSize count table))
+      ≡ unlisted (idsIn ids) (marked marks₀ (entries recordSize count table))
 
 pub listed-starts : (count : ℕ) (table ids marks : List ℕ) → Unlisting count table ids marks marks 0
 listed-starts count table ids marks = record { whole = refl; at-le = omega arith; long = refl; left = refl }

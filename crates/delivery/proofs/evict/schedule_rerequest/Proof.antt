@@ -15,7 +15,8 @@ module _ (c : tie.After-marks-left) where
   abbrev marked : tie.After-marks-of-unlisted
   marked = search
 
-  scheduling : let a = start .args in Scheduling (a .count) (a .evicted) (c .marks-left .result) (marked .marks-of-unlisted .result) (a .ids .now) (a .region .now)
+  scheduling : let a = start .args in
+      Scheduling (a .count) (a .evicted) (c .marks-left .result) (marked .marks-of-unlisted .result) (a .ids .now) (a .region .now)
   scheduling =
       let region : tie.After-slice-known = search in
       record {
