@@ -25,7 +25,8 @@ module _ (gate : Bool) (items : List Item) (at batch : ℕ) (out : List ℕ) whe
   pub unsent : gate ≡ false → SendsAs (cond gate items []) at batch out at batch out
   unsent e = rw e (sends-none at batch out)
 
-  pub sent : {at′ batch′ : ℕ} {out′ : List ℕ} → gate ≡ true → SendsAs items at batch out at′ batch′ out′ → SendsAs (cond gate items []) at batch out at′ batch′ out′
+  pub sent : {at′ batch′ : ℕ} {out′ : List ℕ} → gate ≡ true → SendsAs items at batch out at′ batch′ out′
+      → SendsAs (cond gate items []) at batch out at′ batch′ out′
   sent e h = rw e h
 
   -- no place is noted

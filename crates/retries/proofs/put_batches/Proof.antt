@@ -1,7 +1,7 @@
 -- The loop: what is written, then the batches of the list from i on, is the whole (`Writing`); a turn writes batch i (`Turn`).
 use native.Mathlib.Omega.{arith}
 use Prim.Native.Nat.{_-_, _<_}
-use lib.ListN.{length, getD}
+use lib.ListN.{getD}
 use Rattle.model.specs.Protocol.{trackedLimit}
 use Rattle.retries.specs.declared.batches.Batch.{Batch}
 use Rattle.retries.proofs.WritingLaws.{Asking, Writing, Turn, writing-starts, writing-ends, turn}

@@ -46,7 +46,8 @@ put-batches-requires c κs =
       (
         sorted-asked order,
         (
-          ids-alone (s .args .table .now) (places sorted) (s .args .ids .now) (sorted-asked order) (omega (arith, long, s .pre .1 .1 .0)) (taken .gather .ensures),
+          ids-alone (s .args .table .now) (places sorted) (s .args .ids .now) (sorted-asked order)
+              (omega (arith, long, s .pre .1 .1 .0)) (taken .gather .ensures),
           omega (arith, long, s .pre .1 .1 .1),
         ),
       ),
