@@ -8,7 +8,8 @@ use lib.ListN.{length, length-map}
 use Rattle.fields.specs.Facts.{All, Bytes}
 use Rattle.fields.specs.Entries.{entries, rising, replaced}
 use Rattle.fields.proofs.RisingLaws.{rising-ascending, ascending-rising}
-use Rattle.fields.proofs.EntriesLaws.{length-entries, entries-wide, entries-bytes, entries-replaced, length-replaced, replaced-same, replaced-again}
+use Rattle.fields.proofs.EntriesLaws.{length-entries, entries-wide, entries-bytes, entries-replaced}
+use Rattle.fields.proofs.EntriesLaws.{length-replaced, replaced-same, replaced-again}
 use Rattle.model.specs.Delivery.{Request, idsOf}
 use Rattle.model.specs.Image.{requestOf, requestBytes}
 use Rattle.model.proofs.Well.{RisingIds}
@@ -24,7 +25,8 @@ length-requests count t = length-map (entries recordSize count t) requestOf ∙ 
 pub holding-same : (count : ℕ) (t : List ℕ) → count * recordSize ≤ length t → Bytes t → holding count (requestsIn count t) t ≡ t
 unfolding holding
 holding-same count t fits f =
-    rw (records-of-requests (entries recordSize count t) (entries-wide recordSize count t fits) (entries-bytes recordSize count t f)) (replaced-same recordSize count t)
+    let back = records-of-requests (entries recordSize count t) (entries-wide recordSize count t fits) (entries-bytes recordSize count t f) in
+    rw back (replaced-same recordSize count t)
 
 -- t is the table d, of `count` requests, once it holds `held` requests that rise
 pub record Grown (count : ℕ) (d : List ℕ) (held : ℕ) (t : List ℕ) : Type 0 where
@@ -65,8 +67,10 @@ module _ (count : ℕ) (d : List ℕ) (held : ℕ) (t : List ℕ) (s : Grown cou
     as-one =
         let old : List (List ℕ) = map requestBytes (requestsIn held t) in
         let lo : length old ≡ held = length-map (requestsIn held t) requestBytes ∙ length-requests held t in
-        let q : replaced recordSize held (map requestBytes new) t ≡ replaced recordSize held (map requestBytes new) (replaced recordSize count old d) = ap (replaced recordSize held (map requestBytes new)) (s .table) in
-        q ∙ rw lo at (replaced-again recordSize count old (map requestBytes new) d (records-wide (requestsIn held t) grown-recorded) (omega (arith, new-records)))
+        let with-new : List ℕ → List ℕ = replaced recordSize held (map requestBytes new) in
+        let wide = records-wide (requestsIn held t) grown-recorded in
+        let q : with-new t ≡ with-new (replaced recordSize count old d) = ap with-new (s .table) in
+        q ∙ rw lo at (replaced-again recordSize count old (map requestBytes new) d wide (omega (arith, new-records)))
 
     pub grows : Bytes t′ → Grown count d held′ t′
     unfolding holding

@@ -26,7 +26,10 @@ entries-recorded (e ∷ es) w f =
     let b : Bytes e = f .0 in (
       record {
         id = record { long = length-take-le 32 e (omega arith); bytes = bytes-take idSize e b };
-        cells = (part-below 32 8 e (omega arith) b, (part-below 40 2 e (omega arith) b, (part-below 42 8 e (omega arith) b, (part-below 50 4 e (omega arith) b, tt))));
+        cells = (
+          part-below 32 8 e (omega arith) b,
+          (part-below 40 2 e (omega arith) b, (part-below 42 8 e (omega arith) b, (part-below 50 4 e (omega arith) b, tt))),
+        );
       },
       entries-recorded es (w .1) (f .1),
     )
@@ -34,8 +37,9 @@ entries-recorded (e ∷ es) w f =
 pub well-ids : (ids : List ℕ) → Bytes ids → All WellId (idsIn ids)
 unfolding idsIn
 well-ids ids f =
-    all-weaker (λ (e : List ℕ). (length e ≡ idSize) × Bytes e) WellId (λ e p. record { long = p .0; bytes = p .1 }) (entries idSize (length ids / idSize) ids)
-    (entries-all 32 (length ids / idSize) ids (omega arith) f)
+    let es : List (List ℕ) = entries idSize (length ids / idSize) ids in
+    let each = entries-all 32 (length ids / idSize) ids (omega arith) f in
+    all-weaker (λ (e : List ℕ). (length e ≡ idSize) × Bytes e) WellId (λ e p. record { long = p .0; bytes = p .1 }) es each
 
 -- ---- what is read of a record
 

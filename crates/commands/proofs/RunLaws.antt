@@ -14,7 +14,7 @@ use Rattle.model.specs.Requests.{request, runs, runsWithin, commandsOf}
 use Rattle.model.specs.Lists.{idsIn}
 use Rattle.model.specs.Commands.{commandBytes, allCommandBytes}
 use Rattle.commands.proofs.WriteLaws.{length-ids, commandFor, length-command}
-use Rattle.model.specs.Layout.{chunkSize, idSize}
+use Rattle.model.specs.Layout.{chunkSize, idListSize, idSize}
 
 -- ---- runs of ids
 
@@ -35,40 +35,47 @@ unfolding runs
 runs-turn [] h = absurd (omega arith)
 runs-turn (id ∷ ids) h =
     let e : length (drop 400 (id ∷ ids)) ≡ length (id ∷ ids) - 400 = length-drop 400 (id ∷ ids) in
-    ap (λ (r : List (List Id)). take 400 (id ∷ ids) ∷ r) (within-more (length ids) (length (drop 400 (id ∷ ids))) (drop 400 (id ∷ ids)) (omega arith) (omega arith))
+    let rest : List Id = drop 400 (id ∷ ids) in
+    ap (λ (r : List (List Id)). take 400 (id ∷ ids) ∷ r) (within-more (length ids) (length rest) rest (omega arith) (omega arith))
 
 -- ---- the first m ids and the others, by their bytes
 
 module _ (m : ℕ) (bytes : List ℕ) (whole : length bytes % idSize ≡ 0) where
+  abbrev number : ℕ
+  number = length bytes / idSize
+
+  abbrev ids : List Id
+  ids = entries idSize number bytes
+
   pub take-ids : take m (idsIn bytes) ≡ idsIn (take (m * idSize) bytes)
   unfolding idsIn
-  take-ids = go (length bytes / idSize - m) refl
+  take-ids = go (number - m) refl
     where
-      go : (k : ℕ) → length bytes / idSize - m ≡ k → take m (entries idSize (length bytes / idSize) bytes) ≡ entries idSize (length (take (m * idSize) bytes) / idSize) (take (m * idSize) bytes)
+      go : (k : ℕ) → number - m ≡ k → take m ids ≡ entries idSize (length (take (m * idSize) bytes) / idSize) (take (m * idSize) bytes)
       go zero e =
           let b : take (m * idSize) bytes ≡ bytes = take-all (m * idSize) bytes (omega arith) in
-          let l : length (entries idSize (length bytes / idSize) bytes) ≡ length bytes / idSize = length-entries idSize (length bytes / idSize) bytes in
-          take-all m (entries idSize (length bytes / idSize) bytes) (omega arith) ∙ rw b
+          let l : length ids ≡ number = length-entries idSize number bytes in
+          take-all m ids (omega arith) ∙ rw b
       go (suc k) e =
-          let s : m + (length bytes / idSize - m) ≡ length bytes / idSize = omega arith in
+          let s : m + (number - m) ≡ number = omega arith in
           let l : length (take (m * idSize) bytes) ≡ m * idSize = length-take-le (m * idSize) bytes (omega arith) in
           let n : length (take (m * idSize) bytes) / idSize ≡ m = omega arith in
-          let t : take m (entries idSize (length bytes / idSize) bytes) ≡ entries idSize m bytes = rw s at (take-entries idSize m (length bytes / idSize - m) bytes) in
+          let t : take m ids ≡ entries idSize m bytes = rw s at (take-entries idSize m (number - m) bytes) in
           t ∙ rw n (sym (entries-take idSize m (m * idSize) bytes (omega arith) (omega arith)))
 
   pub drop-ids : drop m (idsIn bytes) ≡ idsIn (drop (m * idSize) bytes)
   unfolding idsIn
-  drop-ids = go (length bytes / idSize - m) refl
+  drop-ids = go (number - m) refl
     where
-      go : (k : ℕ) → length bytes / idSize - m ≡ k → drop m (entries idSize (length bytes / idSize) bytes) ≡ entries idSize (length (drop (m * idSize) bytes) / idSize) (drop (m * idSize) bytes)
+      go : (k : ℕ) → number - m ≡ k → drop m ids ≡ entries idSize (length (drop (m * idSize) bytes) / idSize) (drop (m * idSize) bytes)
       go zero e =
-          let l : length (entries idSize (length bytes / idSize) bytes) ≡ length bytes / idSize = length-entries idSize (length bytes / idSize) bytes in
-          rw (drop-of-length-le (entries idSize (length bytes / idSize) bytes) {i = m} (omega arith), drop-of-length-le bytes {i = m * idSize} (omega arith))
+          let l : length ids ≡ number = length-entries idSize number bytes in
+          rw (drop-of-length-le ids {i = m} (omega arith), drop-of-length-le bytes {i = m * idSize} (omega arith))
       go (suc k) e =
-          let s : m + (length bytes / idSize - m) ≡ length bytes / idSize = omega arith in
+          let s : m + (number - m) ≡ number = omega arith in
           let l : length (drop (m * idSize) bytes) ≡ length bytes - m * idSize = length-drop (m * idSize) bytes in
-          let n : length (drop (m * idSize) bytes) / idSize ≡ length bytes / idSize - m = omega arith in
-          let t : drop m (entries idSize (length bytes / idSize) bytes) ≡ entries idSize (length bytes / idSize - m) (drop (m * idSize) bytes) = rw s at (drop-entries idSize m (length bytes / idSize - m) bytes) in
+          let n : length (drop (m * idSize) bytes) / idSize ≡ number - m = omega arith in
+          let t : drop m ids ≡ entries idSize (number - m) (drop (m * idSize) bytes) = rw s at (drop-entries idSize m (number - m) bytes) in
           t ∙ rw n
 
 -- ---- one id after another
@@ -107,16 +114,19 @@ module _ (typeId batch peer : ℕ) where
   requests-nil = refl
 
   requests-turn : (bytes : List ℕ) → length bytes % idSize ≡ 0 → 0 < length bytes
-      → requestsFor typeId batch peer bytes ≡ commandBytes (commandFor 1 typeId batch peer (take chunkSize bytes)) ++ requestsFor typeId batch peer (drop chunkSize bytes)
+      → requestsFor typeId batch peer bytes
+      ≡ commandBytes (commandFor 1 typeId batch peer (take chunkSize bytes)) ++ requestsFor typeId batch peer (drop chunkSize bytes)
   requests-turn bytes h l =
       let n : 0 < length (idsIn bytes) = rw (length-ids bytes) (omega arith) in
       rw (runs-turn (idsIn bytes) n, take-ids 400 bytes h, drop-ids 400 bytes h)
 
-pub chunk-length : (bytes run : List ℕ) (done : ℕ) → length bytes % idSize ≡ 0 → done % idSize ≡ 0 → done < length bytes → run ≡ take chunkSize (drop done bytes)
-    → ((0 < length run) × (done + length run ≤ length bytes)) × ((length run % idSize ≡ 0) × (length run ≤ chunkSize))
-chunk-length bytes run done w v h e =
-    let l : length run ≡ min chunkSize (length bytes - done) = ap length e ∙ length-take chunkSize (drop done bytes) ∙ rw length-drop in
-    rw l (omega arith)
+-- ---- the list written
+
+-- What stays the same: whole ids, and room for all their requests.
+pub record Run (typeId batch peer at : ℕ) (bytes d : List ℕ) : Type 0 where
+  pub whole : length bytes % idSize ≡ 0
+  pub few : length bytes ≤ idListSize
+  pub room : at + length (requestsFor typeId batch peer bytes) ≤ length d
 
 -- What is left, written at `place`, gives the whole.
 pub record Putting (typeId batch peer at : ℕ) (bytes d out : List ℕ) (place done : ℕ) : Type 0 where
@@ -126,66 +136,76 @@ pub record Putting (typeId batch peer at : ℕ) (bytes d out : List ℕ) (place 
   pub to : place + length (requestsFor typeId batch peer (drop done bytes)) ≡ at + length (requestsFor typeId batch peer bytes)
   pub rest : overwritten place (requestsFor typeId batch peer (drop done bytes)) out ≡ overwritten at (requestsFor typeId batch peer bytes) d
 
-pub put-starts : (typeId batch peer at : ℕ) (bytes d : List ℕ) → Putting typeId batch peer at bytes d d at 0
-put-starts typeId batch peer at bytes d = record { done-le = omega arith; whole = refl; long = refl; to = refl; rest = refl }
+module _ {typeId batch peer at : ℕ} {bytes d : List ℕ} (all : Run typeId batch peer at bytes d) where
+  pub put-starts : Putting typeId batch peer at bytes d d at 0
+  put-starts = record { done-le = omega arith; whole = refl; long = refl; to = refl; rest = refl }
 
-module _ (typeId batch peer at : ℕ) (bytes d out : List ℕ) (place done : ℕ) (s : Putting typeId batch peer at bytes d out place done) (w : length bytes % idSize ≡ 0) where
-  module _ (room : at + length (requestsFor typeId batch peer bytes) ≤ length d) (h : done < length bytes) (run : List ℕ) (e : run ≡ take chunkSize (drop done bytes)) where
-    left-whole : length (drop done bytes) % idSize ≡ 0
-    left-whole = rw (length-drop done bytes) (omega (arith, s .whole))
+  module _ {out : List ℕ} {place done : ℕ} (s : Putting typeId batch peer at bytes d out place done) where
+    -- the next run of what is left
+    module _ (h : done < length bytes) {run : List ℕ} (e : run ≡ take chunkSize (drop done bytes)) where
+      abbrev this : List ℕ
+      this = commandBytes (commandFor 1 typeId batch peer run)
 
-    left-some : 0 < length (drop done bytes)
-    left-some = rw (length-drop done bytes) (omega arith)
+      abbrev others : List ℕ
+      others = requestsFor typeId batch peer (drop chunkSize (drop done bytes))
 
-    others : List ℕ
-    others = requestsFor typeId batch peer (drop chunkSize (drop done bytes))
+      pub chunk-length : ((0 < length run) × (done + length run ≤ length bytes)) × ((length run % idSize ≡ 0) × (length run ≤ chunkSize))
+      chunk-length =
+          let l : length run ≡ min chunkSize (length bytes - done) = ap length e ∙ length-take chunkSize (drop done bytes) ∙ rw length-drop in
+          rw l (omega (arith, all .whole, s .whole))
 
-    this : requestsFor typeId batch peer (drop done bytes) ≡ commandBytes (commandFor 1 typeId batch peer run) ++ requestsFor typeId batch peer (drop chunkSize (drop done bytes))
-    this = requests-turn typeId batch peer (drop done bytes) left-whole left-some ∙ rw (← e)
+      left-whole : length (drop done bytes) % idSize ≡ 0
+      left-whole = rw (length-drop done bytes) (omega (arith, all .whole, s .whole))
 
-    long-run : length (commandBytes (commandFor 1 typeId batch peer run)) ≡ 16 + length run
-    long-run = length-command 1 typeId batch peer run (chunk-length bytes run done w (s .whole) h e .1 .0)
+      left-some : 0 < length (drop done bytes)
+      left-some = rw (length-drop done bytes) (omega arith)
 
-    long-this : length (requestsFor typeId batch peer (drop done bytes)) ≡ 16 + length run + length (requestsFor typeId batch peer (drop chunkSize (drop done bytes)))
-    long-this = ap length this ∙ length-append (commandBytes (commandFor 1 typeId batch peer run)) (requestsFor typeId batch peer (drop chunkSize (drop done bytes))) ∙ rw long-run
+      this-first : requestsFor typeId batch peer (drop done bytes) ≡ this ++ others
+      this-first = requests-turn typeId batch peer (drop done bytes) left-whole left-some ∙ rw (← e)
 
-    pub put-room : place + 16 + length run ≤ length out
-    put-room = omega (arith, s .to, s .long, long-this)
+      long-run : length this ≡ 16 + length run
+      long-run = length-command 1 typeId batch peer run (chunk-length .1 .0)
 
-    behind : drop (done + length run) bytes ≡ drop chunkSize (drop done bytes)
-    behind = go (length bytes - done - chunkSize) refl
-      where
-        left : length (drop done bytes) ≡ length bytes - done
-        left = length-drop done bytes
+      long-left : length (requestsFor typeId batch peer (drop done bytes)) ≡ 16 + length run + length others
+      long-left = ap length this-first ∙ length-append this others ∙ rw long-run
 
-        go : (n : ℕ) → length bytes - done - chunkSize ≡ n → drop (done + length run) bytes ≡ drop chunkSize (drop done bytes)
-        go zero q =
-            let f : run ≡ drop done bytes = e ∙ take-all chunkSize (drop done bytes) (omega (arith, left)) in
-            let g : length run ≡ length bytes - done = ap length f ∙ left in
-            drop-of-length-le bytes {i = done + length run} (omega (arith, s .done-le)) ∙ sym (drop-of-length-le (drop done bytes) {i = chunkSize} (omega (arith, left)))
-        go (suc n) q =
-            let f : length run ≡ chunkSize = ap length e ∙ length-take-le chunkSize (drop done bytes) (omega (arith, left)) in
-            rw (f, drop-drop)
+      -- what writing it asks
+      pub put-asks : (length run % idSize ≡ 0) × ((length run ≤ idListSize) × (place + 16 + length run ≤ length out))
+      put-asks = (chunk-length .1 .0, (omega (arith, chunk-length .1 .1), omega (arith, s .to, s .long, long-left, all .room)))
 
-    pub put-turn : (o : List ℕ) (place′ : ℕ) → o ≡ overwritten place (commandBytes (commandFor 1 typeId batch peer run)) out → place′ ≡ place + 16 + length run
-        → Putting typeId batch peer at bytes d o place′ (done + length run)
-    put-turn o place′ eo ep =
-        let c : List ℕ = commandBytes (commandFor 1 typeId batch peer run) in
-        let more : List ℕ = requestsFor typeId batch peer (drop chunkSize (drop done bytes)) in
-        let k = chunk-length bytes run done w (s .whole) h e in
-        let r : place + length c + length more ≤ length out = omega (arith, s .to, s .long, long-this, long-run) in
-        let p : place′ ≡ place + length c = omega (arith, long-run) in
-        record {
-          done-le = k .0 .1;
-          whole = let a : length run % idSize ≡ 0 = k .1 .0 in omega (arith, s .whole);
-          long = rw eo (length-overwritten place c out (omega arith)) ∙ s .long;
-          to = rw behind (omega (arith, s .to, long-this));
-          rest = rw (behind, eo, p) (overwritten-next place c more out r ∙ rw (← this) (s .rest));
-        }
+      behind : drop (done + length run) bytes ≡ drop chunkSize (drop done bytes)
+      behind = go (length bytes - done - chunkSize) refl
+        where
+          left : length (drop done bytes) ≡ length bytes - done
+          left = length-drop done bytes
 
-  pub put-ends : length bytes ≤ done → (place ≡ at + length (requestsFor typeId batch peer bytes)) × (out ≡ overwritten at (requestsFor typeId batch peer bytes) d)
-  put-ends h =
-      let z : drop done bytes ≡ [] = drop-of-length-le bytes {i = done} h in
-      let r : requestsFor typeId batch peer (drop done bytes) ≡ [] = rw z (requests-nil typeId batch peer) in
-      let l : length (requestsFor typeId batch peer (drop done bytes)) ≡ 0 = ap length r in
-      (omega (arith, s .to), sym (overwritten-nil place out) ∙ rw r at (s .rest))
+          go : (n : ℕ) → length bytes - done - chunkSize ≡ n → drop (done + length run) bytes ≡ drop chunkSize (drop done bytes)
+          go zero q =
+              let f : run ≡ drop done bytes = e ∙ take-all chunkSize (drop done bytes) (omega (arith, left)) in
+              let g : length run ≡ length bytes - done = ap length f ∙ left in
+              let none : drop chunkSize (drop done bytes) ≡ [] = drop-of-length-le (drop done bytes) {i = chunkSize} (omega (arith, left)) in
+              drop-of-length-le bytes {i = done + length run} (omega (arith, s .done-le)) ∙ sym none
+          go (suc n) q =
+              let f : length run ≡ chunkSize = ap length e ∙ length-take-le chunkSize (drop done bytes) (omega (arith, left)) in
+              rw (f, drop-drop)
+
+      pub put-turn : {o : List ℕ} {place′ : ℕ} → (o ≡ overwritten place this out) × (place′ ≡ place + 16 + length run)
+          → Putting typeId batch peer at bytes d o place′ (done + length run)
+      put-turn {o} {place′} w =
+          let r : place + length this + length others ≤ length out = omega (arith, s .to, s .long, long-left, long-run, all .room) in
+          let p : place′ ≡ place + length this = omega (arith, long-run, w .1) in
+          record {
+            done-le = chunk-length .0 .1;
+            whole = let a : length run % idSize ≡ 0 = chunk-length .1 .0 in omega (arith, s .whole);
+            long = rw (w .0) (length-overwritten place this out (omega arith)) ∙ s .long;
+            to = rw behind (omega (arith, s .to, long-left, w .1));
+            rest = rw (behind, w .0, p) (overwritten-next place this others out r ∙ rw (← this-first) (s .rest));
+          }
+
+    pub put-ends : length bytes ≤ done
+        → (out ≡ overwritten at (requestsFor typeId batch peer bytes) d) × (place ≡ at + length (requestsFor typeId batch peer bytes))
+    put-ends h =
+        let z : drop done bytes ≡ [] = drop-of-length-le bytes {i = done} h in
+        let r : requestsFor typeId batch peer (drop done bytes) ≡ [] = rw z (requests-nil typeId batch peer) in
+        let l : length (requestsFor typeId batch peer (drop done bytes)) ≡ 0 = ap length r in
+        (sym (overwritten-nil place out) ∙ rw r at (s .rest), omega (arith, s .to))

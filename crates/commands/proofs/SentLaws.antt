@@ -18,5 +18,9 @@ unfolding sentBytes
 sent-append batch [] others = rw add-zero
 sent-append batch (s ∷ one) others =
     let n : batch + suc (length one) ≡ suc batch + length one = omega arith in
-    rw (n, commands-append (commandsOf batch s) (commandsFrom (suc batch) (one ++ others)), commands-append (commandsOf batch s) (commandsFrom (suc batch) one), append-assoc (allCommandBytes (commandsOf batch s)) (allCommandBytes (commandsFrom (suc batch) one)) (allCommandBytes (commandsFrom (suc batch + length one) others)))
-    (ap (λ (x : List ℕ). allCommandBytes (commandsOf batch s) ++ x) (sent-append (suc batch) one others))
+    let first : List Command = commandsOf batch s in
+    let rest : List Command = commandsFrom (suc batch) one in
+    let behind : List Command = commandsFrom (suc batch + length one) others in
+    let all = commands-append first (commandsFrom (suc batch) (one ++ others)) in
+    let as-one = append-assoc (allCommandBytes first) (allCommandBytes rest) (allCommandBytes behind) in
+    rw (n, all, commands-append first rest, as-one) (ap (λ (x : List ℕ). allCommandBytes first ++ x) (sent-append (suc batch) one others))

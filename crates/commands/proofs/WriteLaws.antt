@@ -20,13 +20,16 @@ written-next p k a b d o o′ l h e f = f ∙ rw (e, ← l) (overwritten-next p 
 pub two-written : (p a b : ℕ) (d : List ℕ) → p + 2 ≤ length d → set (set d p a) (p + 1) b ≡ overwritten p (a ∷ b ∷ []) d
 two-written p a b d h =
     let l : length (set d p a) ≡ length d = length-set d p a in
-    written-next p 1 (a ∷ []) (b ∷ []) d (set d p a) (set (set d p a) (p + 1) b) refl (omega arith) (overwritten-one p a d (omega arith)) (overwritten-one (p + 1) b (set d p a) (omega arith))
+    let first : set d p a ≡ overwritten p (a ∷ []) d = overwritten-one p a d (omega arith) in
+    let second : set (set d p a) (p + 1) b ≡ overwritten (p + 1) (b ∷ []) (set d p a) = overwritten-one (p + 1) b (set d p a) (omega arith) in
+    written-next p 1 (a ∷ []) (b ∷ []) d (set d p a) (set (set d p a) (p + 1) b) refl (omega arith) first second
 
 abbrev pub commandFor : ℕ → ℕ → ℕ → ℕ → List ℕ → Command
 commandFor kind typeId batch peer bytes = record { kind = kind; typeId = typeId; batch = batch; peer = peer; ids = idsIn bytes }
 
 module _ (kind typeId batch peer : ℕ) (bytes : List ℕ) (whole : length bytes % idSize ≡ 0) where
-  command-split : commandBytes (commandFor kind typeId batch peer bytes) ≡ ((((kind ∷ typeId ∷ []) ++ toBe 2 batch) ++ toBe 8 peer) ++ toBe 4 (length bytes / idSize)) ++ bytes
+  command-split : commandBytes (commandFor kind typeId batch peer bytes)
+      ≡ ((((kind ∷ typeId ∷ []) ++ toBe 2 batch) ++ toBe 8 peer) ++ toBe 4 (length bytes / idSize)) ++ bytes
   unfolding commandBytes
   command-split = rw (joined-ids bytes whole, length-ids bytes)
 
@@ -34,10 +37,11 @@ module _ (kind typeId batch peer : ℕ) (bytes : List ℕ) (whole : length bytes
   length-command = ap length command-split ∙ omega arith
 
   -- its fields, one behind another
-  pub command-written : (p : ℕ) (d o₁ o₂ o₃ o₄ o₅ : List ℕ) → p + 16 + length bytes ≤ length d
+  pub command-written : (p : ℕ) (d : List ℕ) {o₁ o₂ o₃ o₄ o₅ : List ℕ} → p + 16 + length bytes ≤ length d
       → o₁ ≡ overwritten p (kind ∷ typeId ∷ []) d → o₂ ≡ overwritten (p + 2) (toBe 2 batch) o₁ → o₃ ≡ overwritten (p + 4) (toBe 8 peer) o₂
-      → o₄ ≡ overwritten (p + 12) (toBe 4 (length bytes / idSize)) o₃ → o₅ ≡ overwritten (p + 16) bytes o₄ → o₅ ≡ overwritten p (commandBytes (commandFor kind typeId batch peer bytes)) d
-  command-written p d o₁ o₂ o₃ o₄ o₅ h e₁ e₂ e₃ e₄ e₅ =
+      → o₄ ≡ overwritten (p + 12) (toBe 4 (length bytes / idSize)) o₃ → o₅ ≡ overwritten (p + 16) bytes o₄
+      → o₅ ≡ overwritten p (commandBytes (commandFor kind typeId batch peer bytes)) d
+  command-written p d {o₁} {o₂} {o₃} {o₄} {o₅} h e₁ e₂ e₃ e₄ e₅ =
       let b : List ℕ = (kind ∷ typeId ∷ []) ++ toBe 2 batch in
       let s₂ : o₂ ≡ overwritten p b d = written-next p 2 (kind ∷ typeId ∷ []) (toBe 2 batch) d o₁ o₂ refl (omega arith) e₁ e₂ in
       let s₃ : o₃ ≡ overwritten p (b ++ toBe 8 peer) d = written-next p 4 b (toBe 8 peer) d o₂ o₃ refl (omega arith) s₂ e₃ in

@@ -27,60 +27,87 @@ use Rattle.model.specs.Layout.{idSize, recordSize}
 
 -- ---- by the first words, or in full
 
-module _ (s t : List ℕ) (f : Bytes s) (g : Bytes t) (p q a b : ℕ) (h : p + idSize ≤ length s) (k : q + idSize ≤ length t)
-    (ea : a ≡ fromBe (take 8 (drop p s))) (eb : b ≡ fromBe (take 8 (drop q t))) where
-  pub word-keeps : a < b → Keep ≡ chosen (take idSize (drop p s)) (take idSize (drop q t))
-  word-keeps l = rw (← first-less s t f g p q 32 a b (omega arith) h k ea eb l)
+-- Two ids, at p and at q, and their first words.
+pub record Words (s t : List ℕ) (p q a b : ℕ) : Type 0 where
+  pub bytes-s : Bytes s
+  pub bytes-t : Bytes t
+  pub inside-s : p + idSize ≤ length s
+  pub inside-t : q + idSize ≤ length t
+  pub first-s : a ≡ fromBe (take 8 (drop p s))
+  pub first-t : b ≡ fromBe (take 8 (drop q t))
 
-  pub word-differs : (a ≡ b → ⊥) → false ≡ same (take idSize (drop p s)) (take idSize (drop q t))
-  word-differs n = sym (ne-eqb a b n) ∙ first-decides s t f g p q 32 a b (omega arith) h k ea eb n .equality
+module _ {s t : List ℕ} {p q a b : ℕ} (w : Words s t p q a b) where
+  abbrev one : Id
+  one = take idSize (drop p s)
 
-  pub word-enters : b < a → Enter ≡ chosen (take idSize (drop p s)) (take idSize (drop q t))
-  word-enters l = rw (← first-more s t f g p q 32 a b (omega arith) h k ea eb l, ← word-differs (λ e. lt-irrefl a (omega arith)))
+  abbrev other : Id
+  other = take idSize (drop q t)
 
-module _ (x y : List ℕ) (b : Bool) (eb : b ≡ before x y) where
-  pub keep-chosen : b ≡ true → Keep ≡ chosen x y
-  keep-chosen hb = let w : before x y ≡ true = sym eb ∙ hb in rw w
+  pub word-keeps : a < b → Keep ≡ chosen one other
+  word-keeps l = rw (← first-less s t (w .bytes-s) (w .bytes-t) p q 32 a b (omega arith) (w .inside-s) (w .inside-t) (w .first-s) (w .first-t) l)
 
-  module _ (hb : b ≡ false) (s : Bool) (es : s ≡ same x y) where
-    pub skip-chosen : s ≡ true → Skip ≡ chosen x y
-    skip-chosen hs =
-        let w : before x y ≡ false = sym eb ∙ hb in
-        let v : same x y ≡ true = sym es ∙ hs in
-        rw (w, v)
+  pub word-differs : (a ≡ b → ⊥) → false ≡ same one other
+  word-differs n =
+      let by-word = first-decides s t (w .bytes-s) (w .bytes-t) p q 32 a b (omega arith) (w .inside-s) (w .inside-t) (w .first-s) (w .first-t) n in
+      sym (ne-eqb a b n) ∙ by-word .equality
 
-    pub enter-chosen : s ≡ false → Enter ≡ chosen x y
-    enter-chosen hs =
-        let w : before x y ≡ false = sym eb ∙ hb in
-        let v : same x y ≡ false = sym es ∙ hs in
-        rw (w, v)
+  pub word-enters : b < a → Enter ≡ chosen one other
+  word-enters l =
+      let more = first-more s t (w .bytes-s) (w .bytes-t) p q 32 a b (omega arith) (w .inside-s) (w .inside-t) (w .first-s) (w .first-t) l in
+      rw (← more, ← word-differs (λ e. lt-irrefl a (omega arith)))
+
+  module _ {less : Bool} (e : less ≡ before one other) where
+    pub keep-chosen : less ≡ true → Keep ≡ chosen one other
+    keep-chosen h = let v : before one other ≡ true = sym e ∙ h in rw v
+
+    module _ (h : less ≡ false) {alike : Bool} (f : alike ≡ same one other) where
+      not-less : before one other ≡ false
+      not-less = sym e ∙ h
+
+      pub skip-chosen : alike ≡ true → Skip ≡ chosen one other
+      skip-chosen k = let v : same one other ≡ true = sym f ∙ k in rw (not-less, v)
+
+      pub enter-chosen : alike ≡ false → Enter ≡ chosen one other
+      enter-chosen k = let v : same one other ≡ false = sym f ∙ k in rw (not-less, v)
 
 -- ---- the ids that are left
 
-module _ (ids places : List ℕ) (j : ℕ) (h : j < length places) where
-  pub place-listed : All (Listed ids) places → (p : ℕ) → p ≡ getD places j 0 → p * idSize + idSize ≤ length ids
-  place-listed f p e = rw e (all-at (Listed ids) places j 0 h f)
+-- The id at place j, one of those left.
+pub record Next (ids places : List ℕ) (j : ℕ) : Type 0 where
+  pub inside : j < length places
+  pub listed : All (Listed ids) places
 
-  pub next-id : idsAt ids (drop j places) ≡ entry idSize (getD places j 0) ids ∷ idsAt ids (drop (j + 1) places)
-  next-id = rw (add-one, drop-cons places j 0 h)
+module _ {ids places : List ℕ} {j : ℕ} (n : Next ids places j) where
+  abbrev this : Id
+  this = entry idSize (getD places j 0) ids
+
+  abbrev rest : List Id
+  rest = idsAt ids (drop (j + 1) places)
+
+  pub place-listed : {p : ℕ} → p ≡ getD places j 0 → p * idSize + idSize ≤ length ids
+  place-listed e = rw e (all-at (Listed ids) places j 0 (n .inside) (n .listed))
+
+  pub next-id : idsAt ids (drop j places) ≡ this ∷ rest
+  next-id = rw (add-one, drop-cons places j 0 (n .inside))
 
   pub last-alone : length places ≤ j + 1 → false ≡ repeats (idsAt ids (drop j places))
   last-alone l = rw (next-id, drop-of-length-le places {i = j + 1} l)
 
-  pub next-compared : j + 1 < length places → (p q : ℕ) (r : Bool) → p ≡ getD places j 0 → q ≡ getD places (j + 1) 0
+  pub next-compared : j + 1 < length places → {p q : ℕ} {r : Bool} → p ≡ getD places j 0 → q ≡ getD places (j + 1) 0
       → r ≡ same (take idSize (drop (p * idSize) ids)) (take idSize (drop (q * idSize) ids)) → r ≡ repeats (idsAt ids (drop j places))
   unfolding entry
-  next-compared l p q r ep eq e = e ∙ rw (next-id, drop-cons places (j + 1) 0 l, ep, eq)
+  next-compared l ep eq e = e ∙ rw (next-id, drop-cons places (j + 1) 0 l, ep, eq)
 
-  module _ (rs : List Request) (again : Bool) (ea : again ≡ repeats (idsAt ids (drop j places))) where
-    pub again-choice : again ≡ true → Skip ≡ choiceAt (idsAt ids (drop j places)) rs
-    again-choice t =
-        let s : repeats (entry idSize (getD places j 0) ids ∷ idsAt ids (drop (j + 1) places)) ≡ true = rw next-id at (sym ea ∙ t) in
+  module _ {again : Bool} (ea : again ≡ repeats (idsAt ids (drop j places))) where
+    pub again-choice : (rs : List Request) → again ≡ true → Skip ≡ choiceAt (idsAt ids (drop j places)) rs
+    again-choice rs t =
+        let s : repeats (this ∷ rest) ≡ true = rw next-id at (sym ea ∙ t) in
         rw (next-id, s)
 
-    pub fresh-choice : again ≡ false → (p : ℕ) (choice : Choice) → p ≡ getD places j 0 → choice ≡ choiceFor (entry idSize p ids) rs → choice ≡ choiceAt (idsAt ids (drop j places)) rs
-    fresh-choice t p choice ep e =
-        let s : repeats (entry idSize (getD places j 0) ids ∷ idsAt ids (drop (j + 1) places)) ≡ false = rw next-id at (sym ea ∙ t) in
+    pub fresh-choice : (rs : List Request) → again ≡ false → {p : ℕ} {choice : Choice} → p ≡ getD places j 0 → choice ≡ choiceFor (entry idSize p ids) rs
+        → choice ≡ choiceAt (idsAt ids (drop j places)) rs
+    fresh-choice rs t ep e =
+        let s : repeats (this ∷ rest) ≡ false = rw next-id at (sym ea ∙ t) in
         e ∙ rw (next-id, s, ep)
 
 -- ---- the records that are left
@@ -96,11 +123,12 @@ module _ (count i : ℕ) (t : List ℕ) where
     pub none-choice : count ≤ i → Enter ≡ choiceFor (entry idSize place ids) (map requestOf (drop i (entries recordSize count t)))
     none-choice h = rw (none-left h)
 
-    pub some-choice : i < count → (choice : Choice) → choice ≡ chosen (take idSize (drop (i * recordSize) t)) (take idSize (drop (place * idSize) ids))
+    pub some-choice : i < count → {choice : Choice} → choice ≡ chosen (take idSize (drop (i * recordSize) t)) (take idSize (drop (place * idSize) ids))
         → choice ≡ choiceFor (entry idSize place ids) (map requestOf (drop i (entries recordSize count t)))
     unfolding entry requestOf
-    some-choice h choice e =
-        let k : take idSize (take recordSize (drop (i * recordSize) t)) ≡ take idSize (drop (i * recordSize) t) = entry-front recordSize i 32 t (omega arith) in
+    some-choice h e =
+        let from : List ℕ = drop (i * recordSize) t in
+        let k : take idSize (take recordSize from) ≡ take idSize from = entry-front recordSize i 32 t (omega arith) in
         e ∙ rw (next-record h, k)
 
   -- a record is kept only where one is left

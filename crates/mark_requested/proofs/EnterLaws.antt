@@ -8,7 +8,8 @@ use Rattle.fields.specs.Order.{before, same}
 use Rattle.fields.specs.Sort.{inserted, sorted}
 use Rattle.fields.proofs.AllLaws.{all-weaker}
 use Rattle.fields.proofs.SortLaws.{Rising}
-use Rattle.fields.proofs.OrderLaws.{same-eq, same-refl, same-sym, before-irreflexive, before-transitive, before-asymmetric, before-not-same, before-or-same, not-before-transitive}
+use Rattle.fields.proofs.OrderLaws.{same-eq, same-refl, same-sym, before-irreflexive, before-transitive, before-asymmetric}
+use Rattle.fields.proofs.OrderLaws.{before-not-same, before-or-same, not-before-transitive}
 use Rattle.model.specs.Protocol.{Id, isAmong}
 use Rattle.model.specs.Delivery.{Request, idsOf, isPending, idBefore, markRequested}
 use Rattle.model.proofs.Well.{RisingIds}
@@ -64,7 +65,8 @@ module _ (clock typeId peer : ℕ) where
   swap-below x y h [] = rw (h, before-asymmetric x y h, same-sym y x, before-not-same x y h)
   swap-below x y h (r ∷ rs) = go (before (r .id) x) (same (r .id) x) (before (r .id) y) (same (r .id) y) refl refl refl refl (swap-below x y h rs)
     where
-      go : (p q u v : Bool) → before (r .id) x ≡ p → same (r .id) x ≡ q → before (r .id) y ≡ u → same (r .id) y ≡ v → enter x (enter y rs) ≡ enter y (enter x rs)
+      go : (p q u v : Bool) → before (r .id) x ≡ p → same (r .id) x ≡ q → before (r .id) y ≡ u → same (r .id) y ≡ v
+          → enter x (enter y rs) ≡ enter y (enter x rs)
           → enter x (cond u (r ∷ enter y rs) (cond v (r ∷ rs) (new y ∷ (r ∷ rs)))) ≡ enter y (cond p (r ∷ enter x rs) (cond q (r ∷ rs) (new x ∷ (r ∷ rs))))
       go true q true v a b c d i = rw (a, c, i)
       go true q false v a b c d i = absurd (false≢true (sym c ∙ before-transitive (r .id) x y a h))
@@ -96,7 +98,8 @@ module _ (clock typeId peer : ℕ) where
   entered-sorted (x ∷ ids) rs = entered-inserted x (sorted before ids) rs ∙ entered-sorted ids (enter x rs)
 
   -- a request before all of them stays in front
-  pub entered-behind : (r : Request) (ids : List Id) (rs : List Request) → All (λ (y : Id). before (r .id) y ≡ true) ids → enterAll ids (r ∷ rs) ≡ r ∷ enterAll ids rs
+  pub entered-behind : (r : Request) (ids : List Id) (rs : List Request) → All (λ (y : Id). before (r .id) y ≡ true) ids
+      → enterAll ids (r ∷ rs) ≡ r ∷ enterAll ids rs
   entered-behind r [] rs p = refl
   entered-behind r (y ∷ ids) rs p = rw (p .0) (entered-behind r ids (enter y rs) (p .1))
 
@@ -112,15 +115,18 @@ module _ (clock typeId peer : ℕ) where
   marked-entered id [] h = refl
   marked-entered id (r ∷ rs) h = go (before (r .id) id) (same (r .id) id) (isPending id rs) refl refl refl (marked-entered id rs (h .1))
     where
-      go : (p q w : Bool) → before (r .id) id ≡ p → same (r .id) id ≡ q → isPending id rs ≡ w → cond (isPending id rs) rs (inserted idBefore (new id) rs) ≡ enter id rs
-          → cond (same id (r .id) || isPending id rs) (r ∷ rs) (cond p (r ∷ inserted idBefore (new id) rs) (new id ∷ (r ∷ rs))) ≡ cond p (r ∷ enter id rs) (cond q (r ∷ rs) (new id ∷ (r ∷ rs)))
+      go : (p q w : Bool) → before (r .id) id ≡ p → same (r .id) id ≡ q → isPending id rs ≡ w
+          → cond (isPending id rs) rs (inserted idBefore (new id) rs) ≡ enter id rs
+          → cond (same id (r .id) || isPending id rs) (r ∷ rs) (cond p (r ∷ inserted idBefore (new id) rs) (new id ∷ (r ∷ rs)))
+          ≡ cond p (r ∷ enter id rs) (cond q (r ∷ rs) (new id ∷ (r ∷ rs)))
       go true q true a b m i = rw (same-sym id (r .id), before-not-same (r .id) id a, m) (ap (λ (l : List Request). r ∷ l) (rw m at i))
       go true q false a b m i = rw (same-sym id (r .id), before-not-same (r .id) id a, m) (ap (λ (l : List Request). r ∷ l) (rw m at i))
       go false true w a b m i = rw (same-sym id (r .id), b)
       go false false w a b m i =
           let l : before id (r .id) ≡ true = before-or-same (r .id) id a b in
-          let below : All (λ (other : Id). before id other ≡ true) (idsOf rs) =
-          all-weaker (λ (other : Id). before (r .id) other ≡ true) (λ (other : Id). before id other ≡ true) (λ other q. before-transitive id (r .id) other l q) (idsOf rs) (h .0) in
+          let first-below : Id → Type 0 = λ (other : Id). before (r .id) other ≡ true in
+          let id-below : Id → Type 0 = λ (other : Id). before id other ≡ true in
+          let below : All id-below (idsOf rs) = all-weaker first-below id-below (λ other q. before-transitive id (r .id) other l q) (idsOf rs) (h .0) in
           rw (same-sym id (r .id), b, absent id rs below)
 
   pub all-marked-entered : (ids : List Id) (rs : List Request) → RisingIds (idsOf rs) → markRequested clock typeId peer ids rs ≡ enterAll ids rs
@@ -129,5 +135,6 @@ module _ (clock typeId peer : ℕ) where
       all-marked-entered ids (cond (isPending id rs) rs (inserted idBefore (new id) rs)) (rising-requested clock typeId peer (id ∷ []) rs h)
       ∙ ap (enterAll ids) (marked-entered id rs h)
 
-  pub marked-sorted : (ids : List Id) (rs : List Request) → RisingIds (idsOf rs) → markRequested clock typeId peer (sorted before ids) rs ≡ markRequested clock typeId peer ids rs
+  pub marked-sorted : (ids : List Id) (rs : List Request) → RisingIds (idsOf rs)
+      → markRequested clock typeId peer (sorted before ids) rs ≡ markRequested clock typeId peer ids rs
   marked-sorted ids rs h = all-marked-entered (sorted before ids) rs h ∙ entered-sorted ids rs ∙ sym (all-marked-entered ids rs h)

@@ -31,31 +31,44 @@ use Rattle.mark_requested.proofs.EnterLaws.{marked-sorted}
 use Rattle.model.specs.Layout.{idSize, recordSize}
 
 -- few ids, all of which have room
-pub few-ids : (clock typeId peer most count : ℕ) (ids t t′ : List ℕ) (held : ℕ) → count + length ids / idSize ≤ most
-    → (held ≡ length (markRequested clock typeId peer (idsIn ids) (requestsIn count t))) × (t′ ≡ holding count (markRequested clock typeId peer (idsIn ids) (requestsIn count t)) t)
-    → (Pending held ≡ markedAs most (markRequested clock typeId peer (idsIn ids) (requestsIn count t))) × (t′ ≡ heldWithin most count (markRequested clock typeId peer (idsIn ids) (requestsIn count t)) t)
-few-ids clock typeId peer most count ids t t′ held room e =
+pub few-ids : (clock typeId peer most count : ℕ) (ids t : List ℕ) {t′ : List ℕ} {held : ℕ} → count + length ids / idSize ≤ most
+    → (held ≡ length (markRequested clock typeId peer (idsIn ids) (requestsIn count t)))
+    × (t′ ≡ holding count (markRequested clock typeId peer (idsIn ids) (requestsIn count t)) t)
+    → (Pending held ≡ markedAs most (markRequested clock typeId peer (idsIn ids) (requestsIn count t)))
+    × (t′ ≡ heldWithin most count (markRequested clock typeId peer (idsIn ids) (requestsIn count t)) t)
+few-ids clock typeId peer most count ids t room e =
     let all : List Request = markRequested clock typeId peer (idsIn ids) (requestsIn count t) in
-    let fits : length all ≤ most = omega (arith, marked-length clock typeId peer (idsIn ids) (requestsIn count t), length-requests count t, length-ids ids) in
+    let longer = marked-length clock typeId peer (idsIn ids) (requestsIn count t) in
+    let fits : length all ≤ most = omega (arith, longer, length-requests count t, length-ids ids) in
     (ap Pending (e .0) ∙ few-marked most all fits, e .1 ∙ sym (few-held most count all t (le-leb (length all) most fits)))
 
 pub still-sorted : (ids places : List ℕ) → idsAt ids places ≡ sorted before (idsIn ids) → sorted before (idsAt ids places) ≡ idsAt ids places
 still-sorted ids places e = rw e (sorted-twice before before-order (idsIn ids))
 
-module _ (clock typeId peer most count : ℕ) (ids places t : List ℕ) (e : idsAt ids places ≡ sorted before (idsIn ids)) (r : rising idSize (entries recordSize count t) ≡ true) where
+-- Ids at places in their order, to be marked in a table whose ids rise.
+pub record Placed (clock typeId peer most count : ℕ) (ids places t : List ℕ) : Type 0 where
+  pub order : idsAt ids places ≡ sorted before (idsIn ids)
+  pub rises : rising idSize (entries recordSize count t) ≡ true
+
+module _ {clock typeId peer most count : ℕ} {ids places t : List ℕ} (p : Placed clock typeId peer most count ids places t) where
   abbrev all : List Request
   all = markRequested clock typeId peer (idsIn ids) (requestsIn count t)
 
-  as-given : markRequested clock typeId peer (idsAt ids places) (requestsIn count t) ≡ all
-  as-given = rw e (marked-sorted clock typeId peer (idsIn ids) (requestsIn count t) (ids-rise (entries recordSize count t) (rising-ascending 32 (entries recordSize count t) r)))
+  -- as they are marked in their order
+  abbrev all-placed : List Request
+  all-placed = markRequested clock typeId peer (idsAt ids places) (requestsIn count t)
 
-  pub too-many : (answer : Marked) → answer ≡ Full → answer ≡ markedAs most (markRequested clock typeId peer (idsAt ids places) (requestsIn count t))
-      → (Full ≡ markedAs most all) × (t ≡ heldWithin most count all t)
-  too-many answer full a =
+  as-given : all-placed ≡ all
+  as-given =
+      let ascend = rising-ascending idSize (entries recordSize count t) (p .rises) in
+      rw (p .order) (marked-sorted clock typeId peer (idsIn ids) (requestsIn count t) (ids-rise (entries recordSize count t) ascend))
+
+  pub too-many : {answer : Marked} → answer ≡ Full → answer ≡ markedAs most all-placed → (Full ≡ markedAs most all) × (t ≡ heldWithin most count all t)
+  too-many full a =
       let q : Full ≡ markedAs most all = rw (full, as-given) at a in
       (q, sym (many-held most count all t (marked-full most all q)))
 
-  module _ (held : ℕ) (answer : Marked) (pending : answer ≡ Pending held) (a : answer ≡ markedAs most (markRequested clock typeId peer (idsAt ids places) (requestsIn count t))) where
+  module _ (held : ℕ) {answer : Marked} (pending : answer ≡ Pending held) (a : answer ≡ markedAs most all-placed) where
     told : Pending held ≡ markedAs most all
     told = rw (pending, as-given) at a
 
@@ -65,12 +78,11 @@ module _ (clock typeId peer most count : ℕ) (ids places t : List ℕ) (e : ids
     pub few : held ≤ most
     few = omega (arith, says .1, leb-true (length all) most (says .0))
 
-    pub copied-back : (room t′ : List ℕ)
-        → (leb (length (markRequested clock typeId peer (idsAt ids places) (requestsIn count t))) most ≡ true
-        → entries recordSize (length (markRequested clock typeId peer (idsAt ids places) (requestsIn count t))) room ≡ map requestBytes (markRequested clock typeId peer (idsAt ids places) (requestsIn count t)))
+    pub copied-back : (room : List ℕ) {t′ : List ℕ}
+        → (leb (length all-placed) most ≡ true → entries recordSize (length all-placed) room ≡ map requestBytes all-placed)
         → t′ ≡ take (held * recordSize) room ++ drop (held * recordSize) t → (Pending held ≡ markedAs most all) × (t′ ≡ heldWithin most count all t)
     unfolding holding
-    copied-back room t′ w et =
+    copied-back room {t′} w et =
         let new : List (List ℕ) = map requestBytes all in
         let ln : length new ≡ length all = length-map all requestBytes in
         let more : count ≤ length new = omega (arith, marked-length clock typeId peer (idsIn ids) (requestsIn count t), length-requests count t) in

@@ -1,24 +1,26 @@
 -- The pass: what is in the room, then what the rest of table and ids gives, is what the whole gives.
 use Prim.Native.Nat.{ℕ, zero, suc, _+_, _-_, _*_, _≤_, _<_}
 use mathlib.Core.Path.{_≡_, refl, sym, ap, _∙_}
-use mathlib.Core.Bool.{Bool, true, false, cond, false≢true}
+use mathlib.Core.Bool.{Bool, true, false, cond, _&&_, false≢true}
 use mathlib.Core.List.{List, [], _∷_, _++_, map}
 use native.Mathlib.Omega.{arith}
 use native.Mathlib.Nat.{mul-le-mul-right}
+use lib.Dec.{ltb, leb}
 use lib.ListN.{length, drop, getD}
+use borrow.Author.Tests.{ltb-true, leb-true}
 use lib.Seq.{append-snoc}
 use Rattle.fields.specs.Facts.{All, Bytes}
 use Rattle.fields.specs.Order.{before, same}
 use Rattle.fields.specs.Sort.{sorted}
-use Rattle.fields.specs.Entries.{entries, entry}
+use Rattle.fields.specs.Entries.{entries, entry, rising}
 use Rattle.fields.specs.Zero.{zeros}
 use Rattle.fields.specs.Overwrite.{overwritten}
 use Rattle.fields.proofs.NumberLaws.{bytes-take, bytes-drop}
 use Rattle.fields.proofs.SortLaws.{Rising, sorted-rises, before-order}
 use Rattle.fields.proofs.OverwriteLaws.{length-overwritten}
-use Rattle.fields.proofs.OrderLaws.{same-eq}
+use Rattle.fields.proofs.OrderLaws.{same-eq, and-left, and-right}
 use Rattle.fields.proofs.EntriesLaws.{length-entry, entries-then}
-use Rattle.model.specs.Protocol.{Id}
+use Rattle.model.specs.Protocol.{Id, trackedLimit}
 use Rattle.model.specs.Delivery.{Request}
 use Rattle.model.specs.Image.{requestOf, requestBytes}
 use Rattle.model.proofs.RecordLaws.{bytes-of-request, length-request}
@@ -29,7 +31,7 @@ use Rattle.mark_requested.specs.declared.merging.Front.{Front}
 use Rattle.mark_requested.specs.declared.choosing.Choice.{Choice}
 use Rattle.mark_requested.specs.declared.choosing.Choice.the-variants.{Keep, Skip, Enter}
 use Rattle.mark_requested.proofs.EnterLaws.{enter, enterAll, enter-twice, entered-behind, below-rest, below-unlike}
-use Rattle.mark_requested.proofs.ChoiceLaws.{next-id, next-record, place-listed, keep-inside}
+use Rattle.mark_requested.proofs.ChoiceLaws.{Next, next-id, next-record, place-listed, keep-inside}
 use Rattle.model.specs.Layout.{idSize, recordSize}
 
 -- ---- one turn, as lists
@@ -80,11 +82,12 @@ module _ (clock typeId peer : ℕ) (x : Id) (xs : List Id) (rise : Rising before
       go false h (r ∷ ss) = fresh h r ss (before (r .id) x) (same (r .id) x) refl refl
 
 -- all new records share what follows the id
-new-split : (clock typeId peer : ℕ) (id blank : List ℕ) → blank ≡ requestBytes (newRequest clock typeId peer (zeros idSize)) → requestBytes (newRequest clock typeId peer id) ≡ id ++ drop idSize blank
+new-split : (clock typeId peer : ℕ) (id blank : List ℕ) → blank ≡ requestBytes (newRequest clock typeId peer (zeros idSize))
+    → requestBytes (newRequest clock typeId peer id) ≡ id ++ drop idSize blank
 unfolding requestBytes
 new-split clock typeId peer id blank e = rw e
 
-pub blank-long : (clock typeId peer : ℕ) (blank : List ℕ) → blank ≡ requestBytes (newRequest clock typeId peer (zeros idSize)) → length blank ≡ recordSize
+blank-long : (clock typeId peer : ℕ) (blank : List ℕ) → blank ≡ requestBytes (newRequest clock typeId peer (zeros idSize)) → length blank ≡ recordSize
 blank-long clock typeId peer blank e = ap length e ∙ length-request (newRequest clock typeId peer (zeros idSize)) refl
 
 entry-bytes : (i : ℕ) (t : List ℕ) → Bytes t → Bytes (entry recordSize i t)
@@ -98,96 +101,142 @@ module _ (clock typeId peer : ℕ) (t ids places : List ℕ) (count : ℕ) where
   abbrev pub left-over : ℕ → ℕ → List (List ℕ)
   left-over j i = map requestBytes (enterAll clock typeId peer (idsAt ids (drop j places)) (map requestOf (drop i (entries recordSize count t))))
 
+-- What stays the same: how new requests are made, the table, the ids at places in their order, the room as it was at first.
+pub record Pass (clock typeId peer most count : ℕ) (t ids places first : List ℕ) : Type 0 where
+  pub records-in : count * recordSize ≤ length t
+  pub count-le : count ≤ most
+  pub most-le : most ≤ trackedLimit
+  pub places-le : length places ≤ trackedLimit
+  pub fits : most * recordSize + recordSize ≤ length first
+  pub listed : All (Listed ids) places
+  pub order : sorted before (idsAt ids places) ≡ idsAt ids places
+  pub rises : rising idSize (entries recordSize count t) ≡ true
+  pub bytes : Bytes t
+
 pub record Merging (clock typeId peer most count : ℕ) (t ids places first room : List ℕ) (front : Front) : Type 0 where
   pub records-le : front .records ≤ count
   pub ids-le : front .ids ≤ length places
   pub held-le : front .held ≤ suc most
   pub long : length room ≡ length first
-  pub done : entries recordSize (front .held) room ++ left-over clock typeId peer t ids places count (front .ids) (front .records) ≡ left-over clock typeId peer t ids places count 0 0
+  pub done : entries recordSize (front .held) room ++ left-over clock typeId peer t ids places count (front .ids) (front .records)
+      ≡ left-over clock typeId peer t ids places count 0 0
 
-module _ (clock typeId peer most count : ℕ) (t ids places first : List ℕ) where
-  pub merge-starts : Merging clock typeId peer most count t ids places first first (record { records = 0; ids = 0; held = 0 })
+module _ {clock typeId peer most count : ℕ} {t ids places first : List ℕ} (pass : Pass clock typeId peer most count t ids places first) where
+  abbrev Held : List ℕ → Front → Type 0
+  Held room front = Merging clock typeId peer most count t ids places first room front
+
+  -- what is left from a front on, in bytes
+  abbrev left : Front → List (List ℕ)
+  left front = left-over clock typeId peer t ids places count (front .ids) (front .records)
+
+  pub merge-starts : Held first (record { records = 0; ids = 0; held = 0 })
   merge-starts = record { records-le = omega arith; ids-le = omega arith; held-le = omega arith; long = refl; done = refl }
 
-  module _ (room : List ℕ) (front : Front) (s : Merging clock typeId peer most count t ids places first room front) where
-    module _ (fits : most * recordSize + recordSize ≤ length first) (held : front .held ≤ most) where
-      pub in-room : front .held * recordSize + recordSize ≤ length room
-      in-room = omega (arith, mul-le-mul-right recordSize held, s .long)
+  -- a turn, with ids left and no record too many
+  module _ {room : List ℕ} {front : Front} (s : Held room front) (test : ltb (front .ids) (length places) && leb (front .held) most ≡ true) where
+    abbrev requests : List Request
+    requests = map requestOf (drop (front .records) (entries recordSize count t))
 
-      skipped : (j : ℕ) → j ≤ length places → left-over clock typeId peer t ids places count (front .ids) (front .records) ≡ left-over clock typeId peer t ids places count j (front .records)
-          → Merging clock typeId peer most count t ids places first room (record { records = front .records; ids = j; held = front .held })
-      skipped j lj e = record {
-        records-le = s .records-le;
-        ids-le = lj;
-        held-le = s .held-le;
-        long = s .long;
-        done = ap (λ (l : List (List ℕ)). entries recordSize (front .held) room ++ l) (sym e) ∙ s .done;
-      }
+    abbrev choice : Choice
+    choice = choiceAt (idsAt ids (drop (front .ids) places)) requests
 
-      written : (i j : ℕ) (e : List ℕ) → i ≤ count → j ≤ length places → length e ≡ recordSize
-          → left-over clock typeId peer t ids places count (front .ids) (front .records) ≡ e ∷ left-over clock typeId peer t ids places count j i
-          → Merging clock typeId peer most count t ids places first (overwritten (front .held * recordSize) e room) (record { records = i; ids = j; held = front .held + 1 })
-      written i j e li lj le q = record {
-        records-le = li;
-        ids-le = lj;
-        held-le = omega arith;
-        long = length-overwritten (front .held * recordSize) e room (omega (arith, in-room)) ∙ s .long;
-        done =
-            rw (entries-then recordSize (front .held) e room le in-room)
-            (append-snoc (entries recordSize (front .held) room) e (left-over clock typeId peer t ids places count j i)
-            ∙ ap (λ (l : List (List ℕ)). entries recordSize (front .held) room ++ l) (sym q)
-            ∙ s .done);
-      }
+    inside : front .ids < length places
+    inside = ltb-true (front .ids) (length places) (and-left (ltb (front .ids) (length places)) (leb (front .held) most) test)
 
-      module _ (lt : count * recordSize ≤ length t) (f : Bytes t) (listed : All (Listed ids) places) (order : sorted before (idsAt ids places) ≡ idsAt ids places) (inside : front .ids < length places) where
-        abbrev x : Id
-        x = entry idSize (getD places (front .ids) 0) ids
+    held : front .held ≤ most
+    held = leb-true (front .held) most (and-right (ltb (front .ids) (length places)) (leb (front .held) most) test)
 
-        abbrev xs : List Id
-        xs = idsAt ids (drop (front .ids + 1) places)
+    in-room : front .held * recordSize + recordSize ≤ length room
+    in-room = omega (arith, mul-le-mul-right recordSize held, s .long, pass .fits)
 
-        these : idsAt ids (drop (front .ids) places) ≡ x ∷ xs
-        these = next-id ids places (front .ids) inside
+    -- what a turn asks
+    pub turn-asks : (blank : List ℕ) → blank ≡ requestBytes (newRequest clock typeId peer (zeros idSize))
+        → ((count * recordSize ≤ length t) × ((front .records ≤ count) × ((count ≤ trackedLimit) × (length blank ≡ recordSize))))
+        × (All (Listed ids) places × ((front .ids < length places) × ((length places ≤ trackedLimit) × (front .held * recordSize + recordSize ≤ length room))))
+    turn-asks blank e = (
+      (pass .records-in, (s .records-le, (omega (arith, pass .count-le, pass .most-le), blank-long clock typeId peer blank e))),
+      (pass .listed, (inside, (pass .places-le, in-room))),
+    )
 
-        this-rises : Rising before (x ∷ xs)
-        this-rises = rw these at (rising-from ids (front .ids) places (rw order at (sorted-rises before before-order (idsAt ids places))))
+    skipped : left front ≡ left-over clock typeId peer t ids places count (front .ids + 1) (front .records)
+        → Held room (record { records = front .records; ids = front .ids + 1; held = front .held })
+    skipped e = record {
+      records-le = s .records-le;
+      ids-le = omega (arith, inside);
+      held-le = s .held-le;
+      long = s .long;
+      done = ap (λ (l : List (List ℕ)). entries recordSize (front .held) room ++ l) (sym e) ∙ s .done;
+    }
 
-        long-id : length x ≡ idSize
-        long-id = length-entry idSize (getD places (front .ids) 0) ids (place-listed ids places (front .ids) inside listed (getD places (front .ids) 0) refl)
+    written : (i j : ℕ) (e : List ℕ) → i ≤ count → j ≤ length places → length e ≡ recordSize
+        → left front ≡ e ∷ left-over clock typeId peer t ids places count j i
+        → Held (overwritten (front .held * recordSize) e room) (record { records = i; ids = j; held = front .held + 1 })
+    written i j e li lj le q = record {
+      records-le = li;
+      ids-le = lj;
+      held-le = omega (arith, held);
+      long = length-overwritten (front .held * recordSize) e room (omega (arith, in-room)) ∙ s .long;
+      done =
+          rw (entries-then recordSize (front .held) e room le in-room)
+          (append-snoc (entries recordSize (front .held) room) e (left-over clock typeId peer t ids places count j i)
+          ∙ ap (λ (l : List (List ℕ)). entries recordSize (front .held) room ++ l) (sym q)
+          ∙ s .done);
+    }
 
-        turned : enterAll clock typeId peer (x ∷ xs) (map requestOf (drop (front .records) (entries recordSize count t)))
-            ≡ after clock typeId peer x xs this-rises (choiceAt (x ∷ xs) (map requestOf (drop (front .records) (entries recordSize count t)))) (map requestOf (drop (front .records) (entries recordSize count t)))
-        turned = one-turn clock typeId peer x xs this-rises (map requestOf (drop (front .records) (entries recordSize count t)))
+    next : Next ids places (front .ids)
+    next = record { inside = inside; listed = pass .listed }
 
-        by-choice : (choice : Choice) → choiceAt (x ∷ xs) (map requestOf (drop (front .records) (entries recordSize count t))) ≡ choice
-            → Merging clock typeId peer most count t ids places first (roomAfter choice (entry recordSize (front .records) t) (requestBytes (newRequest clock typeId peer x)) (front .held) room) (frontAfter choice front)
-        by-choice Keep e =
-            let h : front .records < count = keep-inside count (front .records) t (x ∷ xs) Keep (sym e) refl in
-            let k : front .records * recordSize + recordSize ≤ length t = omega (arith, mul-le-mul-right recordSize h) in
-            let le : length (entry recordSize (front .records) t) ≡ recordSize = length-entry recordSize (front .records) t k in
-            let n : drop (front .records) (entries recordSize count t) ≡ entry recordSize (front .records) t ∷ drop (front .records + 1) (entries recordSize count t) = next-record count (front .records) t h in
-            let b : requestBytes (requestOf (entry recordSize (front .records) t)) ≡ entry recordSize (front .records) t = bytes-of-request (entry recordSize (front .records) t) le (entry-bytes (front .records) t f) in
-            written (front .records + 1) (front .ids) (entry recordSize (front .records) t) (omega arith) (s .ids-le) le
-            (rw (these, n) (ap (map requestBytes) (rw n at (rw e at turned)) ∙ rw b))
-        by-choice Skip e = skipped (front .ids + 1) (omega arith) (rw these (ap (map requestBytes) (rw e at turned)))
-        by-choice Enter e =
-            written (front .records) (front .ids + 1) (requestBytes (newRequest clock typeId peer x)) (s .records-le) (omega arith) (length-request (newRequest clock typeId peer x) long-id)
-            (rw these (ap (map requestBytes) (rw e at turned)))
+    abbrev x : Id
+    x = entry idSize (getD places (front .ids) 0) ids
 
-        pub turn-on : (blank : List ℕ) → blank ≡ requestBytes (newRequest clock typeId peer (zeros idSize)) → (front′ : Front) (room′ : List ℕ)
-            → front′ ≡ frontAfter (choiceAt (idsAt ids (drop (front .ids) places)) (map requestOf (drop (front .records) (entries recordSize count t)))) front
-            → room′ ≡ roomAfter (choiceAt (idsAt ids (drop (front .ids) places)) (map requestOf (drop (front .records) (entries recordSize count t)))) (entry recordSize (front .records) t) (entry idSize (getD places (front .ids) 0) ids ++ drop idSize blank) (front .held) room
-            → Merging clock typeId peer most count t ids places first room′ front′
-        turn-on blank eb front′ room′ ef er =
-            rw (ef, er, ← new-split clock typeId peer x blank eb) (by-choice (choiceAt (idsAt ids (drop (front .ids) places)) (map requestOf (drop (front .records) (entries recordSize count t)))) (rw these))
+    abbrev xs : List Id
+    xs = idsAt ids (drop (front .ids + 1) places)
+
+    these : idsAt ids (drop (front .ids) places) ≡ x ∷ xs
+    these = next-id next
+
+    this-rises : Rising before (x ∷ xs)
+    this-rises = rw these at (rising-from ids (front .ids) places (rw (pass .order) at (sorted-rises before before-order (idsAt ids places))))
+
+    long-id : length x ≡ idSize
+    long-id = length-entry idSize (getD places (front .ids) 0) ids (place-listed next refl)
+
+    turned : enterAll clock typeId peer (x ∷ xs) requests ≡ after clock typeId peer x xs this-rises (choiceAt (x ∷ xs) requests) requests
+    turned = one-turn clock typeId peer x xs this-rises requests
+
+    by-choice : (chosen : Choice) → choiceAt (x ∷ xs) requests ≡ chosen
+        → let new = requestBytes (newRequest clock typeId peer x) in
+        Held (roomAfter chosen (entry recordSize (front .records) t) new (front .held) room) (frontAfter chosen front)
+    by-choice Keep e =
+        let h : front .records < count = keep-inside count (front .records) t (x ∷ xs) Keep (sym e) refl in
+        let first-left : List ℕ = entry recordSize (front .records) t in
+        let k : front .records * recordSize + recordSize ≤ length t = omega (arith, mul-le-mul-right recordSize h, pass .records-in) in
+        let le : length first-left ≡ recordSize = length-entry recordSize (front .records) t k in
+        let es : List (List ℕ) = entries recordSize count t in
+        let n : drop (front .records) es ≡ first-left ∷ drop (front .records + 1) es = next-record count (front .records) t h in
+        let b : requestBytes (requestOf first-left) ≡ first-left = bytes-of-request first-left le (entry-bytes (front .records) t (pass .bytes)) in
+        written (front .records + 1) (front .ids) first-left (omega arith) (s .ids-le) le
+        (rw (these, n) (ap (map requestBytes) (rw n at (rw e at turned)) ∙ rw b))
+    by-choice Skip e = skipped (rw these (ap (map requestBytes) (rw e at turned)))
+    by-choice Enter e =
+        let new = newRequest clock typeId peer x in
+        written (front .records) (front .ids + 1) (requestBytes new) (s .records-le) (omega (arith, inside)) (length-request new long-id)
+        (rw these (ap (map requestBytes) (rw e at turned)))
+
+    pub turn-on : (blank : List ℕ) → blank ≡ requestBytes (newRequest clock typeId peer (zeros idSize)) → {front′ : Front} {room′ : List ℕ}
+        → (front′ ≡ frontAfter choice front) × (room′ ≡ roomAfter choice (entry recordSize (front .records) t) (x ++ drop idSize blank) (front .held) room)
+        → Held room′ front′
+    turn-on blank eb e = rw (e .0, e .1, ← new-split clock typeId peer x blank eb) (by-choice choice (rw these))
 
     -- each turn leaves less
-    pub turn-less : front .ids < length places → (front′ : Front) → front′ ≡ frontAfter (choiceAt (idsAt ids (drop (front .ids) places)) (map requestOf (drop (front .records) (entries recordSize count t)))) front
+    pub turn-less : {front′ : Front} → front′ ≡ frontAfter choice front
         → (count - front′ .records) + (length places - front′ .ids) < (count - front .records) + (length places - front .ids)
-    turn-less inside front′ ef = rw ef (go (choiceAt (idsAt ids (drop (front .ids) places)) (map requestOf (drop (front .records) (entries recordSize count t)))) refl)
+    turn-less ef = rw ef (go choice refl)
       where
-        go : (c : Choice) → c ≡ choiceAt (idsAt ids (drop (front .ids) places)) (map requestOf (drop (front .records) (entries recordSize count t)))
+        go : (c : Choice) → c ≡ choice
             → (count - frontAfter c front .records) + (length places - frontAfter c front .ids) < (count - front .records) + (length places - front .ids)
-        go Keep q = let h : front .records < count = keep-inside count (front .records) t (idsAt ids (drop (front .ids) places)) Keep q refl in omega arith
-        go Skip q = omega arith
-        go Enter q = omega arith
+        go Keep q =
+            let h : front .records < count = keep-inside count (front .records) t (idsAt ids (drop (front .ids) places)) Keep q refl in
+            omega (arith, inside)
+        go Skip q = omega (arith, inside)
+        go Enter q = omega (arith, inside)

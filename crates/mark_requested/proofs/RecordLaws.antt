@@ -15,11 +15,12 @@ use Rattle.model.specs.Layout.{idSize, recordSize}
 
 -- ---- a record, field by field
 
-pub record-written : (clock typeId peer p : ℕ) (id d o₁ o₂ o₃ o₄ o₅ : List ℕ) → length id ≡ idSize → p + recordSize ≤ length d
+pub record-written : (clock typeId peer p : ℕ) (id d : List ℕ) {o₁ o₂ o₃ o₄ o₅ : List ℕ} → length id ≡ idSize → p + recordSize ≤ length d
     → o₁ ≡ overwritten p id d → o₂ ≡ overwritten (p + idSize) (toBe 8 peer) o₁ → o₃ ≡ overwritten (p + 40) (toBe 2 typeId) o₂
-    → o₄ ≡ overwritten (p + 42) (toBe 8 clock) o₃ → o₅ ≡ overwritten (p + 50) (toBe 4 0) o₄ → o₅ ≡ overwritten p (requestBytes (newRequest clock typeId peer id)) d
+    → o₄ ≡ overwritten (p + 42) (toBe 8 clock) o₃ → o₅ ≡ overwritten (p + 50) (toBe 4 0) o₄
+    → o₅ ≡ overwritten p (requestBytes (newRequest clock typeId peer id)) d
 unfolding requestBytes
-record-written clock typeId peer p id d o₁ o₂ o₃ o₄ o₅ l h e₁ e₂ e₃ e₄ e₅ =
+record-written clock typeId peer p id d {o₁} {o₂} {o₃} {o₄} {o₅} l h e₁ e₂ e₃ e₄ e₅ =
     let b : List ℕ = id ++ toBe 8 peer in
     let c : List ℕ = b ++ toBe 2 typeId in
     let lb : length b ≡ 40 = length-append id (toBe 8 peer) ∙ omega arith in
@@ -31,7 +32,7 @@ record-written clock typeId peer p id d o₁ o₂ o₃ o₄ o₅ l h e₁ e₂ e
     let s₅ : o₅ ≡ overwritten p ((c ++ toBe 8 clock) ++ toBe 4 0) d = written-next p 50 (c ++ toBe 8 clock) (toBe 4 0) d o₄ o₅ le (omega arith) s₄ e₅ in
     s₅ ∙ ap (λ (x : List ℕ). overwritten p x d) (simp append-assoc)
 
-pub record-whole : (clock typeId peer : ℕ) (id d o : List ℕ) → length id ≡ idSize → length d ≡ recordSize → o ≡ overwritten 0 (requestBytes (newRequest clock typeId peer id)) d
-    → o ≡ requestBytes (newRequest clock typeId peer id)
-record-whole clock typeId peer id d o l h e =
+pub record-whole : (clock typeId peer : ℕ) (id d : List ℕ) {o : List ℕ} → length id ≡ idSize → length d ≡ recordSize
+    → o ≡ overwritten 0 (requestBytes (newRequest clock typeId peer id)) d → o ≡ requestBytes (newRequest clock typeId peer id)
+record-whole clock typeId peer id d l h e =
     e ∙ overwritten-all (requestBytes (newRequest clock typeId peer id)) d (length-request (newRequest clock typeId peer id) l ∙ sym h)

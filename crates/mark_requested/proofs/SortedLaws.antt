@@ -16,7 +16,8 @@ use Rattle.mark_requested.specs.Choices.{Listed, idsAt}
 use Rattle.model.specs.Layout.{idListSize, idSize}
 use Rattle.model.specs.Protocol.{trackedLimit}
 
-module _ (ids numbers places : List ℕ) (n : ℕ) (en : n ≡ length ids / idSize) (e₁ : numbers ≡ numbersFrom 0 n) (e₂ : places ≡ sorted (keyBelow 32 0 32 ids) numbers) where
+module _ (ids : List ℕ) {numbers places : List ℕ} (n : ℕ) (en : n ≡ length ids / idSize)
+    (e₁ : numbers ≡ numbersFrom 0 n) (e₂ : places ≡ sorted (keyBelow 32 0 32 ids) numbers) where
   both : places ≡ sorted (keyBelow 32 0 32 ids) (numbersFrom 0 n)
   both = e₂ ∙ ap (sorted (keyBelow 32 0 32 ids)) e₁
 

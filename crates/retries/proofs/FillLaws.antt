@@ -31,7 +31,8 @@ module _ (t places : List ℕ) (f : ℕ) where
       omega (arith, s, l, d)
 
   -- the batches from f on: the one that starts there, then those behind it
-  pub batches-next : (u : ℕ) → f < length places → length places ≤ f + u → batchesFrom u t places f ≡ batchAt t places f ∷ batchesFrom (u - 1) t places (f + batchAt t places f .count)
+  pub batches-next : (u : ℕ) → f < length places → length places ≤ f + u
+      → batchesFrom u t places f ≡ batchAt t places f ∷ batchesFrom (u - 1) t places (f + batchAt t places f .count)
   batches-next zero less enough = absurd (omega (arith, less, enough))
   batches-next (suc u) less enough =
       let e : suc u - 1 ≡ u = omega arith in
@@ -40,7 +41,8 @@ module _ (t places : List ℕ) (f : ℕ) where
 
   pub batches-end : (u : ℕ) → length places ≤ f → batchesFrom u t places f ≡ []
   batches-end zero over = refl
-  batches-end (suc u) over = ap (λ (y : Bool). cond y (batchAt t places f ∷ batchesFrom u t places (f + batchAt t places f .count)) []) (le-ltb f (length places) over)
+  batches-end (suc u) over =
+      ap (λ (y : Bool). cond y (batchAt t places f ∷ batchesFrom u t places (f + batchAt t places f .count)) []) (le-ltb f (length places) over)
 
 -- a list as far as it is filled, k elements, with some batches to come
 abbrev filling : ℕ → List Batch → List Batch → List Batch
@@ -50,7 +52,8 @@ filling-next : (k : ℕ) (b : Batch) (rest list : List Batch) → k < length lis
 filling-next k b rest list h =
     let n : k + 1 + length rest ≡ k + suc (length rest) = omega arith in
     let a : take (k + 1) (set list k b) ≡ take k list ++ (b ∷ []) = rw (add-one k) (take-suc-set list k b h) in
-    let d : drop (k + 1 + length rest) (set list k b) ≡ drop (k + suc (length rest)) list = drop-set-lt (k + 1 + length rest) list k b (omega arith) ∙ ap (λ (m : ℕ). drop m list) n in
+    let d : drop (k + 1 + length rest) (set list k b) ≡ drop (k + suc (length rest)) list =
+    drop-set-lt (k + 1 + length rest) list k b (omega arith) ∙ ap (λ (m : ℕ). drop m list) n in
     rw (a, d) (append-assoc (take k list) (b ∷ []) (rest ++ drop (k + suc (length rest)) list))
 
 filling-done : (k : ℕ) (list : List Batch) → filling k [] list ≡ list
@@ -79,7 +82,18 @@ module _ (t places : List ℕ) (ys : List Batch) where
   starts-counted = omega arith
 
   abbrev pub start : Filling t places ys
-  start = record { list = ys; k = 0; f = 0; u = length places; len = refl; behind = omega arith; upto = omega arith; enough = omega arith; fills = starts-filled; counts = starts-counted }
+  start = record {
+    list = ys;
+    k = 0;
+    f = 0;
+    u = length places;
+    len = refl;
+    behind = omega arith;
+    upto = omega arith;
+    enough = omega arith;
+    fills = starts-filled;
+    counts = starts-counted;
+  }
 
   module _ (s : Filling t places ys) where
     pub fill-within : length places ≤ length ys → s .f < length places → s .k < length (s .list)
@@ -88,11 +102,13 @@ module _ (t places : List ℕ) (ys : List Batch) where
     pub next-fills : (b : Batch) → b ≡ batchAt t places (s .f) → s .f < length places → s .k < length (s .list)
         → filling (s .k + 1) (batchesFrom (s .u - 1) t places (s .f + b .count)) (set (s .list) (s .k) b) ≡ filledWith (batchesIn t places) ys
     next-fills b e less room =
-        subst (λ (c : Batch). filling (s .k + 1) (batchesFrom (s .u - 1) t places (s .f + c .count)) (set (s .list) (s .k) c) ≡ filledWith (batchesIn t places) ys) (sym e)
+        let with-batch : Batch → List Batch = λ (c : Batch). filling (s .k + 1) (batchesFrom (s .u - 1) t places (s .f + c .count)) (set (s .list) (s .k) c) in
+        subst (λ (c : Batch). with-batch c ≡ filledWith (batchesIn t places) ys) (sym e)
         (filling-next (s .k) (batchAt t places (s .f)) (batchesFrom (s .u - 1) t places (s .f + batchAt t places (s .f) .count)) (s .list) room
         ∙ ap (λ (rest : List Batch). filling (s .k) rest (s .list)) (sym (batches-next t places (s .f) (s .u) less (s .enough))) ∙ s .fills)
 
-    pub next-counts : (b : Batch) → b ≡ batchAt t places (s .f) → s .f < length places → s .k + 1 + length (batchesFrom (s .u - 1) t places (s .f + b .count)) ≡ length (batchesIn t places)
+    pub next-counts : (b : Batch) → b ≡ batchAt t places (s .f) → s .f < length places
+        → s .k + 1 + length (batchesFrom (s .u - 1) t places (s .f + b .count)) ≡ length (batchesIn t places)
     next-counts b e less =
         let n = ap length (batches-next t places (s .f) (s .u) less (s .enough)) in
         let m = ap (λ (c : Batch). length (batchesFrom (s .u - 1) t places (s .f + c .count))) e in
@@ -120,7 +136,9 @@ module _ (t places : List ℕ) (ys : List Batch) where
     fill-few = omega (arith, s .behind, s .upto)
 
     pub filled-list : length places ≤ s .f → s .list ≡ filledWith (batchesIn t places) ys
-    filled-list over = sym (filling-done (s .k) (s .list)) ∙ ap (λ (rest : List Batch). filling (s .k) rest (s .list)) (sym (batches-end t places (s .f) (s .u) over)) ∙ s .fills
+    filled-list over =
+        let none = ap (λ (rest : List Batch). filling (s .k) rest (s .list)) (sym (batches-end t places (s .f) (s .u) over)) in
+        sym (filling-done (s .k) (s .list)) ∙ none ∙ s .fills
 
     pub filled-count : length places ≤ s .f → s .k ≡ length (batchesIn t places)
     filled-count over = let e = ap length (batches-end t places (s .f) (s .u) over) in omega (arith, e, s .counts)

@@ -47,13 +47,15 @@ pub place-fits : (n i : ℕ) → Room T.the-row n → i < n → i * idSize < 2 ^
 place-fits n i room within = omega (arith, room .1, within)
 
 -- an array of batches as a field of a struct: the field's relation is at the tuples of the batches' fields, which own the same by computation
-each-held : (zs : List Batch) (us : List Val) → shadow (each Batch (T.the-row .own) zs us) → shadow (each (T.the-field .row .Denot) (T.the-field .row .own) (map (T.the-field .into) zs) us)
+each-held : (zs : List Batch) (us : List Val) → shadow (each Batch (T.the-row .own) zs us)
+    → shadow (each (T.the-field .row .Denot) (T.the-field .row .own) (map (T.the-field .into) zs) us)
 each-held [] [] s = s
 each-held [] (u ∷ us) s = s
 each-held (z ∷ zs) [] s = s
 each-held (z ∷ zs) (u ∷ us) s = (s .0, each-held zs us (s .1))
 
-pub list-held : (n : ℕ) (zs : List Batch) (vs : List Val) → Is (Array T.the-row n) zs vs → Is (array-field T.the-field n .row) (array-field T.the-field n .into zs) vs
+pub list-held : (n : ℕ) (zs : List Batch) (vs : List Val) → Is (Array T.the-row n) zs vs
+    → Is (array-field T.the-field n .row) (array-field T.the-field n .into zs) vs
 list-held n zs vs is = (is .0, ((is .1 .0 .0, length-map zs (T.the-field .into) ∙ is .1 .0 .1), each-held zs (is .0) (is .1 .1)))
 
 module _ {M : Type 1} (𝓤 : URA M) (H : Heap 𝓤) (A : Atoms 𝓤) (W : Given 𝓤 H A) (n : ℕ) where
@@ -67,13 +69,20 @@ module _ {M : Type 1} (𝓤 : URA M) (H : Heap 𝓤) (A : Atoms 𝓤) (W : Given
   list-tells = array-tells T.the-row (LL.vals T.the-type T′.the-laws) (LL.tells T.the-type T′.the-laws) n
 
   module _ (xs : List Batch) (b o : ℕ) where
-    pub list-in : Is (Array T.the-row n) xs (list-val xs ∷ []) → ent 𝓤 (sem 𝓤 H A (fat fullShare (tyArray T′.mir n) b o (list-val xs))) (sem 𝓤 H A (cells (mem T.the-row) xs b o))
+    pub list-in : Is (Array T.the-row n) xs (list-val xs ∷ [])
+        → ent 𝓤 (sem 𝓤 H A (fat fullShare (tyArray T′.mir n) b o (list-val xs))) (sem 𝓤 H A (cells (mem T.the-row) xs b o))
     list-in is =
-        qed W (‵ (fat fullShare (tyArray T′.mir n) b o (list-val xs)) ∷ []) ∵ use1 W (‵ (partAt (Array T.the-row n) fullShare xs b o)) (lies-in 𝓤 H A W (Array T.the-row n) (tyArray T′.mir n) refl list-val list-makes list-tells xs b o is) $
-        use1 W (‵ (arr-parts (shares T.the-row) n .part fullShare xs b o)) (array-apart 𝓤 H A W T.the-row fullShare tt n xs b o) $ fsplit ! $ drop ! $ use1 W (‵ (cells (mem T.the-row) xs b o)) (whole-in 𝓤 H A W T.the-row xs b o) $ done !
+        qed W (‵ (fat fullShare (tyArray T′.mir n) b o (list-val xs)) ∷ []) ∵
+        use1 W (‵ (partAt (Array T.the-row n) fullShare xs b o))
+        (lies-in 𝓤 H A W (Array T.the-row n) (tyArray T′.mir n) refl list-val list-makes list-tells xs b o is) $
+        use1 W (‵ (arr-parts (shares T.the-row) n .part fullShare xs b o)) (array-apart 𝓤 H A W T.the-row fullShare tt n xs b o) $
+        fsplit ! $ drop ! $ use1 W (‵ (cells (mem T.the-row) xs b o)) (whole-in 𝓤 H A W T.the-row xs b o) $ done !
 
-    pub list-out : ent 𝓤 (sem 𝓤 H A (Arr (mem T.the-row) n .lies xs b o)) (guard 𝓤 (Is (Array T.the-row n) xs (list-val xs ∷ [])) (sem 𝓤 H A (fat fullShare (tyArray T′.mir n) b o (list-val xs))))
+    pub list-out : ent 𝓤 (sem 𝓤 H A (Arr (mem T.the-row) n .lies xs b o))
+        (guard 𝓤 (Is (Array T.the-row n) xs (list-val xs ∷ [])) (sem 𝓤 H A (fat fullShare (tyArray T′.mir n) b o (list-val xs))))
     list-out =
-        qed W (‵ (Arr (mem T.the-row) n .lies xs b o) ∷ []) ∵ fsplit ! $ move ! (1 ∷ []) $ use1 W (‵ (row T.the-row fullShare xs b o)) (whole-out 𝓤 H A W T.the-row xs b o) $ move ! (1 ∷ 0 ∷ []) $ fjoin ! $
+        qed W (‵ (Arr (mem T.the-row) n .lies xs b o) ∷ []) ∵
+        fsplit ! $ move ! (1 ∷ []) $ use1 W (‵ (row T.the-row fullShare xs b o)) (whole-out 𝓤 H A W T.the-row xs b o) $ move ! (1 ∷ 0 ∷ []) $ fjoin ! $
         use1 W (‵ (partAt (Array T.the-row n) fullShare xs b o)) (array-whole 𝓤 H A W T.the-row fullShare n xs b o) $
-        use1 W (given (Is (Array T.the-row n) xs (list-val xs ∷ [])) (‵ (fat fullShare (tyArray T′.mir n) b o (list-val xs)))) (lies-out 𝓤 H A W (Array T.the-row n) (tyArray T′.mir n) refl list-val list-makes list-tells xs b o) $ done !
+        use1 W (given (Is (Array T.the-row n) xs (list-val xs ∷ [])) (‵ (fat fullShare (tyArray T′.mir n) b o (list-val xs))))
+        (lies-out 𝓤 H A W (Array T.the-row n) (tyArray T′.mir n) refl list-val list-makes list-tells xs b o) $ done !

@@ -2,19 +2,54 @@
 use borrow.Author.Needs.{needs}
 use native.Mathlib.Omega.{arith}
 use native.Mathlib.Nat.{mul-le-mul-right}
-use Rattle.mark_requested.proofs.ManyLaws.{still-sorted, too-many, few, copied-back}
+use Prim.Native.Nat.{ℕ, _≤_}
+use mathlib.Core.List.{List}
+use Rattle.mark_requested.proofs.ManyLaws.{Placed, still-sorted, too-many, few, copied-back}
 use Rattle.mark_requested.proofs.mark_many.Statement.{statement}
 use Rattle.mark_requested.proofs.mark_many.Tie as tie
 use Rattle.model.specs.Layout.{recordSize}
+
+-- ---- the ids sorted
+
+module _ (c : tie.After-sort-ids) where
+  abbrev start : tie.Start
+  start = search
+
+  abbrev places : List ℕ
+  places = c .sort-ids .last .1 .0
+
+  placed : let a = start .args in Placed (a .clock) (a .typeid) (a .peer) (a .most) (a .count) (a .ids .now) places (a .table .now)
+  placed = record { order = c .sort-ids .ensures .0; rises = start .pre .1 .1 }
+
+-- ---- merged, and not too many
+
+module _ (c : tie.After-held) where
+  abbrev merge : tie.After-merge
+  merge = search
+
+  abbrev sort : tie.After-sort-ids
+  sort = search
+
+  held-few : c .held .given .0 .0 ≤ start sort .args .most
+  held-few = few (placed sort) (c .held .given .0 .0) (c .held .given .1) (merge .merge .ensures .0)
+
+-- ---- the needs
 
 sort-ids-requires : tie.Need-sort-ids-requires
 sort-ids-requires c κs = search needs
 
 merge-requires : tie.Need-merge-requires
-merge-requires c κs = let s = c .before .before .before .before .before .before .before .before .before .before .before .before .before .before .before in
-    let a = s .args in
-    let o = c .before .before .before .before .before .before .before .sort-ids in
-    ((omega (arith, mul-le-mul-right recordSize (s .pre .0 .1 .1 .0), s .pre .0 .1 .1 .1 .1), (s .pre .0 .1 .1 .0, (s .pre .0 .1 .1 .1 .0, (omega (arith, o .kept .1 .0, s .pre .1 .0 .0, s .pre .0 .1 .0), s .pre .1 .0 .1 .1)))), ((o .ensures .1, still-sorted (a .ids .now) (o .last .1 .0) (o .ensures .0)), s .pre .1 .1))
+merge-requires c κs =
+    let sort : tie.After-sort-ids = search in
+    let s = start sort in
+    let given = s .pre .0 .1 .1 in
+    let o = sort .sort-ids in (
+      (
+        omega (arith, mul-le-mul-right recordSize (given .0), given .1 .1),
+        (given .0, (given .1 .0, (omega (arith, o .kept .1 .0, s .pre .1 .0 .0, s .pre .0 .1 .0), s .pre .1 .0 .1 .1))),
+      ),
+      ((o .ensures .1, still-sorted (s .args .ids .now) (places sort) (o .ensures .0)), s .pre .1 .1),
+    )
 
 enum-told : tie.Need-enum-told
 enum-told c = search needs
@@ -23,19 +58,15 @@ enum-known-held : tie.Need-enum-known-held
 enum-known-held c = search needs
 
 mul-copy-prefix : tie.Need-mul-copy-prefix
-mul-copy-prefix c = let s = c .before .before .before .before .before .before .before .before .before .before .before .before .before .before .before .before .before .before .before .before .before .before in
-    let a = s .args in
-    let o = c .before .before .before .before .before .before .before .before .before .before .before .before .before .before .sort-ids in
-    let h = c .before .before .held .given in
-    omega (arith, s .pre .0 .1 .1 .1 .0, few (a .clock) (a .typeid) (a .peer) (a .most) (a .count) (a .ids .now) (o .last .1 .0) (a .table .now) (o .ensures .0) (s .pre .1 .1) (h .0 .0) (c .before .before .before .before .before .before .merge .result) (h .1) (c .before .before .before .before .before .before .merge .ensures .0))
+mul-copy-prefix c = let h : tie.After-held = search in omega (arith, start (sort h) .pre .0 .1 .1 .1 .0, held-few h)
 
 copy-prefix-requires : tie.Need-copy-prefix-requires
-copy-prefix-requires c κs = let s = c .before .before .before .before .before .before .before .before .before .before .before .before .before .before .before .before .before .before .before .before .before .before .before in
-    let a = s .args in
-    let o = c .before .before .before .before .before .before .before .before .before .before .before .before .before .before .before .sort-ids in
-    let h = c .before .before .before .held .given in
-    let m = mul-le-mul-right recordSize (few (a .clock) (a .typeid) (a .peer) (a .most) (a .count) (a .ids .now) (o .last .1 .0) (a .table .now) (o .ensures .0) (s .pre .1 .1) (h .0 .0) (c .before .before .before .before .before .before .before .merge .result) (h .1) (c .before .before .before .before .before .before .before .merge .ensures .0)) in
-    (omega (arith, m, s .pre .1 .0 .1 .1, c .before .before .before .before .before .before .before .merge .kept .1 .1 .1 .1 .1 .1 .1 .1 .0), omega (arith, m, s .pre .0 .1 .1 .1 .1))
+copy-prefix-requires c κs =
+    let h : tie.After-held = search in
+    let s = start (sort h) in
+    let m = mul-le-mul-right recordSize (held-few h) in
+    let kept = merge h .merge .kept .1 .1 .1 .1 .1 .1 .1 .1 .0 in
+    (omega (arith, m, s .pre .1 .0 .1 .1, kept), omega (arith, m, s .pre .0 .1 .1 .1 .1))
 
 same-length : tie.Need-same-length
 same-length c = search needs
@@ -50,10 +81,10 @@ same-length-4 : tie.Need-same-length-4
 same-length-4 c = search needs
 
 returns : tie.Need-returns
-returns c = let s = c .before .before .before .before .before .before .before .before .before .before .before .before .before .before .before .before .before .before .before .before in
-    let a = s .args in
-    let o = c .before .before .before .before .before .before .before .before .before .before .before .before .sort-ids in
-    too-many (a .clock) (a .typeid) (a .peer) (a .most) (a .count) (a .ids .now) (o .last .1 .0) (a .table .now) (o .ensures .0) (s .pre .1 .1) (c .before .before .before .before .merge .result) (c .enum-told .given .1) (c .before .before .before .before .merge .ensures .0)
+returns c =
+    let merged : tie.After-merge = search in
+    let sorted : tie.After-sort-ids = search in
+    too-many (placed sorted) (c .enum-told .given .1) (merged .merge .ensures .0)
 
 same-length-5 : tie.Need-same-length-5
 same-length-5 c = search needs
@@ -68,12 +99,12 @@ same-length-8 : tie.Need-same-length-8
 same-length-8 c = search needs
 
 returns-2 : tie.Need-returns-2
-returns-2 c = let s = c .before .before .before .before .before .before .before .before .before .before .before .before .before .before .before .before .before .before .before .before .before .before .before .before .before .before in
-    let a = s .args in
-    let o = c .before .before .before .before .before .before .before .before .before .before .before .before .before .before .before .before .before .before .sort-ids in
-    let h = c .before .before .before .before .before .before .held .given in
-    let m = c .before .before .before .before .before .before .before .before .before .before .merge in
-    copied-back (a .clock) (a .typeid) (a .peer) (a .most) (a .count) (a .ids .now) (o .last .1 .0) (a .table .now) (o .ensures .0) (s .pre .1 .1) (h .0 .0) (m .result) (h .1) (m .ensures .0) (m .last .1 .1 .1 .1 .1 .1 .1 .1 .0) (c .before .before .copy-prefix .last .1 .1 .0) (m .ensures .1) (c .before .before .copy-prefix .ensures)
+returns-2 c =
+    let copied : tie.After-copy-prefix = search in
+    let h : tie.After-held = search in
+    let m = merge h .merge in
+    let room = m .last .1 .1 .1 .1 .1 .1 .1 .1 .0 in
+    copied-back (placed (sort h)) (h .held .given .0 .0) (h .held .given .1) (m .ensures .0) room (m .ensures .1) (copied .copy-prefix .ensures)
 
 pub mark-many-spec : {M : Type 1} → statement M
 mark-many-spec =

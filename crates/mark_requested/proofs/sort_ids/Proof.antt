@@ -18,11 +18,14 @@ same-length-2 : tie.Need-same-length-2
 same-length-2 c = search needs
 
 returns : tie.Need-returns
-returns c = let s = c .before .before .before .before .before .before .before .before .before .before .before .before .before .before in
+returns c =
+    let s : tie.Start = search in
     let a = s .args in
-    let u = c .before .before .before .before .before .before .before .before .before .number in
-    let v = c .before .before .before .before .sort in
-    (sorted-ids (a .ids .now) (u .last .0) (v .last .1 .1 .1 .1 .0) (length (a .places .now)) (s .pre .0) (u .ensures) (v .ensures), sorted-listed (a .ids .now) (u .last .0) (v .last .1 .1 .1 .1 .0) (length (a .places .now)) (s .pre .0) (u .ensures) (v .ensures))
+    let numbered : tie.After-number = search in
+    let done : tie.After-sort = search in (
+      sorted-ids (a .ids .now) (length (a .places .now)) (s .pre .0) (numbered .number .ensures) (done .sort .ensures),
+      sorted-listed (a .ids .now) (length (a .places .now)) (s .pre .0) (numbered .number .ensures) (done .sort .ensures),
+    )
 
 pub sort-ids-spec : {M : Type 1} → statement M
 sort-ids-spec =

@@ -11,7 +11,9 @@ slice-aggregate-put-with-room-2 : tie.Need-slice-aggregate-put-with-room-2
 slice-aggregate-put-with-room-2 c = search needs
 
 put-with-room-requires : tie.Need-put-with-room-requires
-put-with-room-requires c κs = let s = c .before .before .before .before .before .before .before in (s .pre .0, (s .pre .1 .0, ((omega (arith, s .pre .1 .1 .0), omega (arith, s .pre .1 .1 .0)), s .pre .1 .1)))
+put-with-room-requires c κs =
+    let s : tie.Start = search in
+    (s .pre .0, (s .pre .1 .0, ((omega (arith, s .pre .1 .1 .0), omega (arith, s .pre .1 .1 .0)), s .pre .1 .1)))
 
 same-length : tie.Need-same-length
 same-length c = search needs

@@ -1,35 +1,57 @@
 -- Sorted by ten bytes is sorted by target, then type (`sorted-written`).
 use borrow.Author.Needs.{needs}
 use native.Mathlib.Omega.{arith}
-use Rattle.fields.specs.Facts.{Bytes}
-use Rattle.retries.proofs.GroupLaws.{within, ids-alone, asked-both, sorted-asked, sorted-length, sorted-room, sorted-written}
+use Prim.Native.Nat.{ℕ}
+use mathlib.Core.List.{List}
+use Rattle.retries.proofs.GroupLaws.{Sorting, ids-alone, sorted-asked, sorted-within, sorted-length, sorted-room, sorted-written}
 use Rattle.retries.proofs.put_retries.Statement.{statement}
 use Rattle.retries.proofs.put_retries.Tie as tie
+
+-- ---- the places sorted
+
+module _ (c : tie.After-sort) where
+  abbrev start : tie.Start
+  start = search
+
+  abbrev places : List ℕ
+  places = c .sort .last .1 .1 .1 .1 .0
+
+  sorting : Sorting (start .args .table .now) (start .args .places .now) places
+  sorting =
+      let table : tie.After-shared-slice-known = search in
+      record {
+        bytes = λ i. omega (arith, table .shared-slice-known .given i);
+        inside = start .pre .0;
+        narrow = start .pre .1 .0;
+        order = c .sort .ensures;
+      }
+
+-- ---- the needs
 
 sort-requires : tie.Need-sort-requires
 sort-requires c κs = search needs
 
 gather-requires : tie.Need-gather-requires
-gather-requires c κs = let s = c .before .before .before .before .before .before .before .before .before .before .before .before .before .before in
-    let t = s .args .table .now in
-    let bytes : Bytes t = λ i. omega (arith, c .before .before .before .before .before .before .before .before .before .before .before .before .before .shared-slice-known .given i) in
-    let w = asked-both t (s .args .places .now) (s .pre .0) (s .pre .1 .0) in
-    let places = c .before .before .before .before .before .before .sort .last .1 .1 .1 .1 .0 in
-    let e = c .before .before .before .before .before .before .sort .ensures in
-    (within t places (sorted-asked t bytes (s .args .places .now) places w e), (omega arith, omega (arith, sorted-length t bytes (s .args .places .now) places w e, s .pre .1 .1 .0)))
+gather-requires c κs =
+    let sorted : tie.After-sort = search in
+    (sorted-within (sorting sorted), (omega arith, omega (arith, sorted-length (sorting sorted), start sorted .pre .1 .1 .0)))
 
 put-batches-requires : tie.Need-put-batches-requires
-put-batches-requires c κs = let s = c .before .before .before .before .before .before .before .before .before .before .before .before .before .before .before .before .before .before .before .before in
-    let t = s .args .table .now in
-    let bytes : Bytes t = λ i. omega (arith, c .before .before .before .before .before .before .before .before .before .before .before .before .before .before .before .before .before .before .before .shared-slice-known .given i) in
-    let w = asked-both t (s .args .places .now) (s .pre .0) (s .pre .1 .0) in
-    let places = c .before .before .before .before .before .before .before .before .before .before .before .before .sort .last .1 .1 .1 .1 .0 in
-    let e = c .before .before .before .before .before .before .before .before .before .before .before .before .sort .ensures in
-    let asked = sorted-asked t bytes (s .args .places .now) places w e in
-    let long = sorted-length t bytes (s .args .places .now) places w e in
-    let g = c .before .before .before .before .before .gather in (
-      (asked, (ids-alone t places (s .args .ids .now) (g .last .1 .1 .1 .1 .0) asked (omega (arith, long, s .pre .1 .1 .0)) (g .ensures), omega (arith, long, s .pre .1 .1 .1))),
-      (omega (arith, sorted-room t bytes (s .args .places .now) places w e (s .args .batch), s .pre .1 .1 .1), omega (arith, long, s .pre .1 .1 .1)),
+put-batches-requires c κs =
+    let taken : tie.After-gather = search in
+    let sorted : tie.After-sort = search in
+    let s = start sorted in
+    let order = sorting sorted in
+    let long = sorted-length order in (
+      (
+        sorted-asked order,
+        (
+          ids-alone (s .args .table .now) (places sorted) (s .args .ids .now) (sorted-asked order)
+              (omega (arith, long, s .pre .1 .1 .0)) (taken .gather .ensures),
+          omega (arith, long, s .pre .1 .1 .1),
+        ),
+      ),
+      (omega (arith, sorted-room order (s .args .batch), s .pre .1 .1 .1), omega (arith, long, s .pre .1 .1 .1)),
     )
 
 same-length : tie.Need-same-length
@@ -45,13 +67,11 @@ same-length-4 : tie.Need-same-length-4
 same-length-4 c = search needs
 
 returns : tie.Need-returns
-returns c = let s = c .before .before .before .before .before .before .before .before .before .before .before .before .before .before .before .before .before .before .before .before .before .before .before in
-    let t = s .args .table .now in
-    let bytes : Bytes t = λ i. omega (arith, c .before .before .before .before .before .before .before .before .before .before .before .before .before .before .before .before .before .before .before .before .before .before .shared-slice-known .given i) in
-    let w = asked-both t (s .args .places .now) (s .pre .0) (s .pre .1 .0) in
-    let places = c .before .before .before .before .before .before .before .before .before .before .before .before .before .before .before .sort .last .1 .1 .1 .1 .0 in
-    let m = c .before .before .put-batches in
-    sorted-written t bytes (s .args .places .now) places w (c .before .before .before .before .before .before .before .before .before .before .before .before .before .before .before .sort .ensures) (s .args .at) (s .args .batch) (m .result .at) (m .result .batch) (s .args .out .now) (m .last .1 .1 .1 .0) (m .ensures)
+returns c =
+    let done : tie.After-put-batches = search in
+    let sorted : tie.After-sort = search in
+    let a = start sorted .args in
+    sorted-written (sorting sorted) (a .at) (a .batch) (a .out .now) (done .put-batches .ensures)
 
 pub put-retries-spec : {M : Type 1} → statement M
 put-retries-spec =

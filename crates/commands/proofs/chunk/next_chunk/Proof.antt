@@ -22,9 +22,12 @@ part-result-end : tie.Need-part-result-end
 part-result-end c = search needs
 
 returns : tie.Need-returns
-returns c = let s = c .before .before in
-    let l : length (drop (s .args .at) (s .args .ids .now)) ≡ length (s .args .ids .now) - s .args .at = length-drop (s .args .at) (s .args .ids .now) in
-    take-all (length (s .args .ids .now) - s .args .at) (drop (s .args .at) (s .args .ids .now)) (omega arith) ∙ sym (take-all chunkSize (drop (s .args .at) (s .args .ids .now)) (omega (arith, c .before .if1 .taken)))
+returns c =
+    let s : tie.Start = search in
+    let ids = s .args .ids .now in
+    let at = s .args .at in
+    let l : length (drop at ids) ≡ length ids - at = length-drop at ids in
+    take-all (length ids - at) (drop at ids) (omega arith) ∙ sym (take-all chunkSize (drop at ids) (omega (arith, c .before .if1 .taken)))
 
 add-end : tie.Need-add-end
 add-end c = search needs
@@ -39,7 +42,7 @@ part-result-end-2 : tie.Need-part-result-end-2
 part-result-end-2 c = search needs
 
 returns-2 : tie.Need-returns-2
-returns-2 c = let e : c .before .before .args .at + chunkSize - c .before .before .args .at ≡ chunkSize = omega arith in rw e
+returns-2 c = let s : tie.Start = search in let e : s .args .at + chunkSize - s .args .at ≡ chunkSize = omega arith in rw e
 
 pub next-chunk-spec : {M : Type 1} → statement M
 next-chunk-spec =

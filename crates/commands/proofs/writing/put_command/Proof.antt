@@ -45,9 +45,18 @@ same-length : tie.Need-same-length
 same-length c = search needs
 
 returns : tie.Need-returns
-returns c = let s = c .before .before .before .before .before .before .before .before .before .before .before .before .before .before .before .before .before .before .before .before .before .before in
-    let a = s .args in
-    (command-written (a .kind) (a .typeid) (a .batch) (a .peer) (a .ids .now) (s .pre .0) (a .at) (a .out .now) (c .before .before .before .before .before .before .before .before .before .before .before .before .before .before .before .before .before .before .put-kind .last .0) (c .before .before .before .before .before .before .before .before .before .before .before .before .before .before .write-u16 .last .0) (c .before .before .before .before .before .before .before .before .before .before .write-u64 .last .0) (c .before .before .before .before .before .before .write-u32 .last .0) (c .before .before .overwrite .last .0) (s .pre .1 .1) (c .before .before .before .before .before .before .before .before .before .before .before .before .before .before .before .before .before .before .put-kind .ensures) (c .before .before .before .before .before .before .before .before .before .before .before .before .before .before .write-u16 .ensures) (c .before .before .before .before .before .before .before .before .before .before .write-u64 .ensures) (c .before .before .before .before .before .before .write-u32 .ensures) (c .before .before .overwrite .ensures), refl)
+returns c =
+    let ids : tie.After-overwrite = search in
+    let number : tie.After-write-u32 = search in
+    let peer : tie.After-write-u64 = search in
+    let batch : tie.After-write-u16 = search in
+    let kind : tie.After-put-kind = search in
+    let s : tie.Start = search in
+    let a = s .args in (
+      command-written (a .kind) (a .typeid) (a .batch) (a .peer) (a .ids .now) (s .pre .0) (a .at) (a .out .now) (s .pre .1 .1)
+          (kind .put-kind .ensures) (batch .write-u16 .ensures) (peer .write-u64 .ensures) (number .write-u32 .ensures) (ids .overwrite .ensures),
+      refl,
+    )
 
 pub put-command-spec : {M : Type 1} → statement M
 put-command-spec =

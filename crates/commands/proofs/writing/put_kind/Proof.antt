@@ -19,7 +19,7 @@ same-length : tie.Need-same-length
 same-length c = search needs
 
 returns : tie.Need-returns
-returns c = let s = c in two-written (s .args .at) (s .args .kind) (s .args .typeid) (s .args .out .now) (s .pre)
+returns c = two-written (c .args .at) (c .args .kind) (c .args .typeid) (c .args .out .now) (c .pre)
 
 pub put-kind-spec : {M : Type 1} → statement M
 put-kind-spec = tie.close (tie.spec slice-write-out add-out slice-write-out-2 same-length returns)

@@ -2,9 +2,8 @@
 use borrow.Author.Needs.{needs}
 use native.Mathlib.Omega.{arith}
 use Prim.Native.Nat.{_-_}
-use denote.Ref.{now}
 use lib.ListN.{length}
-use Rattle.commands.proofs.RunLaws.{Putting, put-starts, chunk-length, put-room, put-turn, put-ends}
+use Rattle.commands.proofs.RunLaws.{Run, Putting, put-starts, chunk-length, put-asks, put-turn, put-ends}
 use Rattle.commands.proofs.writing.put_requests.Statement.{statement}
 use Rattle.commands.proofs.writing.put_requests.Tie as tie
 
@@ -14,52 +13,78 @@ Inv-loop out₀ at typeid batch peer ids place₀ done₀ out place done = Putti
 abbrev μ-loop : tie.MeasureT-loop
 μ-loop out₀ at typeid batch peer ids place₀ done₀ out place done = length ids - done
 
+abbrev Entry : Type 0
+Entry = tie.After-shared-slice-known Inv-loop μ-loop
+
+abbrev Head : Type 0
+Head = tie.At-loop Inv-loop μ-loop
+
+abbrev Turn : Type 0
+Turn = tie.In-loop Inv-loop μ-loop
+
+abbrev Chunk : Type 0
+Chunk = tie.After-next-chunk Inv-loop μ-loop
+
+-- ---- the entry
+
+module _ (c : Entry) where
+  abbrev start : tie.Start Inv-loop μ-loop
+  start = search
+
+  run : let a = start .args in Run (a .typeid) (a .batch) (a .peer) (a .at) (a .ids .now) (a .out .now)
+  run = record { whole = start .pre .0; few = start .pre .1 .0; room = start .pre .1 .1 }
+
+-- ---- the needs
+
 loop-holds : tie.Need-loop-holds Inv-loop μ-loop
-loop-holds c = let a = c .before .before .args in put-starts (a .typeid) (a .batch) (a .peer) (a .at) (a .ids .now) (a .out .now)
+loop-holds c = put-starts (run c)
 
 next-chunk-requires : tie.Need-next-chunk-requires Inv-loop μ-loop
 next-chunk-requires c κs = search needs
 
 put-command-requires : tie.Need-put-command-requires Inv-loop μ-loop
-put-command-requires c κs = let s = c .before .before .before .before .before .before in
-    let a = s .args in
-    let l = c .before .before .before .loop in
-    let k = c .before .next-chunk in
-    let n = chunk-length (a .ids .now) (now (k .result)) (l .done) (s .pre .0) (l .inv .whole) (c .before .before .loop-test .taken) (k .ensures) in
-    let r = put-room (a .typeid) (a .batch) (a .peer) (a .at) (a .ids .now) (a .out .now) (l .out) (l .place) (l .done) (l .inv) (s .pre .0) (s .pre .1 .1) (c .before .before .loop-test .taken) (now (k .result)) (k .ensures) in
-    (n .1 .0, (omega (arith, n .1 .1), r))
+put-command-requires c κs =
+    let chunk : Chunk = search in
+    let turn : Turn = search in
+    let head : Head = search in
+    let entry : Entry = search in
+    put-asks (run entry) (head .loop .inv) (turn .loop-test .taken) (chunk .next-chunk .ensures)
 
 add-done : tie.Need-add-done Inv-loop μ-loop
-add-done c = let s = c .before .before .before .before .before .before .before .before .before in
-    let a = s .args in
-    let l = c .before .before .before .before .before .before .loop in
-    let k = c .before .before .before .before .next-chunk in
-    let n = chunk-length (a .ids .now) (now (k .result)) (l .done) (s .pre .0) (l .inv .whole) (c .before .before .before .before .before .loop-test .taken) (k .ensures) in
-    omega (arith, n .0 .1, s .pre .1 .0)
+add-done c =
+    let chunk : Chunk = search in
+    let turn : Turn = search in
+    let head : Head = search in
+    let entry : Entry = search in
+    let n = chunk-length (run entry) (head .loop .inv) (turn .loop-test .taken) (chunk .next-chunk .ensures) in
+    omega (arith, n .0 .1, run entry .few)
 
 loop-less : tie.Need-loop-less Inv-loop μ-loop
-loop-less c = let s = c .before .before .before .before .before .before .before .before .before in
-    let a = s .args in
-    let l = c .before .before .before .before .before .before .loop in
-    let k = c .before .before .before .before .next-chunk in
-    let n = chunk-length (a .ids .now) (now (k .result)) (l .done) (s .pre .0) (l .inv .whole) (c .before .before .before .before .before .loop-test .taken) (k .ensures) in
+loop-less c =
+    let chunk : Chunk = search in
+    let turn : Turn = search in
+    let head : Head = search in
+    let entry : Entry = search in
+    let n = chunk-length (run entry) (head .loop .inv) (turn .loop-test .taken) (chunk .next-chunk .ensures) in
     omega (arith, n .0 .0, n .0 .1)
 
 loop-again : tie.Need-loop-again Inv-loop μ-loop
-loop-again c = let s = c .before .before .before .before .before .before .before .before .before in
-    let a = s .args in
-    let l = c .before .before .before .before .before .before .loop in
-    let k = c .before .before .before .before .next-chunk in
-    put-turn (a .typeid) (a .batch) (a .peer) (a .at) (a .ids .now) (a .out .now) (l .out) (l .place) (l .done) (l .inv) (s .pre .0) (s .pre .1 .1) (c .before .before .before .before .before .loop-test .taken) (now (k .result)) (k .ensures) (c .before .before .put-command .last .0) (c .before .before .put-command .result) (c .before .before .put-command .ensures .0) (c .before .before .put-command .ensures .1)
+loop-again c =
+    let done : tie.After-put-command Inv-loop μ-loop = search in
+    let chunk : Chunk = search in
+    let turn : Turn = search in
+    let head : Head = search in
+    let entry : Entry = search in
+    put-turn (run entry) (head .loop .inv) (turn .loop-test .taken) (chunk .next-chunk .ensures) (done .put-command .ensures)
 
 same-length : tie.Need-same-length Inv-loop μ-loop
 same-length c = search needs
 
 returns : tie.Need-returns Inv-loop μ-loop
-returns c = let a = c .before .before .before .before .args in
-    let l = c .before .loop in
-    let r = put-ends (a .typeid) (a .batch) (a .peer) (a .at) (a .ids .now) (a .out .now) (l .out) (l .place) (l .done) (l .inv) (c .before .before .before .before .pre .0) (c .loop-test .left) in
-    (r .1, r .0)
+returns c =
+    let head : Head = search in
+    let entry : Entry = search in
+    put-ends (run entry) (head .loop .inv) (c .loop-test .left)
 
 pub put-requests-spec : {M : Type 1} → statement M
 put-requests-spec =

@@ -29,11 +29,13 @@ same-length : tie.Need-same-length
 same-length c = search needs
 
 returns : tie.Need-returns
-returns c = let s = c .before .before .before .before .before .before .before .before .before .before in
+returns c =
+    let s : tie.Start = search in
     let a = s .args in
-    let x = c .before .before .before .before .before .before .move-down .last .0 in
-    appended (a .evicted) (length x - length (a .ids .now)) (a .ids .now) (a .region .now) x (c .before .before .overwrite .last .0) (s .pre .0) (s .pre .1) (c .before .before .before .before .before .before .move-down .ensures)
-    (ap (λ (n : ℕ). n - length (a .ids .now)) (c .before .before .before .before .before .before .move-down .kept .0)) (c .before .before .overwrite .ensures)
+    let down : tie.After-move-down = search in
+    let written : tie.After-overwrite = search in
+    let behind = ap (λ (n : ℕ). n - length (a .ids .now)) (down .move-down .kept .0) in
+    appended (a .evicted) (a .ids .now) (a .region .now) (s .pre .0) (s .pre .1) (down .move-down .ensures) behind (written .overwrite .ensures)
 
 pub append-evicted-spec : {M : Type 1} → statement M
 append-evicted-spec =

@@ -1,6 +1,8 @@
 -- From marks for all records: `marked-ones`.
 use borrow.Author.Needs.{needs}
+use Prim.Native.Nat.{_≤_}
 use mathlib.Core.Path.{ap, _∙_}
+use lib.ListN.{length}
 use Rattle.fields.specs.Entries.{entries}
 use Rattle.fields.proofs.EntriesLaws.{length-entries}
 use Rattle.model.specs.Lists.{idsIn}
@@ -18,9 +20,12 @@ unmark-listed-requires : tie.Need-unmark-listed-requires
 unmark-listed-requires c κs = search needs
 
 returns : tie.Need-returns
-returns c = let s = c .before .before .before .before .before in
-    c .before .unmark-listed .ensures
-    ∙ ap (unlisted (idsIn (s .args .ids .now))) (marked-ones trackedLimit (entries recordSize (s .args .count) (s .args .table .now)) (rw (length-entries recordSize (s .args .count) (s .args .table .now)) (s .pre .0 .1 .0)))
+returns c =
+    let s : tie.Start = search in
+    let a = s .args in
+    let es = entries recordSize (a .count) (a .table .now) in
+    let few : length es ≤ trackedLimit = rw (length-entries recordSize (a .count) (a .table .now)) (s .pre .0 .1 .0) in
+    c .before .unmark-listed .ensures ∙ ap (unlisted (idsIn (a .ids .now))) (marked-ones trackedLimit es few)
 
 pub marks-of-unlisted-spec : {M : Type 1} → statement M
 marks-of-unlisted-spec =

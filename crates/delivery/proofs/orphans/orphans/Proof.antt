@@ -2,9 +2,9 @@
 use borrow.Author.Needs.{needs}
 use native.Mathlib.Omega.{arith}
 use Prim.Native.Nat.{_-_}
-use mathlib.Core.Path.{sym, _∙_}
+use mathlib.Core.Path.{_∙_}
 use mathlib.Core.Logic.{⊎-elim}
-use Rattle.delivery.proofs.OrphanLaws.{Gathering, starts, passes-as, takes-as, gathered, narrow-at}
+use Rattle.delivery.proofs.OrphanLaws.{Gathering, starts, passes, takes, gathered, narrow-at}
 use Rattle.delivery.proofs.orphans.orphans.Statement.{statement}
 use Rattle.delivery.proofs.orphans.orphans.Tie as tie
 
@@ -15,15 +15,18 @@ abbrev μ-loop : tie.MeasureT-loop
 μ-loop table count peer pairs₀ found₀ i₀ pairs found i = count - i
 
 loop-holds : tie.Need-loop-holds Inv-loop μ-loop
-loop-holds c = let s = c .before .before .args in starts (s .peer) (s .count) (s .table .now) (s .pairs .now)
+loop-holds c = let a = c .before .before .args in starts (a .peer) (a .count) (a .table .now) (a .pairs .now)
 
 is-orphan-requires : tie.Need-is-orphan-requires Inv-loop μ-loop
 is-orphan-requires c κs = search needs
 
 put-pair-requires : tie.Need-put-pair-requires Inv-loop μ-loop
-put-pair-requires c κs = let l = c .before .before .before .before in
-    let s = c .before .before .before .before .before .before .before in
-    ((omega arith, omega (arith, l .loop .inv .found-le, l .loop .inv .long)), narrow-at (s .args .count) (l .loop .i) (s .args .table .now) (s .pre .1) (c .before .before .before .loop-test .taken))
+put-pair-requires c κs =
+    let turn : tie.In-loop Inv-loop μ-loop = search in
+    let head : tie.At-loop Inv-loop μ-loop = search in
+    let s : tie.Start Inv-loop μ-loop = search in
+    let l = head .loop in
+    ((omega arith, omega (arith, l .inv .found-le, l .inv .long)), narrow-at (s .args .count) (l .i) (s .args .table .now) (s .pre .1) (turn .loop-test .taken))
 
 add-found : tie.Need-add-found Inv-loop μ-loop
 add-found c = search needs
@@ -35,21 +38,24 @@ loop-less : tie.Need-loop-less Inv-loop μ-loop
 loop-less c = search needs
 
 loop-again : tie.Need-loop-again Inv-loop μ-loop
-loop-again c = let l = c .before .before .before in
-    let s = c .before .before .before .before .before .before in
-    let a = s .args in
+loop-again c =
+    let told : tie.After-is-orphan Inv-loop μ-loop = search in
+    let turn : tie.In-loop Inv-loop μ-loop = search in
+    let head : tie.At-loop Inv-loop μ-loop = search in
+    let s : tie.Start Inv-loop μ-loop = search in
+    let gathering = head .loop .inv in
+    let inside = turn .loop-test .taken in
+    let whether = told .is-orphan .ensures in
     ⊎-elim
-    (λ u. takes-as (a .peer) (a .count) (a .table .now) (a .pairs .now) (l .loop .pairs) (l .loop .found) (l .loop .i) (l .loop .inv) (c .before .before .loop-test .taken) (s .pre .0 .0) (s .pre .0 .1) (c .if1 .pairs) (c .if1 .found) (u .5 ∙ u .2 .ensures) (u .6) (sym (c .before .is-orphan .ensures) ∙ u .0 .taken))
-    (λ u. passes-as (a .peer) (a .count) (a .table .now) (a .pairs .now) (l .loop .pairs) (l .loop .found) (l .loop .i) (l .loop .inv) (c .before .before .loop-test .taken) (c .if1 .pairs) (c .if1 .found) (u .1) (u .2) (sym (c .before .is-orphan .ensures) ∙ u .0 .left))
+    (λ u. takes gathering inside (s .pre .0 .0) (s .pre .0 .1) whether (u .0 .taken) (u .5 ∙ u .2 .ensures) (u .6))
+    (λ u. passes gathering inside whether (u .0 .left) (u .1) (u .2))
     (c .if1 .came)
 
 same-length : tie.Need-same-length Inv-loop μ-loop
 same-length c = c .before .loop .inv .long
 
 returns : tie.Need-returns Inv-loop μ-loop
-returns c = let l = c .before in
-    let s = c .before .before .before .before .args in
-    gathered (s .peer) (s .count) (s .table .now) (s .pairs .now) (l .loop .pairs) (l .loop .found) (l .loop .i) (l .loop .inv) (omega arith)
+returns c = gathered (c .before .loop .inv) (c .loop-test .left)
 
 pub orphans-spec : {M : Type 1} → statement M
 orphans-spec =

@@ -1,13 +1,13 @@
 -- A byte and 32 bytes behind it are one write: `pair-put`.
 use borrow.Author.Needs.{needs}
 use native.Mathlib.Omega.{arith}
-use Prim.Native.Nat.{_+_, _*_}
-use mathlib.Core.Path.{refl, _∙_}
-use lib.ListN.{getD, set, length-set}
+use Prim.Native.Nat.{_*_}
+use mathlib.Core.Path.{_∙_}
+use lib.ListN.{length-set}
 use Rattle.delivery.proofs.OrphanLaws.{pair-put}
 use Rattle.delivery.proofs.orphans.put_pair.Statement.{statement}
 use Rattle.delivery.proofs.orphans.put_pair.Tie as tie
-use Rattle.model.specs.Layout.{pairSize, recordSize}
+use Rattle.model.specs.Layout.{pairSize}
 
 mul-from : tie.Need-mul-from
 mul-from c = search needs
@@ -31,13 +31,15 @@ put-id-requires : tie.Need-put-id-requires
 put-id-requires c κs = (omega arith, rw length-set (omega arith))
 
 same-length : tie.Need-same-length
-same-length c = let a = c .before .before .before .before .before .before .before .args in
-    c .before .before .put-id .kept .1 .1 .0 ∙ length-set (a .pairs .now) (a .to * pairSize) _
+same-length c =
+    let s : tie.Start = search in
+    c .before .before .put-id .kept .1 .1 .0 ∙ length-set (s .args .pairs .now) (s .args .to * pairSize) _
 
 returns : tie.Need-returns
-returns c = let s = c .before .before .before .before .before .before .before in
+returns c =
+    let s : tie.Start = search in
     let a = s .args in
-    pair-put (a .i) (a .table .now) (a .to) (a .pairs .now) (set (a .pairs .now) (a .to * pairSize) (getD (a .table .now) (a .i * recordSize + 41) 0)) (c .before .before .put-id .last .1 .1 .0) (s .pre .0 .0) (s .pre .0 .1) (s .pre .1) refl (c .before .before .put-id .ensures)
+    pair-put (a .i) (a .table .now) (a .to) (a .pairs .now) (s .pre .0 .0) (s .pre .0 .1) (s .pre .1) (c .before .before .put-id .ensures)
 
 pub put-pair-spec : {M : Type 1} → statement M
 put-pair-spec =

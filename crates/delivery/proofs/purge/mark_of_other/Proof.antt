@@ -16,12 +16,18 @@ read-u64-requires : tie.Need-read-u64-requires
 read-u64-requires c κs = search needs
 
 returns : tie.Need-returns
-returns c = let s = c .before .before .before .args in
-    other-mark (s .i) (s .table .now) (c .before .read-u64 .result) (s .peer) true (c .before .read-u64 .ensures) (eq-eqb (c .before .read-u64 .result) (s .peer) (c .if1 .taken))
+returns c =
+    let s : tie.Start = search in
+    let a = s .args in
+    let read = c .before .read-u64 in
+    other-mark (a .i) (a .table .now) (read .result) (a .peer) true (read .ensures) (eq-eqb (read .result) (a .peer) (c .if1 .taken))
 
 returns-2 : tie.Need-returns-2
-returns-2 c = let s = c .before .before .before .args in
-    other-mark (s .i) (s .table .now) (c .before .read-u64 .result) (s .peer) false (c .before .read-u64 .ensures) (ne-eqb (c .before .read-u64 .result) (s .peer) (c .if1 .left))
+returns-2 c =
+    let s : tie.Start = search in
+    let a = s .args in
+    let read = c .before .read-u64 in
+    other-mark (a .i) (a .table .now) (read .result) (a .peer) false (read .ensures) (ne-eqb (read .result) (a .peer) (c .if1 .left))
 
 pub mark-of-other-spec : {M : Type 1} → statement M
 mark-of-other-spec =

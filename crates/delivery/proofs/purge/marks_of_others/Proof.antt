@@ -20,9 +20,10 @@ mark-others-requires : tie.Need-mark-others-requires
 mark-others-requires c κs = search needs
 
 returns : tie.Need-returns
-returns c = let a = c .before .before .before .before .args in
-    let es : List (List ℕ) = entries recordSize (a .count) (a .table .now) in
-    ap (λ (marks : List ℕ). marked marks es) (c .before .mark-others .ensures) ∙ marked-written (ofOther (a .peer)) es (replicate trackedLimit 0)
+returns c =
+    let s : tie.Start = search in
+    let es : List (List ℕ) = entries recordSize (s .args .count) (s .args .table .now) in
+    ap (λ (marks : List ℕ). marked marks es) (c .before .mark-others .ensures) ∙ marked-written (ofOther (s .args .peer)) es (replicate trackedLimit 0)
 
 pub marks-of-others-spec : {M : Type 1} → statement M
 marks-of-others-spec =

@@ -14,7 +14,7 @@ same-length : tie.Need-same-length
 same-length c = search needs
 
 returns : tie.Need-returns
-returns c = let s = c .before .before .before .before .before .args in purged-all (s .count) (s .table .now) (c .before .before .clear .last .0) (c .before .before .clear .ensures)
+returns c = let s : tie.Start = search in purged-all (s .args .count) (s .args .table .now) (c .before .before .clear .ensures)
 
 pub purge-all-spec : {M : Type 1} → statement M
 purge-all-spec = tie.close (tie.spec mul-clear clear-requires same-length returns)

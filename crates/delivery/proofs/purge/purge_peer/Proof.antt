@@ -1,6 +1,7 @@
 -- The records that `keep` leaves are the other peers' requests: `purged`.
 use borrow.Author.Needs.{needs}
 use native.Mathlib.Omega.{arith}
+use Rattle.delivery.proofs.HeldLaws.{Table}
 use Rattle.delivery.proofs.OtherLaws.{purged}
 use Rattle.delivery.proofs.purge.purge_peer.Statement.{statement}
 use Rattle.delivery.proofs.purge.purge_peer.Tie as tie
@@ -18,10 +19,13 @@ same-length : tie.Need-same-length
 same-length c = search needs
 
 returns : tie.Need-returns
-returns c = let s = c .before .before .before .before .before .before .before .before in
-    let a = s .args in
-    purged (a .count) (a .table .now) (c .before .before .before .before .before .marks-of-others .result) (c .before .before .keep .last .0) (c .before .before .keep .result) (c .before .before .keep .ensures .0) (c .before .before .keep .ensures .1) (s .pre .1)
-    (λ i. omega (arith, c .before .before .before .before .before .before .before .slice-known .given i)) (a .peer) (c .before .before .before .before .before .marks-of-others .ensures)
+returns c =
+    let s : tie.Start = search in
+    let known : tie.After-slice-known = search in
+    let marked : tie.After-marks-of-others = search in
+    let kept : tie.After-keep = search in
+    let table : Table (s .args .count) (s .args .table .now) = record { fits = s .pre .1; bytes = λ i. omega (arith, known .slice-known .given i) } in
+    purged table (s .args .peer) (marked .marks-of-others .ensures) (kept .keep .ensures)
 
 pub purge-peer-spec : {M : Type 1} → statement M
 purge-peer-spec =

@@ -2,7 +2,7 @@
 use borrow.Author.Needs.{needs}
 use native.Mathlib.Omega.{arith}
 use Rattle.model.specs.Lists.{idsIn}
-use Rattle.delivery.proofs.HeldLaws.{received}
+use Rattle.delivery.proofs.HeldLaws.{Table, received}
 use Rattle.delivery.proofs.received.mark_received.Statement.{statement}
 use Rattle.delivery.proofs.received.mark_received.Tie as tie
 
@@ -19,10 +19,13 @@ same-length : tie.Need-same-length
 same-length c = search needs
 
 returns : tie.Need-returns
-returns c = let s = c .before .before .before .before .before .before .before .before .before in
-    let a = s .args in
-    received (a .count) (a .table .now) (c .before .before .before .before .before .marks-of-unlisted .result) (c .before .before .keep .last .0) (c .before .before .keep .result) (c .before .before .keep .ensures .0) (c .before .before .keep .ensures .1) (s .pre .0 .1 .1)
-    (λ i. omega (arith, c .before .before .before .before .before .before .before .before .slice-known .given i)) (idsIn (a .ids .now)) (c .before .before .before .before .before .marks-of-unlisted .ensures)
+returns c =
+    let s : tie.Start = search in
+    let known : tie.After-slice-known = search in
+    let marked : tie.After-marks-of-unlisted = search in
+    let kept : tie.After-keep = search in
+    let table : Table (s .args .count) (s .args .table .now) = record { fits = s .pre .0 .1 .1; bytes = λ i. omega (arith, known .slice-known .given i) } in
+    received table (idsIn (s .args .ids .now)) (marked .marks-of-unlisted .ensures) (kept .keep .ensures)
 
 pub mark-received-spec : {M : Type 1} → statement M
 mark-received-spec =

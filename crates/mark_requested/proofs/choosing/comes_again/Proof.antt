@@ -2,15 +2,30 @@
 use borrow.Author.Needs.{needs}
 use native.Mathlib.Omega.{arith}
 use Prim.Native.Nat.{_+_}
-use Rattle.mark_requested.proofs.ChoiceLaws.{place-listed, last-alone, next-compared}
+use Rattle.mark_requested.proofs.ChoiceLaws.{Next, place-listed, last-alone, next-compared}
 use Rattle.mark_requested.proofs.choosing.comes_again.Statement.{statement}
 use Rattle.mark_requested.proofs.choosing.comes_again.Tie as tie
+
+-- ---- the entry, and the next id where there is one
+
+module _ (c : tie.After-shared-slice-known2) where
+  abbrev start : tie.Start
+  start = search
+
+  this : Next (start .args .ids .now) (start .args .places .now) (start .args .j)
+  this = record { inside = start .pre .1; listed = start .pre .0 }
+
+module _ (c : tie.Else1) where
+  next : let a = start (c .before) .args in Next (a .ids .now) (a .places .now) (a .j + 1)
+  next = record { inside = c .if1 .left; listed = start (c .before) .pre .0 }
+
+-- ---- the needs
 
 add-if1 : tie.Need-add-if1
 add-if1 c = search needs
 
 returns : tie.Need-returns
-returns c = let s = c .before .before .before in last-alone (s .args .ids .now) (s .args .places .now) (s .args .j) (s .pre .1) (c .if1 .taken)
+returns c = last-alone (this (c .before)) (c .if1 .taken)
 
 mul-wide : tie.Need-mul-wide
 mul-wide c = search needs
@@ -22,7 +37,7 @@ wide-requires : tie.Need-wide-requires
 wide-requires c κs = search needs
 
 mul-same-id : tie.Need-mul-same-id
-mul-same-id c = let s = c .before .before .before .before .before in omega (arith, place-listed (s .args .ids .now) (s .args .places .now) (s .args .j) (s .pre .1) (s .pre .0) (c .wide .result) (c .wide .ensures))
+mul-same-id c = let entry : tie.After-shared-slice-known2 = search in omega (arith, place-listed (this entry) (c .wide .ensures))
 
 add-wide : tie.Need-add-wide
 add-wide c = search needs
@@ -37,13 +52,19 @@ wide-requires-2 : tie.Need-wide-requires-2
 wide-requires-2 c κs = search needs
 
 mul-same-id-2 : tie.Need-mul-same-id-2
-mul-same-id-2 c = let s = c .before .before .before .before .before .before .before in omega (arith, place-listed (s .args .ids .now) (s .args .places .now) (s .args .j + 1) (c .before .before .before .before .if1 .left) (s .pre .0) (c .wide2 .result) (c .wide2 .ensures))
+mul-same-id-2 c = let more : tie.Else1 = search in omega (arith, place-listed (next more) (c .wide2 .ensures))
 
 same-id-requires : tie.Need-same-id-requires
-same-id-requires c κs = let s = c .before .before .before .before .before .before .before in (place-listed (s .args .ids .now) (s .args .places .now) (s .args .j) (s .pre .1) (s .pre .0) (c .before .before .wide .result) (c .before .before .wide .ensures), place-listed (s .args .ids .now) (s .args .places .now) (s .args .j + 1) (c .before .before .before .before .if1 .left) (s .pre .0) (c .wide2 .result) (c .wide2 .ensures))
+same-id-requires c κs =
+    let first : tie.After-wide = search in
+    let more : tie.Else1 = search in
+    (place-listed (this (more .before)) (first .wide .ensures), place-listed (next more) (c .wide2 .ensures))
 
 returns-2 : tie.Need-returns-2
-returns-2 c = let s = c .before .before .before .before .before .before .before .before in next-compared (s .args .ids .now) (s .args .places .now) (s .args .j) (s .pre .1) (c .before .before .before .before .before .if1 .left) (c .before .before .before .wide .result) (c .before .wide2 .result) (c .same-id .result) (c .before .before .before .wide .ensures) (c .before .wide2 .ensures) (c .same-id .ensures)
+returns-2 c =
+    let first : tie.After-wide = search in
+    let more : tie.Else1 = search in
+    next-compared (this (more .before)) (more .if1 .left) (first .wide .ensures) (c .before .wide2 .ensures) (c .same-id .ensures)
 
 pub comes-again-spec : {M : Type 1} → statement M
 comes-again-spec =

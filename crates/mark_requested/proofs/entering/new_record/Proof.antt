@@ -14,7 +14,10 @@ put-record-requires : tie.Need-put-record-requires
 put-record-requires c κs = search needs
 
 returns : tie.Need-returns
-returns c = let a = c .before .before .before .before .args in record-whole (a .clock) (a .typeid) (a .peer) (a .id .now) (replicate recordSize 0) (c .before .put-record .last .0) (c .before .before .before .before .pre) refl (c .before .put-record .ensures)
+returns c =
+    let s : tie.Start = search in
+    let a = s .args in
+    record-whole (a .clock) (a .typeid) (a .peer) (a .id .now) (replicate recordSize 0) (s .pre) refl (c .before .put-record .ensures)
 
 pub new-record-spec : {M : Type 1} → statement M
 new-record-spec = tie.close (tie.spec slice-aggregate-put-record put-record-requires returns)

@@ -35,9 +35,16 @@ same-length : tie.Need-same-length
 same-length c = search needs
 
 returns : tie.Need-returns
-returns c = let s = c .before .before .before .before .before .before .before .before .before .before .before .before .before .before .before .before .before .before .before .before .before .before in
+returns c =
+    let checks : tie.After-write-u32 = search in
+    let stamp : tie.After-write-u642 = search in
+    let kind : tie.After-write-u16 = search in
+    let peer : tie.After-write-u64 = search in
+    let id : tie.After-overwrite = search in
+    let s : tie.Start = search in
     let a = s .args in
-    record-written (a .clock) (a .typeid) (a .peer) (a .at) (a .id .now) (a .out .now) (c .before .before .before .before .before .before .before .before .before .before .before .before .before .before .before .before .before .before .overwrite .last .0) (c .before .before .before .before .before .before .before .before .before .before .before .before .before .before .write-u64 .last .0) (c .before .before .before .before .before .before .before .before .before .before .write-u16 .last .0) (c .before .before .before .before .before .before .write-u642 .last .0) (c .before .before .write-u32 .last .0) (s .pre .0) (s .pre .1) (c .before .before .before .before .before .before .before .before .before .before .before .before .before .before .before .before .before .before .overwrite .ensures) (c .before .before .before .before .before .before .before .before .before .before .before .before .before .before .write-u64 .ensures) (c .before .before .before .before .before .before .before .before .before .before .write-u16 .ensures) (c .before .before .before .before .before .before .write-u642 .ensures) (c .before .before .write-u32 .ensures)
+    record-written (a .clock) (a .typeid) (a .peer) (a .at) (a .id .now) (a .out .now) (s .pre .0) (s .pre .1)
+    (id .overwrite .ensures) (peer .write-u64 .ensures) (kind .write-u16 .ensures) (stamp .write-u642 .ensures) (checks .write-u32 .ensures)
 
 pub put-record-spec : {M : Type 1} → statement M
 put-record-spec =

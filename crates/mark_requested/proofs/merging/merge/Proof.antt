@@ -3,11 +3,7 @@ use borrow.Author.Needs.{needs}
 use native.Mathlib.Omega.{arith}
 use Prim.Native.Nat.{_+_, _-_}
 use lib.ListN.{length}
-use lib.Dec.{ltb, leb}
-use borrow.Author.Tests.{ltb-true, leb-true}
-use Rattle.fields.specs.Facts.{Bytes}
-use Rattle.fields.proofs.OrderLaws.{and-left, and-right}
-use Rattle.mark_requested.proofs.MergeLaws.{Merging, merge-starts, in-room, turn-on, turn-less, blank-long}
+use Rattle.mark_requested.proofs.MergeLaws.{Pass, Merging, merge-starts, turn-asks, turn-on, turn-less}
 use Rattle.mark_requested.proofs.EndLaws.{merge-ends}
 use Rattle.mark_requested.proofs.merging.merge.Statement.{statement}
 use Rattle.mark_requested.proofs.merging.merge.Tie as tie
@@ -18,41 +14,72 @@ Inv-loop table count most clock typeid peer ids places room₀ blank front₀ ro
 abbrev μ-loop : tie.MeasureT-loop
 μ-loop table count most clock typeid peer ids places room₀ blank front₀ room front = (count - front .records) + (length places - front .ids)
 
+abbrev Entry : Type 0
+Entry = tie.After-blank-record Inv-loop μ-loop
+
+abbrev Head : Type 0
+Head = tie.At-loop Inv-loop μ-loop
+
+abbrev Turn : Type 0
+Turn = tie.Then1 Inv-loop μ-loop
+
+-- ---- the entry, with the blank record
+
+module _ (c : Entry) where
+  abbrev start : tie.Start Inv-loop μ-loop
+  start = search
+
+  pass : let a = start .args in Pass (a .clock) (a .typeid) (a .peer) (a .most) (a .count) (a .table .now) (a .ids .now) (a .places .now) (a .room .now)
+  pass =
+      let table : tie.After-shared-slice-known Inv-loop μ-loop = search in
+      let given = start .pre .0 in
+      record {
+        records-in = given .0;
+        count-le = given .1 .0;
+        most-le = given .1 .1 .0;
+        places-le = given .1 .1 .1 .0;
+        fits = given .1 .1 .1 .1;
+        listed = start .pre .1 .0 .0;
+        order = start .pre .1 .0 .1;
+        rises = start .pre .1 .1;
+        bytes = λ i. omega (arith, table .shared-slice-known .given i);
+      }
+
+-- ---- the needs
+
 blank-record-requires : tie.Need-blank-record-requires Inv-loop μ-loop
 blank-record-requires c κs = search needs
 
 loop-holds : tie.Need-loop-holds Inv-loop μ-loop
-loop-holds c = let a = c .before .before .before .before .before .args in merge-starts (a .clock) (a .typeid) (a .peer) (a .most) (a .count) (a .table .now) (a .ids .now) (a .places .now) (a .room .now)
+loop-holds c = let entry : Entry = search in merge-starts (pass entry)
 
 slice-aggregate-turn : tie.Need-slice-aggregate-turn Inv-loop μ-loop
 slice-aggregate-turn c = search needs
 
 turn-requires : tie.Need-turn-requires Inv-loop μ-loop
-turn-requires c κs = let s = c .before .before .before .before .before .before .before .before .before .before .before in
-    let a = s .args in
-    let l = c .before .before .before .before .before .loop in
-    let b = c .before .before .before .before .before .before .blank-record in
-    let h = c .before .before .if1 .taken in
-    let i = ltb-true (l .front .ids) (length (a .places .now)) (and-left (ltb (l .front .ids) (length (a .places .now))) (leb (l .front .held) (a .most)) h) in
-    let m = leb-true (l .front .held) (a .most) (and-right (ltb (l .front .ids) (length (a .places .now))) (leb (l .front .held) (a .most)) h) in
-    ((s .pre .0 .0, (l .inv .records-le, (omega (arith, s .pre .0), blank-long (a .clock) (a .typeid) (a .peer) (b .result) (b .ensures)))), (s .pre .1 .0 .0, (i, (s .pre .0 .1 .1 .1 .0, in-room (a .clock) (a .typeid) (a .peer) (a .most) (a .count) (a .table .now) (a .ids .now) (a .places .now) (a .room .now) (l .room) (l .front) (l .inv) (s .pre .0 .1 .1 .1 .1) m))))
+turn-requires c κs =
+    let turn : Turn = search in
+    let head : Head = search in
+    let entry : Entry = search in
+    let blank = entry .blank-record in
+    turn-asks (pass entry) (head .loop .inv) (turn .if1 .taken) (blank .result) (blank .ensures)
 
 loop-less : tie.Need-loop-less Inv-loop μ-loop
-loop-less c = let a = c .before .before .before .before .before .before .before .before .before .before .before .before .before .before .args in
-    let l = c .before .before .before .before .before .before .before .before .loop in
-    let i = ltb-true (l .front .ids) (length (a .places .now)) (and-left (ltb (l .front .ids) (length (a .places .now))) (leb (l .front .held) (a .most)) (c .before .before .before .before .before .if1 .taken)) in
-    turn-less (a .clock) (a .typeid) (a .peer) (a .most) (a .count) (a .table .now) (a .ids .now) (a .places .now) (a .room .now) (l .room) (l .front) (l .inv) i (c .before .before .turn .result) (c .before .before .turn .ensures .0)
+loop-less c =
+    let done : tie.After-turn Inv-loop μ-loop = search in
+    let turn : Turn = search in
+    let head : Head = search in
+    let entry : Entry = search in
+    turn-less (pass entry) (head .loop .inv) (turn .if1 .taken) (done .turn .ensures .0)
 
 loop-again : tie.Need-loop-again Inv-loop μ-loop
-loop-again c = let s = c .before .before .before .before .before .before .before .before .before .before .before .before .before .before in
-    let a = s .args in
-    let l = c .before .before .before .before .before .before .before .before .loop in
-    let b = c .before .before .before .before .before .before .before .before .before .blank-record in
-    let h = c .before .before .before .before .before .if1 .taken in
-    let i = ltb-true (l .front .ids) (length (a .places .now)) (and-left (ltb (l .front .ids) (length (a .places .now))) (leb (l .front .held) (a .most)) h) in
-    let m = leb-true (l .front .held) (a .most) (and-right (ltb (l .front .ids) (length (a .places .now))) (leb (l .front .held) (a .most)) h) in
-    let f : Bytes (a .table .now) = λ j. omega (arith, c .before .before .before .before .before .before .before .before .before .before .before .before .before .shared-slice-known .given j) in
-    turn-on (a .clock) (a .typeid) (a .peer) (a .most) (a .count) (a .table .now) (a .ids .now) (a .places .now) (a .room .now) (l .room) (l .front) (l .inv) (s .pre .0 .1 .1 .1 .1) m (s .pre .0 .0) f (s .pre .1 .0 .0) (s .pre .1 .0 .1) i (b .result) (b .ensures) (c .before .before .turn .result) (c .before .before .turn .last .1 .1 .1 .1 .1 .1 .0) (c .before .before .turn .ensures .0) (c .before .before .turn .ensures .1)
+loop-again c =
+    let done : tie.After-turn Inv-loop μ-loop = search in
+    let turn : Turn = search in
+    let head : Head = search in
+    let entry : Entry = search in
+    let blank = entry .blank-record in
+    turn-on (pass entry) (head .loop .inv) (turn .if1 .taken) (blank .result) (blank .ensures) (done .turn .ensures)
 
 put-rest-requires : tie.Need-put-rest-requires Inv-loop μ-loop
 put-rest-requires c κs = search needs
@@ -61,11 +88,12 @@ same-length : tie.Need-same-length Inv-loop μ-loop
 same-length c = search needs
 
 returns : tie.Need-returns Inv-loop μ-loop
-returns c = let s = c .before .before .before .before .before .before .before .before .before .before .before .before .before in
-    let a = s .args in
-    let l = c .before .before .before .before .before .before .before .loop in
-    let f : Bytes (a .table .now) = λ j. omega (arith, c .before .before .before .before .before .before .before .before .before .before .before .before .shared-slice-known .given j) in
-    merge-ends (a .clock) (a .typeid) (a .peer) (a .most) (a .count) (a .table .now) (a .ids .now) (a .places .now) (a .room .now) (l .room) (l .front) (l .inv) (s .pre .0 .0) f (s .pre .0 .1 .1 .1 .1) (s .pre .1 .1) (c .before .before .put-rest .result) (c .before .before .put-rest .last .1 .1 .1 .1 .1 .0) (c .before .before .before .before .if1 .left) (c .before .before .put-rest .ensures)
+returns c =
+    let done : tie.After-put-rest Inv-loop μ-loop = search in
+    let over : tie.Else1 Inv-loop μ-loop = search in
+    let head : Head = search in
+    let entry : Entry = search in
+    merge-ends (pass entry) (head .loop .inv) (over .if1 .left) (done .put-rest .ensures)
 
 pub merge-spec : {M : Type 1} → statement M
 merge-spec =

@@ -26,9 +26,13 @@ same-length : tie.Need-same-length
 same-length c = search needs
 
 returns : tie.Need-returns
-returns c = let s = c .before .before .before .before .before .before .before .before .before .before .before .before in
+returns c =
+    let s : tie.Start = search in
     let a = s .args in
-    new-written (a .at) (a .id .now) (a .blank .now) (a .room .now) (c .before .before .before .before .before .before .before .overwrite .last .0) (c .before .before .overwrite2 .last .0) (s .pre .0) (s .pre .1 .0) (s .pre .1 .1) (c .before .before .before .before .before .before .before .overwrite .ensures) (c .before .before .overwrite2 .ensures)
+    let id : tie.After-overwrite = search in
+    let rest : tie.After-overwrite2 = search in
+    new-written (a .at) (a .id .now) (a .blank .now) (a .room .now) (s .pre .0) (s .pre .1 .0) (s .pre .1 .1)
+    (id .overwrite .ensures) (rest .overwrite2 .ensures)
 
 pub put-new-spec : {M : Type 1} → statement M
 put-new-spec =

@@ -12,7 +12,7 @@ add-total : tie.Need-add-total
 add-total c = search needs
 
 returns : tie.Need-returns
-returns c = let a = c .before .before .before .args in rest-full (a .most) (a .held + (a .count - a .records)) (c .if1 .taken)
+returns c = let s : tie.Start = search in let a = s .args in rest-full (a .most) (a .held + (a .count - a .records)) (c .if1 .taken)
 
 mul-from : tie.Need-mul-from
 mul-from c = search needs
@@ -39,7 +39,12 @@ same-length : tie.Need-same-length
 same-length c = search needs
 
 returns-2 : tie.Need-returns-2
-returns-2 c = let a = c .before .before .before .before .before .before .before .before .args in rest-held (a .most) (a .count) (a .records) (a .held) (a .table .now) (a .room .now) (c .before .before .overwrite .last .0) (c .before .before .before .before .before .if1 .left) (c .before .before .overwrite .ensures)
+returns-2 c =
+    let s : tie.Start = search in
+    let a = s .args in
+    let few : tie.Else1 = search in
+    let written : tie.After-overwrite = search in
+    rest-held (a .most) (a .count) (a .records) (a .held) (a .table .now) (a .room .now) (few .if1 .left) (written .overwrite .ensures)
 
 pub put-rest-spec : {M : Type 1} → statement M
 put-rest-spec =

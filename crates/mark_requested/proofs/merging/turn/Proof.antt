@@ -1,19 +1,21 @@
 -- By the choice: `kept-turn`, `skipped-turn`, `entered-turn`.
 use borrow.Author.Needs.{needs}
 use native.Mathlib.Omega.{arith}
-use mathlib.Core.Path.{refl}
-use mathlib.Core.List.{_++_}
-use mathlib.Core.List.{map}
-use lib.ListN.{drop, getD}
-use native.Mathlib.Nat.{mul-le-mul-right}
-use Rattle.fields.specs.Entries.{entries, entry}
-use Rattle.model.specs.Image.{requestOf}
-use Rattle.mark_requested.specs.Choices.{idsAt, choiceAt}
-use Rattle.mark_requested.proofs.ChoiceLaws.{place-listed, keep-inside}
-use Rattle.mark_requested.proofs.TurnLaws.{kept-turn, skipped-turn, entered-turn}
+use Rattle.mark_requested.proofs.ChoiceLaws.{place-listed}
+use Rattle.mark_requested.proofs.TurnLaws.{Turning, kept-inside, kept-turn, skipped-turn, entered-turn}
 use Rattle.mark_requested.proofs.merging.turn.Statement.{statement}
 use Rattle.mark_requested.proofs.merging.turn.Tie as tie
-use Rattle.model.specs.Layout.{idSize, recordSize}
+
+-- ---- the entry
+
+module _ (c : tie.After-slice-known) where
+  abbrev start : tie.Start
+  start = search
+
+  turning : let a = start .args in Turning (a .count) (a .table .now) (a .ids .now) (a .places .now) (a .blank .now) (a .room .now) (a .front)
+  turning = record { records-in = start .pre .0 .0; next = record { inside = start .pre .1 .1 .0; listed = start .pre .1 .0 } }
+
+-- ---- the needs
 
 next-choice-requires : tie.Need-next-choice-requires
 next-choice-requires c κs = search needs
@@ -37,9 +39,11 @@ part-overwrite-start : tie.Need-part-overwrite-start
 part-overwrite-start c = search needs
 
 part-overwrite-end : tie.Need-part-overwrite-end
-part-overwrite-end c = let s = c .before .before .before .before .before .before .before .before .before in
-    let a = s .args in
-    omega (arith, s .pre .0 .0, mul-le-mul-right recordSize (keep-inside (a .count) (a .front .records) (a .table .now) (idsAt (a .ids .now) (drop (a .front .ids) (a .places .now))) (c .before .before .before .next-choice .result) (c .before .before .before .next-choice .ensures) (c .before .enum-told .given .1)))
+part-overwrite-end c =
+    let told : tie.After-enum-told = search in
+    let next : tie.After-next-choice = search in
+    let entry : tie.After-slice-known = search in
+    kept-inside (turning entry) (next .next-choice .ensures) (told .enum-told .given .1)
 
 overwrite-requires : tie.Need-overwrite-requires
 overwrite-requires c κs = search needs
@@ -69,10 +73,10 @@ wide-requires : tie.Need-wide-requires
 wide-requires c κs = search needs
 
 mul-from-2 : tie.Need-mul-from-2
-mul-from-2 c = let s = c .before .before .before .before .before .before .before .before .before .before in let a = s .args in omega (arith, place-listed (a .ids .now) (a .places .now) (a .front .ids) (s .pre .1 .1 .0) (s .pre .1 .0) (c .wide .result) (c .wide .ensures))
+mul-from-2 c = let entry : tie.After-slice-known = search in omega (arith, place-listed (turning entry .next) (c .wide .ensures))
 
 add-end-2 : tie.Need-add-end-2
-add-end-2 c = let s = c .before .before .before .before .before .before .before .before .before .before in let a = s .args in omega (arith, place-listed (a .ids .now) (a .places .now) (a .front .ids) (s .pre .1 .1 .0) (s .pre .1 .0) (c .wide .result) (c .wide .ensures))
+add-end-2 c = let entry : tie.After-slice-known = search in omega (arith, place-listed (turning entry .next) (c .wide .ensures))
 
 mul-put-new : tie.Need-mul-put-new
 mul-put-new c = search needs
@@ -84,7 +88,7 @@ part-put-new-start : tie.Need-part-put-new-start
 part-put-new-start c = search needs
 
 part-put-new-end : tie.Need-part-put-new-end
-part-put-new-end c = let s = c .before .before .before .before .before .before .before .before .before .before .before in let a = s .args in place-listed (a .ids .now) (a .places .now) (a .front .ids) (s .pre .1 .1 .0) (s .pre .1 .0) (c .before .wide .result) (c .before .wide .ensures)
+part-put-new-end c = let entry : tie.After-slice-known = search in place-listed (turning entry .next) (c .before .wide .ensures)
 
 put-new-requires : tie.Need-put-new-requires
 put-new-requires c κs = search needs
@@ -99,24 +103,30 @@ same-length : tie.Need-same-length
 same-length c = search needs
 
 returns : tie.Need-returns
-returns c = let a = c .before .before .before .before .before .before .before .before .before .before .before .before .before .args in
-    let told = choiceAt (idsAt (a .ids .now) (drop (a .front .ids) (a .places .now))) (map requestOf (drop (a .front .records) (entries recordSize (a .count) (a .table .now)))) in
-    let new = entry idSize (getD (a .places .now) (a .front .ids) 0) (a .ids .now) ++ drop idSize (a .blank .now) in
-    kept-turn (c .before .before .before .before .before .before .before .next-choice .result) told (c .before .before .before .before .before .before .before .next-choice .ensures) (a .front) (a .table .now) (a .ids .now) new (a .room .now) (c .before .before .overwrite .last .0) (c .before .before .before .before .before .enum-told .given .1) (c .before .before .overwrite .ensures)
+returns c =
+    let written : tie.After-overwrite = search in
+    let told : tie.After-enum-told = search in
+    let next : tie.After-next-choice = search in
+    let entry : tie.After-slice-known = search in
+    kept-turn (turning entry) (next .next-choice .ensures) (told .enum-told .given .1) (written .overwrite .ensures)
 
 returns-2 : tie.Need-returns-2
-returns-2 c = let a = c .before .before .before .before .before .before .before .before .args in
-    let told = choiceAt (idsAt (a .ids .now) (drop (a .front .ids) (a .places .now))) (map requestOf (drop (a .front .records) (entries recordSize (a .count) (a .table .now)))) in
-    let new = entry idSize (getD (a .places .now) (a .front .ids) 0) (a .ids .now) ++ drop idSize (a .blank .now) in
-    skipped-turn (c .before .before .next-choice .result) told (c .before .before .next-choice .ensures) (a .front) (a .table .now) (a .ids .now) new (a .room .now) (a .room .now) (c .enum-told2 .given .1) refl
+returns-2 c =
+    let next : tie.After-next-choice = search in
+    let entry : tie.After-slice-known = search in
+    skipped-turn (turning entry) (next .next-choice .ensures) (c .enum-told2 .given .1)
 
 same-length-2 : tie.Need-same-length-2
 same-length-2 c = search needs
 
 returns-3 : tie.Need-returns-3
-returns-3 c = let a = c .before .before .before .before .before .before .before .before .before .before .before .before .before .before .before .args in
-    let told = choiceAt (idsAt (a .ids .now) (drop (a .front .ids) (a .places .now))) (map requestOf (drop (a .front .records) (entries recordSize (a .count) (a .table .now)))) in
-    entered-turn (c .before .before .before .before .before .before .before .before .before .next-choice .result) told (c .before .before .before .before .before .before .before .before .before .next-choice .ensures) (a .front) (c .before .before .before .before .before .wide .result) (getD (a .places .now) (a .front .ids) 0) (c .before .before .before .before .before .wide .ensures) (a .table .now) (a .ids .now) (a .blank .now) (a .room .now) (c .before .before .put-new .last .0) (c .before .before .before .before .before .before .before .enum-told3 .given .1) (c .before .before .put-new .ensures)
+returns-3 c =
+    let written : tie.After-put-new = search in
+    let place : tie.After-wide = search in
+    let told : tie.After-enum-told3 = search in
+    let next : tie.After-next-choice = search in
+    let entry : tie.After-slice-known = search in
+    entered-turn (turning entry) (next .next-choice .ensures) (place .wide .ensures) (told .enum-told3 .given .1) (written .put-new .ensures)
 
 pub turn-spec : {M : Type 1} → statement M
 turn-spec =

@@ -171,12 +171,14 @@ module _ {M : Type 1} (𝓤 : URA M) (H : Heap 𝓤) (A : Atoms 𝓤) (W : Given
         rewrite ! 5 (λ (m : ℕ). ‵ (fat fullShare (sliceTy (tyRef erased mut (pointee (T.the-row .written)))) l₇ 0 (sliceVal (l₄, 0) m))) (sym len) refl $
         -- the array's cell is lent for a lifetime α of the call
         move ! (11 ∷ []) $ use1 W (‵ (cells (mem T.the-row) xs l₄ 0)) (list-in 𝓤 H A W N xs l₄ 0 x-is) $ lft-new ! tt (λ α. move ! (1 ∷ []) $
-        use1 W (later (some (λ (γ : GName). ‵ (MutSlice (named 0) (α ∷ []) T.the-row .own (lent l₄ γ) (v l₄ ∷ [])) ⊛ ‵ (flent (α ∷ []) (Held T.the-row (length xs) l₄ 0 γ))))) (lends-slice 𝓤 H A W T.the-row (named 0) (α ∷ []) xs l₄ 0 (subst (Room T.the-row) (sym len) room-N)) $ await ! tt $ pick ! (λ γ. split ! $
+        use1 W (later (some (λ (γ : GName). ‵ (MutSlice (named 0) (α ∷ []) T.the-row .own (lent l₄ γ) (v l₄ ∷ [])) ⊛ ‵ (flent (α ∷ []) (Held T.the-row (length xs) l₄ 0 γ)))))
+        (lends-slice 𝓤 H A W T.the-row (named 0) (α ∷ []) xs l₄ 0 (subst (Room T.the-row) (sym len) room-N)) $ await ! tt $ pick ! (λ γ. split ! $
         -- [the loan@0; the lender's part@1; the token@2; the tokens@3; what the slices own@4; the same@5; _8@6; …]
         move ! (2 ∷ 3 ∷ []) $ join ! $ move ! (0 ∷ 1 ∷ 3 ∷ []) $ use3 W (raw (Fill 𝓤 H A at-mem run .pre (to-fill l₄ α γ))) (goes-fill l₄ α γ) $
         -- [what `fill` asks@0; the lender's part@1; what the slices own@2; _8@3; _7@5; _6@7; _5@9; …of _4@11; _3@12; _2@14; _1@16; room for _0@18]
         calls-at ! fm (Fill 𝓤 H A at-mem run) known (to-fill l₄ α γ) (and-then ! (load ! (from ! (stop !)) (look ! 5 refl)) (and-then ! (load ! (from ! (stop !)) (look ! 14 refl)) (and-then ! (load ! (from ! (stop !)) (look ! 12 refl)) (no-more !)))) (λ w.
-        use1 W (later (some (λ (n : ℕ). ((‵ (flft (α ∷ []) fullShare) ⊛ Toks) ⊛ ‵ (usize .own n (w ∷ []))) ⊛ raw (ensured 𝓤 H A fill.ended (fill.clauses 𝓤 H A at-mem run) (α ∷ [], (κ₁, (κ₂, tt))) (lent l₄ γ, (x₁, (x₂, tt))) tt n)))) (id⊢ 𝓤 _) $ await ! tt $ pick ! (λ n.
+        use1 W (later (some (λ (n : ℕ). ((‵ (flft (α ∷ []) fullShare) ⊛ Toks) ⊛ ‵ (usize .own n (w ∷ [])))
+        ⊛ raw (ensured 𝓤 H A fill.ended (fill.clauses 𝓤 H A at-mem run) (α ∷ [], (κ₁, (κ₂, tt))) (lent l₄ γ, (x₁, (x₂, tt))) tt n)))) (id⊢ 𝓤 _) $ await ! tt $ pick ! (λ n.
         split ! $ move ! (1 ∷ []) $ use1 W (some (λ (ws : List Batch × (Unit {0} × (Unit {0} × Unit {0}))). ‵ (lasts fill.ended (α ∷ [], (κ₁, (κ₂, tt))) (lent l₄ γ, (x₁, (x₂, tt))) ws) ⊛ raw (fact 𝓤 (Said n (ws .0))))) (id⊢ 𝓤 _) $ pick ! (λ ws.
         split ! $ move ! (1 ∷ []) $ heard ! (Said n (ws .0)) (λ e. fsplit ! $ fsplit ! $ move ! (1 ∷ []) $ feqL ! (λ l.
         move ! (2 ∷ []) $ split ! $ move ! (1 ∷ []) $ peeks ! usize (Is usize) (shows 𝓤 H A usize) n (w ∷ []) (λ is. drop ! $ split ! $
@@ -205,7 +207,10 @@ module _ {M : Type 1} (𝓤 : URA M) (H : Heap 𝓤) (A : Atoms 𝓤) (W : Given
 
 grouped-meets : {M : Type 1} (𝓤 : URA M) (H : Heap 𝓤) (A : Atoms 𝓤) → Given 𝓤 H A → (at-mem : Memory → SProp 𝓤) (run : Routine → Fun 𝓤) (𝓣 : Tables 𝓤 H) → Triple 𝓤 (𝓣 .C #fill) (Fill 𝓤 H A at-mem run)
     → Meets 𝓤 H A grouped.signature (WpFn 𝓤 H (𝓣 .C) (𝓣 .Λ) code.function) (grouped.spec 𝓤 H A at-mem run)
-grouped-meets 𝓤 H A W at-mem run 𝓣 known = walk-meets 𝓤 H A grouped.ended stayed W (goes 𝓤 H A W at-mem run) (grouped.clauses 𝓤 H A at-mem run) (WpFn 𝓤 H (𝓣 .C) (𝓣 .Λ) code.function) (WpFn-mono 𝓤 H (W .laws) 𝓣 code.function) (grouped-walks 𝓤 H A W at-mem run (𝓣 .C) (𝓣 .Λ) (fmOf 𝓤 H (W .laws) 𝓣) known)
+grouped-meets 𝓤 H A W at-mem run 𝓣 known =
+    walk-meets 𝓤 H A grouped.ended stayed W (goes 𝓤 H A W at-mem run) (grouped.clauses 𝓤 H A at-mem run)
+    (WpFn 𝓤 H (𝓣 .C) (𝓣 .Λ) code.function) (WpFn-mono 𝓤 H (W .laws) 𝓣 code.function)
+    (grouped-walks 𝓤 H A W at-mem run (𝓣 .C) (𝓣 .Λ) (fmOf 𝓤 H (W .laws) 𝓣) known)
 
 pub grouped-spec : {M : Type 1} → stated.statement M
 unfolding code.routine tablesOf

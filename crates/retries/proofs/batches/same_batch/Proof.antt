@@ -1,7 +1,6 @@
 -- Both fields compared: the law `same-batch`.
 use Rattle.retries.proofs.ItemLaws.{same-batch}
 use borrow.Author.Needs.{needs}
-use Prim.Native.Nat.{_-_}
 use Rattle.retries.proofs.batches.same_batch.Statement.{statement}
 use Rattle.retries.proofs.batches.same_batch.Tie as tie
 
@@ -42,9 +41,17 @@ read-u64-requires-2 : tie.Need-read-u64-requires-2
 read-u64-requires-2 c κs = search needs
 
 returns : tie.Need-returns
-returns c = let s = c .before .before .before .before .before .before .before .args in
-    same-batch (s .table .now) (s .one) (s .other) (c .before .before .before .before .before .wide .result) (c .before .before .before .before .wide2 .result) (c .before .before .before .read-u16 .result) (c .before .before .read-u162 .result) (c .before .read-u64 .result) (c .read-u642 .result)
-    (c .before .before .before .before .before .wide .ensures) (c .before .before .before .before .wide2 .ensures) (c .before .before .before .read-u16 .ensures) (c .before .before .read-u162 .ensures) (c .before .read-u64 .ensures) (c .read-u642 .ensures)
+returns c =
+    let s : tie.Start = search in
+    let a = s .args in
+    let one : tie.After-wide = search in
+    let other : tie.After-wide2 = search in
+    let one-type : tie.After-read-u16 = search in
+    let other-type : tie.After-read-u162 = search in
+    let one-peer = c .before .read-u64 .ensures in
+    let other-peer = c .read-u642 .ensures in
+    same-batch (a .table .now) (a .one) (a .other) (one .wide .ensures) (other .wide2 .ensures)
+    (one-type .read-u16 .ensures) (other-type .read-u162 .ensures) one-peer other-peer
 
 pub same-batch-spec : {M : Type 1} → statement M
 same-batch-spec =
