@@ -5,9 +5,9 @@ use mathlib.Core.List.{List, [], _∷_, _++_, append-assoc, append-nil}
 use native.Mathlib.Omega.{arith}
 use lib.ListN.{length, set, length-append}
 use Rattle.fields.specs.Overwrite.{overwritten}
-use Rattle.fields.proofs.OverwriteLaws.{overwritten-nil, overwritten-one, overwritten-next, length-overwritten}
+use Rattle.fields.proofs.OverwriteLaws.{overwritten-nil, overwritten-next, length-overwritten}
 use Rattle.keeper_lines.specs.Row.{digits, numberThen, row}
-use Rattle.keeper_lines.proofs.DigitLaws.{length-digits}
+use Rattle.keeper_lines.proofs.DigitLaws.{Put, length-digits, byte-put}
 
 length-then : (ds : List ℕ) (mark : ℕ) → length ds ≤ 20 → length (ds ++ (mark ∷ [])) ≤ 21
 length-then ds mark h = rw (length-append ds (mark ∷ [])) (omega arith)
@@ -17,10 +17,6 @@ pub number-fits : (mark n : ℕ) → length (numberThen mark n) ≤ 21
 unfolding numberThen
 number-fits mark n = length-then (digits n) mark (length-digits 20 n)
 
--- What was put from `at` on, and where it ends.
-abbrev pub Put : ℕ → List ℕ → List ℕ → List ℕ → ℕ → Type 0
-Put at s done o end = (o ≡ overwritten at done s) × (end ≡ at + length done)
-
 -- ---- a mark behind digits
 
 -- The mark has room at `end`, and with it the number is put.
@@ -28,21 +24,12 @@ pub record Marked (at mark n : ℕ) (s o : List ℕ) (end : ℕ) : Type 0 where
   pub room : end < length o
   pub put : Put at s (numberThen mark n) (set o end mark) (end + 1)
 
-module _ (at mark : ℕ) (s o : List ℕ) (room : at + 21 ≤ length s) where
-  mark-put : (ds : List ℕ) → length ds ≤ 20 → o ≡ overwritten at ds s
-      → Put at s (ds ++ (mark ∷ [])) (set o (at + length ds) mark) (at + length ds + 1)
-  mark-put ds l e =
-      let lo : length o ≡ length s = ap length e ∙ length-overwritten at ds s (omega arith) in
-      let la : length (ds ++ (mark ∷ [])) ≡ length ds + 1 = length-append ds (mark ∷ []) in
-      let set-is : set o (at + length ds) mark ≡ overwritten (at + length ds) (mark ∷ []) o = overwritten-one (at + length ds) mark o (omega arith) in
-      (set-is ∙ ap (overwritten (at + length ds) (mark ∷ [])) e ∙ overwritten-next at ds (mark ∷ []) s (omega arith), omega arith)
-
-  pub number-marked : (n end : ℕ) → Put at s (digits n) o end → Marked at mark n s o end
-  unfolding numberThen
-  number-marked n end p =
-      let l : length (digits n) ≤ 20 = length-digits 20 n in
-      let lo : length o ≡ length s = ap length (p .0) ∙ length-overwritten at (digits n) s (omega arith) in
-      record { room = omega (arith, p .1); put = rw (p .1) (mark-put (digits n) l (p .0)) }
+pub number-marked : (at mark : ℕ) (s o : List ℕ) (n end : ℕ) → at + 21 ≤ length s → Put at s (digits n) o end → Marked at mark n s o end
+unfolding numberThen
+number-marked at mark s o n end room p =
+    let few : length (digits n) ≤ 20 = length-digits 20 n in
+    let kept : length o ≡ length s = ap length (p .0) ∙ length-overwritten at (digits n) s (omega arith) in
+    record { room = omega (arith, p .1); put = byte-put at mark s o (digits n) end (omega arith) p }
 
 -- ---- numbers, each with its mark
 
