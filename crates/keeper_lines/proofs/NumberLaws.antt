@@ -11,6 +11,7 @@ use native.Mathlib.Nat.{lt-irrefl}
 use native.Mathlib.Numerals.{add-one}
 use native.Mathlib.Omega.{arith}
 use borrow.Author.Tests.{lt-ltb, le-ltb, le-leb, lt-leb, leb-true, ltb-true}
+use Rattle.keeper_lines.specs.declared.numerals.Number.{Number}
 use Rattle.keeper_lines.specs.declared.numerals.Number.the-variants.{Value, Nothing}
 use Rattle.keeper_lines.specs.Number.{within, isDigit, allDigits, valueAfter, decimal, hexDigit, hexPair, hexByte, numberOf}
 
@@ -83,13 +84,13 @@ decimal-below limit n (byte ∷ bytes) h =
 
 -- ---- what the enum says of the option
 
-pub value-of : (o : Option ℕ) (v : ℕ) → Value v ≡ numberOf o → o ≡ some v
-value-of none v h = let z : _≡_ {A = ℕ} 0 1 = cc in absurd (lt-irrefl 0 (omega arith))
-value-of (some n) v h = let e : n ≡ v = cc in rw e
+pub value-of : (o : Option ℕ) {r : Number} {v : ℕ} → r ≡ numberOf o → r ≡ Value v → o ≡ some v
+value-of none h e = let z : _≡_ {A = ℕ} 0 1 = cc in absurd (lt-irrefl 0 (omega arith))
+value-of (some n) {v = v} h e = let same : n ≡ v = cc in rw same
 
-pub nothing-of : (o : Option ℕ) → Nothing ≡ numberOf o → o ≡ none
-nothing-of none h = refl
-nothing-of (some n) h = let z : _≡_ {A = ℕ} 0 1 = cc in absurd (lt-irrefl 0 (omega arith))
+pub nothing-of : (o : Option ℕ) {r : Number} → r ≡ numberOf o → r ≡ Nothing → o ≡ none
+nothing-of none h e = refl
+nothing-of (some n) h e = let z : _≡_ {A = ℕ} 0 1 = cc in absurd (lt-irrefl 0 (omega arith))
 
 -- ---- hex
 
