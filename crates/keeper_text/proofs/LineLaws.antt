@@ -48,6 +48,11 @@ use Rattle.model.specs.Protocol.{trackedLimit}
 abbrev pub Says : Step → ℕ → ℕ → List ℕ → Answer → List ℕ → Type 0
 Says step at count table answer table′ = (answer ≡ answerAs at step) × ((table′ ≡ tableAfter count step table) × Holds step table′)
 
+-- With the area that it writes to.
+abbrev pub Told : Step → ℕ → ℕ → List ℕ → List ℕ → Answer → List ℕ → List ℕ → Type 0
+Told step at count table out answer table′ out′ =
+    (answer ≡ answerAs at step) × ((table′ ≡ tableAfter count step table) × ((out′ ≡ overwritten at (bytesOf step) out) × Holds step table′))
+
 pub says-ended : (step : Step) (at count : ℕ) (table : List ℕ) → step ≡ ended → Says step at count table answer.Ended table
 says-ended step at count table e = rw e (refl, (refl, tt))
 
