@@ -19,7 +19,7 @@ use Rattle.keeper_lines.specs.declared.lines.Line.the-variants as line
 use Rattle.keeper_lines.proofs.FieldLaws.{too-short, line-taken, length-upTo, take-upTo}
 use Rattle.keeper_text.specs.Keeping.{Keeping, Step, ended, goes, timed, atFirst, inOrder, begunWith, afterRequest, afterCheck, checkRow, answered}
 use Rattle.keeper_text.specs.Printed.{linesOf, printing, printedFrom, printed}
-use Rattle.keeper_text.specs.Kept.{keepingIn, Kept, keeperOf, answerAs, bytesOf, Holds}
+use Rattle.keeper_text.specs.Kept.{keepingIn, Kept, keeperOf, answerAs, bytesOf}
 use Rattle.keeper_text.specs.Progress.{Prints}
 use Rattle.keeper_text.proofs.LineLaws.{Told}
 use Rattle.keeper_text.specs.declared.keeping.Keeper.{Keeper}
