@@ -15,12 +15,11 @@ use Rattle.fields.proofs.AllLaws.{either}
 use Rattle.fields.proofs.OrderLaws.{and-left, and-right}
 use Rattle.keeper_lines.specs.declared.lines.Line.the-variants as line
 use Rattle.model.specs.Settings.{Settings}
-use Rattle.model.specs.Delivery.{Request, idsOf, retried, abandoned, forgotten}
+use Rattle.model.specs.Delivery.{Request, retried, abandoned, forgotten}
 use Rattle.model.specs.Requests as model
 use Rattle.model.specs.Requests.{ask, perform, wanted}
 use Rattle.model.specs.Check.{retries}
 use Rattle.model.specs.Lists.{idsIn, pairsIn}
-use Rattle.model.proofs.Well.{RisingIds}
 use Rattle.model.proofs.PendingLaws.{rising-checked, rising-requested}
 use Rattle.settings.specs.Values.{settingsOf}
 use Rattle.commands.specs.Pending.{requestsIn, holding}
@@ -74,12 +73,14 @@ module _ (k : Keeping) (at : ℕ) (out : List ℕ) where
   pub settings-silent : (timeout limit : ℕ) → out ≡ overwritten at (bytesOf (answered k (line.Settings timeout limit))) out
   unfolding answered
   settings-silent timeout limit =
-      silent (answered k (line.Settings timeout limit)) (either Silent (k .begun) ended (goes (begunWith k timeout limit) []) refl refl)
+      silent (answered k (line.Settings timeout limit))
+      (either Silent (k .begun) ended (goes (begunWith k timeout limit) []) refl refl)
 
   pub request-silent : (clock peer typeId byte : ℕ) → out ≡ overwritten at (bytesOf (answered k (line.Request clock peer typeId byte))) out
   unfolding answered
   request-silent clock peer typeId byte =
-      silent (answered k (line.Request clock peer typeId byte)) (either Silent (inOrder k clock) (goes (afterRequest k clock peer typeId byte) []) ended refl refl)
+      silent (answered k (line.Request clock peer typeId byte))
+      (either Silent (inOrder k clock) (goes (afterRequest k clock peer typeId byte) []) ended refl refl)
 
 -- any other line
 pub other-ends : (k : Keeping) → answered k line.Other ≡ ended
@@ -271,7 +272,8 @@ module _ {keeper : Keeper} {table : List ℕ} {clock : ℕ} (t : InTime keeper t
     unfolding checked afterCheck keepingIn settingsOf pendingAfterCheck retries checkedAs
     checked-says peers at end table′ et ee =
         let held : table′ ≡ holding (keeper .count) (checked .pending) table = et in
-        says-goes _ checked (checkRow (keepingIn keeper table) clock) at (keeper .count) table _ end table′ (check-goes (keepingIn keeper table) clock (in-order t))
+        says-goes _ checked (checkRow (keepingIn keeper table) clock) at (keeper .count) table _ end table′
+        (check-goes (keepingIn keeper table) clock (in-order t))
         (ap (λ (b : Bool). record { begun = b; settings = keeper .settings; clock = clock; count = made .pending }) (sym (begun t))
         ∙ ap (λ (n : ℕ). record { begun = keeper .begun; settings = keeper .settings; clock = clock; count = n }) (ap (λ (c : Checked). c .pending) em))
         (ee ∙ ap (λ (x : List ℕ). at + length x) row-is) held

@@ -76,7 +76,8 @@ returns-2 c =
     let made : tie.After-check-timeouts = search in
     let row : tie.After-put-row = search in
     let says = made .check-timeouts .ensures in
-    checks (in-time here) (says .0) _ (s .args .at) _ (made .check-timeouts .last .0) (s .args .out .now) (row .put-row .last .0) (says .1 .0) (row .put-row .ensures)
+    checks (in-time here) (says .0) _ (s .args .at) _ (made .check-timeouts .last .0) (s .args .out .now) (row .put-row .last .0)
+    (says .1 .0) (row .put-row .ensures)
 
 pub check-spec : {M : Type 1} → statement M
 check-spec =

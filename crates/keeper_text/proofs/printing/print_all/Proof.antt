@@ -13,7 +13,8 @@ module _ (c : tie.After-answer-lines) where
   read : Read (start .args .text .now) (start .args .out .now) (c .answer-lines .result) (c .answer-lines .last .0) (c .answer-lines .last .1 .1 .1 .0)
   read =
       let first : tie.After-at-first = search in
-      read-from-start (first .at-first .result) (start .args .table .now) (first .at-first .ensures) (c .answer-lines .ensures) (c .answer-lines .kept .1 .1 .1 .0)
+      read-from-start (first .at-first .result) (start .args .table .now) (first .at-first .ensures)
+      (c .answer-lines .ensures) (c .answer-lines .kept .1 .1 .1 .0)
 
 at-first-requires : tie.Need-at-first-requires
 at-first-requires c κs = search needs
