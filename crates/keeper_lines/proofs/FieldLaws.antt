@@ -81,7 +81,8 @@ pub fields-next : (space : ℕ) (line : List ℕ) → space < length line
     → fieldsBehind space line ≡ fieldBehind space line ∷ fieldsBehind (endBehind space line) line
 unfolding fieldBehind endBehind
 fields-next space line h =
-    rw (add-one space, fields-behind space line h, fields-first (drop (suc space) line), fields-drop (suc space) (length (upTo 32 (drop (suc space) line))) line)
+    let rest : List ℕ = drop (suc space) line in
+    rw (add-one space, fields-behind space line h, fields-first rest, fields-drop (suc space) (length (upTo 32 rest)) line)
 
 pub field-none : (space : ℕ) (line : List ℕ) → length line ≤ space → fieldBehind space line ≡ []
 unfolding fieldBehind

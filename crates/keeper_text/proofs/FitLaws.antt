@@ -162,6 +162,7 @@ module _ (settings : Settings) (clock : ℕ) where
 
   pub fits-few : (rs : List Request) → All (Fits settings clock) rs → RisingIds (idsOf rs) → length rs ≤ 256
   fits-few rs o h =
-      let low : All (λ (q : Request). 0 ≤ getD (q .id) 0 0) rs = all-weaker (Fits settings clock) (λ (q : Request). 0 ≤ getD (q .id) 0 0) (λ r p. omega arith) rs o in
+      let low : All (λ (q : Request). 0 ≤ getD (q .id) 0 0) rs =
+      all-weaker (Fits settings clock) (λ (q : Request). 0 ≤ getD (q .id) 0 0) (λ r p. omega arith) rs o in
       let n : length rs + 0 ≤ 256 = few-above rs 0 (omega arith) o low h in
       omega arith

@@ -10,7 +10,9 @@ module _ (c : tie.After-put-digits) where
   start = search
 
   marked : Marked (start .args .at) (start .args .mark) (start .args .n) (start .args .out .now) (c .put-digits .last .0) (c .put-digits .result)
-  marked = number-marked (start .args .at) (start .args .mark) (start .args .out .now) (c .put-digits .last .0) (start .args .n) _ (start .pre) (c .put-digits .ensures)
+  marked =
+      number-marked (start .args .at) (start .args .mark) (start .args .out .now) (c .put-digits .last .0) (start .args .n) _ (start .pre)
+      (c .put-digits .ensures)
 
 put-digits-requires : tie.Need-put-digits-requires
 put-digits-requires c κs = search needs

@@ -68,7 +68,8 @@ returns-2 c =
     let more : tie.Else1 = search in
     let first : tie.After-wide = search in
     let next : tie.After-wide2 = search in
-    same-as-next (s .args .pairs .now) (s .args .places .now) (s .args .i) (more .if1 .left) (first .wide .ensures) (next .wide2 .ensures) (c .run-same .ensures)
+    same-as-next (s .args .pairs .now) (s .args .places .now) (s .args .i) (more .if1 .left)
+    (first .wide .ensures) (next .wide2 .ensures) (c .run-same .ensures)
 
 pub is-repeated-spec : {M : Type 1} → statement M
 is-repeated-spec =
