@@ -1,6 +1,6 @@
 -- Digits: written one behind another, and read back.
 use Prim.Native.Nat.{ℕ, zero, suc, _+_, _-_, _*_, _/_, _%_, _^_, _≤_, _<_}
-use mathlib.Core.Path.{_≡_, refl, sym}
+use mathlib.Core.Path.{_≡_, refl, sym, ap, _∙_}
 use mathlib.Core.Bool.{Bool, true, false, _&&_, cond, and-assoc}
 use mathlib.Core.List.{List, [], _∷_, _++_}
 use mathlib.Core.Option.{some}
@@ -10,7 +10,7 @@ use native.Mathlib.Nat.{lt-irrefl, pow-suc, mod-lt, div-add-mod', div-lt-iff-lt-
 use native.Mathlib.Omega.{arith}
 use borrow.Author.Tests.{lt-ltb, le-ltb, ltb-true}
 use Rattle.fields.specs.Overwrite.{overwritten}
-use Rattle.fields.proofs.OverwriteLaws.{overwritten-one, overwritten-next, length-overwritten}
+use Rattle.fields.proofs.OverwriteLaws.{overwritten-nil, overwritten-one, overwritten-next, length-overwritten}
 use Rattle.keeper_lines.specs.Number.{isDigit, allDigits, valueAfter, isEmpty, decimal}
 use Rattle.keeper_lines.proofs.NumberLaws.{within-yes}
 use Rattle.keeper_lines.specs.Row.{digitsWithin, digits}
@@ -26,7 +26,8 @@ pub length-digits : (most n : ℕ) → length (digitsWithin most n) ≤ most
 length-digits zero n = omega arith
 length-digits (suc most) n = go (ltb n 10) (length-digits most (n / 10))
   where
-    go : (t : Bool) → length (digitsWithin most (n / 10)) ≤ most → length (cond t ((48 + n) ∷ []) (digitsWithin most (n / 10) ++ ((48 + n % 10) ∷ []))) ≤ suc most
+    go : (t : Bool) → length (digitsWithin most (n / 10)) ≤ most
+        → length (cond t ((48 + n) ∷ []) (digitsWithin most (n / 10) ++ ((48 + n % 10) ∷ []))) ≤ suc most
     go true h = omega arith
     go false h = rw (length-append (digitsWithin most (n / 10)) ((48 + n % 10) ∷ [])) (omega arith)
 
@@ -55,7 +56,8 @@ digits-all (suc most) n = go (ltb n 10) refl (digits-all most (n / 10))
         → allDigits (cond t ((48 + n) ∷ []) (digitsWithin most (n / 10) ++ ((48 + n % 10) ∷ []))) ≡ true
     go true e h = rw (within-yes 48 57 (48 + n) (omega arith) (omega (arith, ltb-true n 10 e)))
     go false e h =
-        rw (all-digits-append (digitsWithin most (n / 10)) ((48 + n % 10) ∷ []), h, within-yes 48 57 (48 + n % 10) (omega arith) (omega (arith, mod-lt n {m = 10} (omega arith))))
+        let last : isDigit (48 + n % 10) ≡ true = within-yes 48 57 (48 + n % 10) (omega arith) (omega (arith, mod-lt n {m = 10} (omega arith))) in
+        rw (all-digits-append (digitsWithin most (n / 10)) ((48 + n % 10) ∷ []), h, last)
 
 digits-value : (most n : ℕ) → n < 10 ^ most → valueAfter 0 (digitsWithin most n) ≡ n
 digits-value zero n h = omega arith
@@ -74,42 +76,48 @@ digits-read-back n h =
 
 -- ---- digits written
 
-pub digits-none : (most n : ℕ) → most < 1 → digitsWithin most n ≡ []
-digits-none zero n h = refl
-digits-none (suc most) n h = absurd (lt-irrefl 0 (omega arith))
+-- What was put from `at` on, and where it ends.
+abbrev pub Put : ℕ → List ℕ → List ℕ → List ℕ → ℕ → Type 0
+Put at s done o end = (o ≡ overwritten at done s) × (end ≡ at + length done)
 
-pub length-last : (most n : ℕ) → 1 ≤ most → n < 10 → length (digitsWithin most n) ≡ 1
-length-last zero n h l = absurd (lt-irrefl 0 (omega arith))
-length-last (suc most) n h l = rw (digits-last most n l)
+pub none-put : (at most n : ℕ) (s : List ℕ) → most < 1 → Put at s (digitsWithin most n) s at
+none-put at zero n s h = (sym (overwritten-nil at s), omega arith)
+none-put at (suc most) n s h = absurd (lt-irrefl 0 (omega arith))
 
-pub length-more : (most n : ℕ) → 1 ≤ most → 10 ≤ n → length (digitsWithin most n) ≡ length (digitsWithin (most - 1) (n / 10)) + 1
-length-more zero n h l = absurd (lt-irrefl 0 (omega arith))
-length-more (suc most) n h l =
+pub only-put : (at most n : ℕ) (s : List ℕ) → at + most ≤ length s → 1 ≤ most → n < 10
+    → Put at s (digitsWithin most n) (set s at (48 + n)) (at + 1)
+only-put at zero n s room positive l = absurd (lt-irrefl 0 (omega arith))
+only-put at (suc most) n s room positive l = rw (digits-last most n l) (overwritten-one at (48 + n) s (omega arith), refl)
+
+-- one byte more, behind what was put
+pub byte-put : (at byte : ℕ) (s o done : List ℕ) (end : ℕ) → at + length done < length s
+    → Put at s done o end → Put at s (done ++ (byte ∷ [])) (set o end byte) (end + 1)
+byte-put at byte s o done end room p =
+    let kept : length o ≡ length s = ap length (p .0) ∙ length-overwritten at done s (omega arith) in
+    let one : set o end byte ≡ overwritten end (byte ∷ []) o = overwritten-one end byte o (omega (arith, p .1)) in
+    let longer : length (done ++ (byte ∷ [])) ≡ length done + 1 = length-append done (byte ∷ []) in
+    (one ∙ rw (p .0, p .1) (overwritten-next at done (byte ∷ []) s (omega arith)), omega (arith, p .1))
+
+-- The last digit has room at `end`, and with it the digits are put.
+pub record LastPut (at most n : ℕ) (s o : List ℕ) (end : ℕ) : Type 0 where
+  pub room : end < length o
+  pub put : 10 ≤ n → Put at s (digitsWithin most n) (set o end (48 + n % 10)) (end + 1)
+
+pub last-put : (at most n : ℕ) (s o : List ℕ) (end : ℕ) → at + most ≤ length s → 1 ≤ most
+    → Put at s (digitsWithin (most - 1) (n / 10)) o end → LastPut at most n s o end
+last-put at zero n s o end room positive p = absurd (lt-irrefl 0 (omega arith))
+last-put at (suc most) n s o end room positive p =
     let e : suc most - 1 ≡ most = omega arith in
-    rw (e, digits-more most n l) (length-append (digitsWithin most (n / 10)) ((48 + n % 10) ∷ []))
+    go (rw e at p)
+  where
+    high : List ℕ
+    high = digitsWithin most (n / 10)
 
-module _ (at most n : ℕ) (s : List ℕ) (room : at + most ≤ length s) (some-room : 1 ≤ most) where
-  pub put-last : n < 10 → set s at (48 + n) ≡ overwritten at (digitsWithin most n) s
-  put-last l = go most some-room
-    where
-      go : (m : ℕ) → 1 ≤ m → set s at (48 + n) ≡ overwritten at (digitsWithin m n) s
-      go zero k = absurd (lt-irrefl 0 (omega arith))
-      go (suc m) k = rw (digits-last m n l) (overwritten-one at (48 + n) s (omega arith))
-
-  pub put-more : 10 ≤ n
-      → set (overwritten at (digitsWithin (most - 1) (n / 10)) s) (at + length (digitsWithin (most - 1) (n / 10))) (48 + n % 10) ≡ overwritten at (digitsWithin most n) s
-  put-more l = go most some-room room
-    where
-      go : (m : ℕ) → 1 ≤ m → at + m ≤ length s
-          → set (overwritten at (digitsWithin (m - 1) (n / 10)) s) (at + length (digitsWithin (m - 1) (n / 10))) (48 + n % 10) ≡ overwritten at (digitsWithin m n) s
-      go zero k h = absurd (lt-irrefl 0 (omega arith))
-      go (suc m) k h =
-          let high : List ℕ = digitsWithin m (n / 10) in
-          let d : length high ≤ m = length-digits m (n / 10) in
-          let e : length (overwritten at high s) ≡ length s = length-overwritten at high s (omega arith) in
-          let f : suc m - 1 ≡ m = omega arith in
-          rw (f, digits-more m n l, overwritten-one (at + length high) (48 + n % 10) (overwritten at high s) (omega arith))
-          (overwritten-next at high ((48 + n % 10) ∷ []) s (omega arith))
+    go : Put at s high o end → LastPut at (suc most) n s o end
+    go q =
+        let few : length high ≤ most = length-digits most (n / 10) in
+        let kept : length o ≡ length s = ap length (q .0) ∙ length-overwritten at high s (omega arith) in
+        record { room = omega (arith, q .1); put = λ l. rw (digits-more most n l) (byte-put at (48 + n % 10) s o high end (omega arith) q) }
 
 -- 10050 printed
 pub printed : digits 10050 ≡ 49 ∷ 48 ∷ 48 ∷ 53 ∷ 48 ∷ []

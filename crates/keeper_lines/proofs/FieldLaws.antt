@@ -1,6 +1,6 @@
 -- Fields one behind another, and the line that they make.
 use Prim.Native.Nat.{ℕ, zero, suc, _+_, _-_, _≤_, _<_}
-use mathlib.Core.Path.{_≡_, refl, sym}
+use mathlib.Core.Path.{_≡_, refl, sym, _∙_}
 use mathlib.Core.Bool.{Bool, true, false, cond}
 use mathlib.Core.List.{List, [], _∷_}
 use mathlib.Core.Option.{Option, none, some}
@@ -17,6 +17,7 @@ use Rattle.keeper_lines.specs.Line.{upTo, ontoFirst, fieldsOf, given, fi
 use Rattle.keeper_lines.specs.Reading.{fieldBehind, endBehind, fieldOf, fieldsBehind}
 use Rattle.keeper_lines.specs.declared.lines.Line.{Line}
 use Rattle.keeper_lines.specs.declared.lines.Line.the-variants.{Other}
+use Rattle.keeper_lines.specs.declared.field.Field.{Field}
 use Rattle.keeper_lines.specs.declared.field.Field.the-variants.{Read, Refused}
 
 -- ---- the bytes before a stop
@@ -38,7 +39,8 @@ take-upTo stop (byte ∷ bytes) = go (eqb byte stop) (take-upTo stop bytes)
     go true h = refl
     go false h = rw h
 
-pub upTo-pass : (stop i : ℕ) (s : List ℕ) → i < length s → (getD s i 0 ≡ stop → ⊥) → length (upTo stop (drop i s)) ≡ suc (length (upTo stop (drop (i + 1) s)))
+pub upTo-pass : (stop i : ℕ) (s : List ℕ) → i < length s → (getD s i 0 ≡ stop → ⊥)
+    → length (upTo stop (drop i s)) ≡ suc (length (upTo stop (drop (i + 1) s)))
 upTo-pass stop i s h e = rw (add-one, drop-cons s i 0 h, ne-eqb (getD s i 0) stop e)
 
 pub upTo-stop : (stop i : ℕ) (s : List ℕ) → i < length s → getD s i 0 ≡ stop → upTo stop (drop i s) ≡ []
@@ -79,7 +81,8 @@ pub fields-next : (space : ℕ) (line : List ℕ) → space < length line
     → fieldsBehind space line ≡ fieldBehind space line ∷ fieldsBehind (endBehind space line) line
 unfolding fieldBehind endBehind
 fields-next space line h =
-    rw (add-one space, fields-behind space line h, fields-first (drop (suc space) line), fields-drop (suc space) (length (upTo 32 (drop (suc space) line))) line)
+    let rest : List ℕ = drop (suc space) line in
+    rw (add-one space, fields-behind space line h, fields-first rest, fields-drop (suc space) (length (upTo 32 rest)) line)
 
 pub field-none : (space : ℕ) (line : List ℕ) → length line ≤ space → fieldBehind space line ≡ []
 unfolding fieldBehind
@@ -126,36 +129,44 @@ module _ (read : List ℕ → Option ℕ) (empty : read [] ≡ none) (next : ℕ
           (given-refused (read (fieldBehind space line)) (endBehind space line) (λ n. next n (fieldsBehind (endBehind space line) line)) h)
       go false e = rw (fields-none space line (ltb-false space (length line) e))
 
-module _ (limit : ℕ) where
-  pub decimal-read : (next : ℕ → List (List ℕ) → Line) (space : ℕ) (line : List ℕ) (v end : ℕ)
-      → fieldOf (decimal limit (fieldBehind space line)) (endBehind space line) ≡ Read v end
-      → field (decimal limit) next (fieldsBehind space line) ≡ next v (fieldsBehind end line)
-  decimal-read = field-read (decimal limit) (decimal-none limit)
+-- What a reader of fields says of the field behind the space at index `space`: v, and it ends at `end`.
+pub record ReadAs (read : List ℕ → Option ℕ) (line : List ℕ) (space v end : ℕ) : Type 0 where
+  pub empty : read [] ≡ none
+  pub says : fieldOf (read (fieldBehind space line)) (endBehind space line) ≡ Read v end
 
-  pub decimal-refused : (next : ℕ → List (List ℕ) → Line) (space : ℕ) (line : List ℕ)
-      → fieldOf (decimal limit (fieldBehind space line)) (endBehind space line) ≡ Refused → field (decimal limit) next (fieldsBehind space line) ≡ Other
-  decimal-refused = field-refused (decimal limit) (decimal-none limit)
+pub decimal-says : (limit : ℕ) {space v end : ℕ} {line : List ℕ} {r : Field}
+    → r ≡ fieldOf (decimal limit (fieldBehind space line)) (endBehind space line) → r ≡ Read v end → ReadAs (decimal limit) line space v end
+decimal-says limit h e = record { empty = decimal-none limit; says = sym h ∙ e }
 
-pub hex-read : (next : ℕ → List (List ℕ) → Line) (space : ℕ) (line : List ℕ) (v end : ℕ)
-    → fieldOf (hexByte (fieldBehind space line)) (endBehind space line) ≡ Read v end
-    → field hexByte next (fieldsBehind space line) ≡ next v (fieldsBehind end line)
-hex-read = field-read hexByte hex-none
+pub hex-says : {space v end : ℕ} {line : List ℕ} {r : Field}
+    → r ≡ fieldOf (hexByte (fieldBehind space line)) (endBehind space line) → r ≡ Read v end → ReadAs hexByte line space v end
+hex-says h e = record { empty = hex-none; says = sym h ∙ e }
 
-pub hex-refused : (next : ℕ → List (List ℕ) → Line) (space : ℕ) (line : List ℕ)
-    → fieldOf (hexByte (fieldBehind space line)) (endBehind space line) ≡ Refused → field hexByte next (fieldsBehind space line) ≡ Other
-hex-refused = field-refused hexByte hex-none
+pub read-then : {read : List ℕ → Option ℕ} {line : List ℕ} {space v end : ℕ} (next : ℕ → List (List ℕ) → Line) → ReadAs read line space v end
+    → field read next (fieldsBehind space line) ≡ next v (fieldsBehind end line)
+read-then {read = read} {line = line} {space = space} {v = v} {end = end} next a = field-read read (a .empty) next space line v end (a .says)
+
+pub decimal-refused : (limit : ℕ) (next : ℕ → List (List ℕ) → Line) (space : ℕ) (line : List ℕ) {r : Field}
+    → r ≡ fieldOf (decimal limit (fieldBehind space line)) (endBehind space line) → r ≡ Refused → field (decimal limit) next (fieldsBehind space line) ≡ Other
+decimal-refused limit next space line h e = field-refused (decimal limit) (decimal-none limit) next space line (sym h ∙ e)
+
+pub hex-refused : (next : ℕ → List (List ℕ) → Line) (space : ℕ) (line : List ℕ) {r : Field}
+    → r ≡ fieldOf (hexByte (fieldBehind space line)) (endBehind space line) → r ≡ Refused → field hexByte next (fieldsBehind space line) ≡ Other
+hex-refused next space line h e = field-refused hexByte hex-none next space line (sym h ∙ e)
+
+pub decimal-as-below : (limit : ℕ) {space v end : ℕ} {line : List ℕ} → ReadAs (decimal limit) line space v end → v < limit
+decimal-as-below limit {space = space} {v = v} {end = end} {line = line} a =
+    decimal-below limit v (fieldBehind space line) (value-read (decimal limit (fieldBehind space line)) (endBehind space line) v end (a .says))
+
+pub hex-as-below : {space v end : ℕ} {line : List ℕ} → ReadAs hexByte line space v end → v < 256
+hex-as-below {space = space} {v = v} {end = end} {line = line} a =
+    hex-byte-below (fieldBehind space line) v (value-read (hexByte (fieldBehind space line)) (endBehind space line) v end (a .says))
 
 pub done-last : (made : Line) (space : ℕ) (line : List ℕ) → length line ≤ space → done made (fieldsBehind space line) ≡ made
 done-last made space line h = rw (fields-none space line h)
 
 pub done-more : (made : Line) (space : ℕ) (line : List ℕ) → space < length line → done made (fieldsBehind space line) ≡ Other
 done-more made space line h = rw (fields-next space line h)
-
-pub decimal-field-below : (limit at v end : ℕ) (bytes : List ℕ) → fieldOf (decimal limit bytes) at ≡ Read v end → v < limit
-decimal-field-below limit at v end bytes h = decimal-below limit v bytes (value-read (decimal limit bytes) at v end h)
-
-pub hex-field-below : (at v end : ℕ) (bytes : List ℕ) → fieldOf (hexByte bytes) at ≡ Read v end → v < 256
-hex-field-below at v end bytes h = hex-byte-below bytes v (value-read (hexByte bytes) at v end h)
 
 -- ---- a line by its letter
 
@@ -181,11 +192,12 @@ pub no-letter : (line : List ℕ) → 2 ≤ length line → (getD line 1 0 ≡ 3
 unfolding lineOf
 no-letter [] h e = absurd (lt-irrefl 0 (omega arith))
 no-letter (a ∷ []) h e = absurd (lt-irrefl 0 (omega arith))
-no-letter (a ∷ (b ∷ line)) h e = rw (ne-eqb b 32 e, fields-first line) (go (eqb a 32))
+no-letter (a ∷ (b ∷ line)) h e = rw (ne-eqb b 32 e, fields-first line) (go (eqb a 32) (upTo 32 line) (fieldsBehind (length (upTo 32 line)) line))
   where
-    go : (t : Bool) → ofFields (cond t ([] ∷ ((b ∷ upTo 32 line) ∷ fieldsBehind (length (upTo 32 line)) line)) (ontoFirst a ((b ∷ upTo 32 line) ∷ fieldsBehind (length (upTo 32 line)) line))) ≡ Other
-    go true = refl
-    go false = refl
+    go : (t : Bool) (bytes : List ℕ) (fields : List (List ℕ))
+        → ofFields (cond t ([] ∷ ((b ∷ bytes) ∷ fields)) (ontoFirst a ((b ∷ bytes) ∷ fields))) ≡ Other
+    go true bytes fields = refl
+    go false bytes fields = refl
 
 pub by-letter : (line : List ℕ) → 2 ≤ length line → getD line 1 0 ≡ 32 → lineOf line ≡ byLetter (getD line 0 0) (fieldsBehind 1 line)
 unfolding lineOf byLetter

@@ -1,16 +1,17 @@
 -- Decimal numbers digit by digit, and bytes in hex.
 use Prim.Native.Nat.{ℕ, _+_, _-_, _*_, _≤_, _<_}
-use mathlib.Core.Path.{_≡_, refl}
+use mathlib.Core.Path.{_≡_, refl, sym, ap, _∙_}
 use mathlib.Core.Bool.{Bool, true, false, _&&_, cond, and-false, false≢true}
 use mathlib.Core.List.{List, [], _∷_}
 use mathlib.Core.Option.{Option, none, some}
 use lib.Dec.{leb, ltb}
-use lib.ListN.{length, drop, getD}
+use lib.ListN.{length, drop, getD, drop-of-length-le}
 use lib.Seq.{drop-cons}
 use native.Mathlib.Nat.{lt-irrefl}
 use native.Mathlib.Numerals.{add-one}
 use native.Mathlib.Omega.{arith}
 use borrow.Author.Tests.{lt-ltb, le-ltb, le-leb, lt-leb, leb-true, ltb-true}
+use Rattle.keeper_lines.specs.declared.numerals.Number.{Number}
 use Rattle.keeper_lines.specs.declared.numerals.Number.the-variants.{Value, Nothing}
 use Rattle.keeper_lines.specs.Number.{within, isDigit, allDigits, valueAfter, decimal, hexDigit, hexPair, hexByte, numberOf}
 
@@ -81,15 +82,49 @@ decimal-below limit n [] h = let z : _≡_ {A = ℕ} 0 1 = cc in omega arith
 decimal-below limit n (byte ∷ bytes) h =
     decimal-of-true limit (valueAfter 0 (byte ∷ bytes)) n (allDigits (byte ∷ bytes)) (ltb (valueAfter 0 (byte ∷ bytes)) limit) refl h
 
+-- At index i, n is the number so far: what it goes on to be is the number.
+pub record Reading (s : List ℕ) (most n i : ℕ) : Type 0 where
+  pub inside : i ≤ length s
+  pub small : n ≤ most
+  pub rest : decimalAfter (most + 1) n (drop i s) ≡ decimal (most + 1) s
+
+pub reading-starts : (s : List ℕ) (most : ℕ) → 1 ≤ length s → Reading s most 0 0
+reading-starts s most h = record { inside = omega arith; small = omega arith; rest = sym (decimal-start (most + 1) s h) }
+
+module _ {s : List ℕ} {most n i : ℕ} (r : Reading s most n i) where
+  pub reading-ends : length s ≤ i → decimal (most + 1) s ≡ some n
+  reading-ends h =
+      sym (r .rest) ∙ ap (decimalAfter (most + 1) n) (drop-of-length-le s {i = i} h) ∙ decimal-end (most + 1) n (omega (arith, r .small))
+
+  module _ (more : i < length s) where
+    pub reading-below : getD s i 0 < 48 → decimal (most + 1) s ≡ none
+    reading-below h = sym (r .rest) ∙ decimal-other (most + 1) n i s more (within-below 48 57 (getD s i 0) h)
+
+    pub reading-above : 57 < getD s i 0 → decimal (most + 1) s ≡ none
+    reading-above h = sym (r .rest) ∙ decimal-other (most + 1) n i s more (within-above 48 57 (getD s i 0) h)
+
+    module _ (l : 48 ≤ getD s i 0) (h : getD s i 0 ≤ 57) where
+      pub reading-passed : most < n * 10 + (getD s i 0 - 48) → decimal (most + 1) s ≡ none
+      reading-passed large =
+          sym (r .rest) ∙ decimal-digit (most + 1) n i s more l h
+          ∙ decimal-too-large (most + 1) (n * 10 + (getD s i 0 - 48)) (drop (i + 1) s) (omega arith)
+
+      pub reading-digit : n * 10 + (getD s i 0 - 48) ≤ most → Reading s most (n * 10 + (getD s i 0 - 48)) (i + 1)
+      reading-digit few = record {
+        inside = omega arith;
+        small = few;
+        rest = sym (decimal-digit (most + 1) n i s more l h) ∙ r .rest;
+      }
+
 -- ---- what the enum says of the option
 
-pub value-of : (o : Option ℕ) (v : ℕ) → Value v ≡ numberOf o → o ≡ some v
-value-of none v h = let z : _≡_ {A = ℕ} 0 1 = cc in absurd (lt-irrefl 0 (omega arith))
-value-of (some n) v h = let e : n ≡ v = cc in rw e
+pub value-of : (o : Option ℕ) {r : Number} {v : ℕ} → r ≡ numberOf o → r ≡ Value v → o ≡ some v
+value-of none h e = let z : _≡_ {A = ℕ} 0 1 = cc in absurd (lt-irrefl 0 (omega arith))
+value-of (some n) {v = v} h e = let same : n ≡ v = cc in rw same
 
-pub nothing-of : (o : Option ℕ) → Nothing ≡ numberOf o → o ≡ none
-nothing-of none h = refl
-nothing-of (some n) h = let z : _≡_ {A = ℕ} 0 1 = cc in absurd (lt-irrefl 0 (omega arith))
+pub nothing-of : (o : Option ℕ) {r : Number} → r ≡ numberOf o → r ≡ Nothing → o ≡ none
+nothing-of none h e = refl
+nothing-of (some n) h e = let z : _≡_ {A = ℕ} 0 1 = cc in absurd (lt-irrefl 0 (omega arith))
 
 -- ---- hex
 
@@ -112,6 +147,35 @@ hex-of byte n false false false e f g h = let z : _≡_ {A = ℕ} 0 1 = cc in om
 pub hex-below : (byte n : ℕ) → hexDigit byte ≡ some n → n < 16
 unfolding hexDigit
 hex-below byte n h = hex-of byte n (within 48 57 byte) (within 97 102 byte) (within 65 70 byte) refl refl refl h
+
+module _ (byte : ℕ) where
+  pub hex-digit : 48 ≤ byte → byte ≤ 57 → hexDigit byte ≡ some (byte - 48)
+  unfolding hexDigit
+  hex-digit l h = rw (within-yes 48 57 byte l h)
+
+  pub hex-upper : 65 ≤ byte → byte ≤ 70 → hexDigit byte ≡ some (byte - 65 + 10)
+  unfolding hexDigit
+  hex-upper l h = rw (within-above 48 57 byte (omega arith), within-below 97 102 byte (omega arith), within-yes 65 70 byte l h)
+
+  pub hex-lower : 97 ≤ byte → byte ≤ 102 → hexDigit byte ≡ some (byte - 97 + 10)
+  unfolding hexDigit
+  hex-lower l h = rw (within-above 48 57 byte (omega arith), within-yes 97 102 byte l h)
+
+  pub hex-below-digits : byte < 48 → hexDigit byte ≡ none
+  unfolding hexDigit
+  hex-below-digits h = rw (within-below 48 57 byte (omega arith), within-below 97 102 byte (omega arith), within-below 65 70 byte (omega arith))
+
+  pub hex-above-digits : 57 < byte → byte < 65 → hexDigit byte ≡ none
+  unfolding hexDigit
+  hex-above-digits l h = rw (within-above 48 57 byte (omega arith), within-below 97 102 byte (omega arith), within-below 65 70 byte (omega arith))
+
+  pub hex-above-upper : 70 < byte → byte < 97 → hexDigit byte ≡ none
+  unfolding hexDigit
+  hex-above-upper l h = rw (within-above 48 57 byte (omega arith), within-below 97 102 byte (omega arith), within-above 65 70 byte (omega arith))
+
+  pub hex-above-lower : 102 < byte → hexDigit byte ≡ none
+  unfolding hexDigit
+  hex-above-lower l = rw (within-above 48 57 byte (omega arith), within-above 97 102 byte (omega arith), within-above 65 70 byte (omega arith))
 
 hex-pair-below : (high low : Option ℕ) (n : ℕ) → ((h : ℕ) → high ≡ some h → h < 16) → ((l : ℕ) → low ≡ some l → l < 16) → hexPair high low ≡ some n → n < 256
 hex-pair-below none low n f g e = let z : _≡_ {A = ℕ} 0 1 = cc in omega arith

@@ -114,11 +114,13 @@ module _ (settings : Settings) (clock : ℕ) where
       go Delivery.forgotten e q = q
 
   module _ (typeId peer : ℕ) (ht : typeId < 2 ^ 8) (hp : peer < 2 ^ 64) where
-    fits-marked : (ids : List Id) (rs : List Request) → All OneByte ids → All (Fits settings clock) rs → All (Fits settings clock) (markRequested clock typeId peer ids rs)
+    fits-marked : (ids : List Id) (rs : List Request) → All OneByte ids → All (Fits settings clock) rs
+        → All (Fits settings clock) (markRequested clock typeId peer ids rs)
     fits-marked [] rs o h = h
     fits-marked (id ∷ ids) rs o h =
+        let more = all-inserted idBefore (Fits settings clock) entered rs entered-fits h in
         fits-marked ids (cond (isPending id rs) rs (inserted idBefore entered rs)) (o .1)
-        (either (All (Fits settings clock)) (isPending id rs) rs (inserted idBefore entered rs) h (all-inserted idBefore (Fits settings clock) entered rs entered-fits h))
+        (either (All (Fits settings clock)) (isPending id rs) rs (inserted idBefore entered rs) h more)
       where
         entered : Request
         entered = record { id = id; typeId = typeId; peer = peer; stamp = clock; checks = 0 }
@@ -142,12 +144,14 @@ module _ (settings : Settings) (clock : ℕ) where
       let b : ℕ = getD (q .id) 0 0 in
       id-before a b (ap (λ (x : Id). before x (idOf b)) (sym (p .id)) ∙ ap (λ (y : Id). before (r .id) y) (sym (o .id)) ∙ h)
 
-  above : (r : Request) → Fits settings clock r → (rs : List Request) → All (Fits settings clock) rs → All (λ (other : Id). before (r .id) other ≡ true) (idsOf rs)
+  above : (r : Request) → Fits settings clock r → (rs : List Request) → All (Fits settings clock) rs
+      → All (λ (other : Id). before (r .id) other ≡ true) (idsOf rs)
       → All (λ (q : Request). suc (getD (r .id) 0 0) ≤ getD (q .id) 0 0) rs
   above r p [] os bs = tt
   above r p (q ∷ qs) os bs = (lower r q p (os .0) (bs .0), above r p qs (os .1) (bs .1))
 
-  few-above : (rs : List Request) (low : ℕ) → low ≤ 256 → All (Fits settings clock) rs → All (λ (q : Request). low ≤ getD (q .id) 0 0) rs → RisingIds (idsOf rs) → length rs + low ≤ 256
+  few-above : (rs : List Request) (low : ℕ) → low ≤ 256 → All (Fits settings clock) rs
+      → All (λ (q : Request). low ≤ getD (q .id) 0 0) rs → RisingIds (idsOf rs) → length rs + low ≤ 256
   few-above [] low l o m h = omega arith
   few-above (r ∷ rs) low l o m h =
       let p : Fits settings clock r = o .0 in
@@ -158,5 +162,7 @@ module _ (settings : Settings) (clock : ℕ) where
 
   pub fits-few : (rs : List Request) → All (Fits settings clock) rs → RisingIds (idsOf rs) → length rs ≤ 256
   fits-few rs o h =
-      let n : length rs + 0 ≤ 256 = few-above rs 0 (omega arith) o (all-weaker (Fits settings clock) (λ (q : Request). 0 ≤ getD (q .id) 0 0) (λ r p. omega arith) rs o) h in
+      let low : All (λ (q : Request). 0 ≤ getD (q .id) 0 0) rs =
+      all-weaker (Fits settings clock) (λ (q : Request). 0 ≤ getD (q .id) 0 0) (λ r p. omega arith) rs o in
+      let n : length rs + 0 ≤ 256 = few-above rs 0 (omega arith) o low h in
       omega arith

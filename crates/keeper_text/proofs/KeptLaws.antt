@@ -1,7 +1,7 @@
 -- A keeper and its table, and what an edit of the table makes of them.
 use Prim.Native.Nat.{ℕ, _≤_, _<_, _^_}
 use mathlib.Core.Path.{_≡_, sym, ap, _∙_}
-use mathlib.Core.Bool.{true, false, false≢true}
+use mathlib.Core.Bool.{true, false≢true}
 use mathlib.Core.List.{List, map}
 use native.Mathlib.Omega.{arith}
 use lib.ListN.{length, length-map}
@@ -22,7 +22,15 @@ use Rattle.keeper_text.specs.declared.keeping.Keeper.{Keeper}
 use Rattle.keeper_text.proofs.FitLaws.{fits-recorded, fits-few}
 use Rattle.model.specs.Layout.{idSize, recordSize}
 
-module _ (keeper : Keeper) (table : List ℕ) (k : Kept keeper table) where
+-- What is kept behind a line: as many numbers and requests as a table holds.
+pub record Good (next : Keeping) : Type 0 where
+  pub fit : All (Fits (next .settings) (next .clock)) (next .pending)
+  pub rise : RisingIds (idsOf (next .pending))
+  pub begun : next .begun ≡ true
+  pub limit : next .settings .maxChecks < 2 ^ 32
+  pub clock : next .clock < 2 ^ 64
+
+module _ {keeper : Keeper} {table : List ℕ} (k : Kept keeper table) where
   pub kept-rise : RisingIds (idsOf (requestsIn (keeper .count) table))
   kept-rise = ids-rise (entries recordSize (keeper .count) table) (rising-ascending 32 (entries recordSize (keeper .count) table) (k .order))
 
@@ -33,17 +41,17 @@ module _ (keeper : Keeper) (table : List ℕ) (k : Kept keeper table) where
       omega arith
 
   -- other requests in place of those pending
-  module _ (next : Keeping) (fit : All (Fits (next .settings) (next .clock)) (next .pending)) (rise : RisingIds (idsOf (next .pending))) (begun : next .begun ≡ true) (m : next .settings .maxChecks < 2 ^ 32) (c : next .clock < 2 ^ 64) where
+  module _ {next : Keeping} (good : Good next) where
     pub next-few : length (next .pending) ≤ 256
-    next-few = fits-few (next .settings) (next .clock) (next .pending) fit rise
+    next-few = fits-few (next .settings) (next .clock) (next .pending) (good .fit) (good .rise)
 
     recorded : All Recorded (next .pending)
-    recorded = fits-recorded (next .settings) (next .clock) m c (next .pending) fit
+    recorded = fits-recorded (next .settings) (next .clock) (good .limit) (good .clock) (next .pending) (good .fit)
 
     wide : Wide recordSize (map requestBytes (next .pending))
     wide = records-wide (next .pending) recorded
 
-    module _ (table′ : List ℕ) (e : table′ ≡ holding (keeper .count) (next .pending) table) where
+    module _ {table′ : List ℕ} (e : table′ ≡ holding (keeper .count) (next .pending) table) where
       entries-are : entries recordSize (length (next .pending)) table′ ≡ map requestBytes (next .pending)
       unfolding holding
       entries-are =
@@ -64,9 +72,9 @@ module _ (keeper : Keeper) (table : List ℕ) (k : Kept keeper table) where
       holds-next = (
         record {
           room = omega (arith, as-long, k .room);
-          none = λ n. absurd (false≢true (sym n ∙ begun));
-          order = rw entries-are (ascending-rising idSize (map requestBytes (next .pending)) (records-rise (next .pending) recorded rise));
-          requests = rw requests-are fit;
+          none = λ n. absurd (false≢true (sym n ∙ good .begun));
+          order = rw entries-are (ascending-rising idSize (map requestBytes (next .pending)) (records-rise (next .pending) recorded (good .rise)));
+          requests = rw requests-are (good .fit);
         },
         ap (λ (rs : List Request). record { begun = next .begun; settings = next .settings; clock = next .clock; pending = rs }) requests-are,
       )

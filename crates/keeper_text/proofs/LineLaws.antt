@@ -15,12 +15,11 @@ use Rattle.fields.proofs.AllLaws.{either}
 use Rattle.fields.proofs.OrderLaws.{and-left, and-right}
 use Rattle.keeper_lines.specs.declared.lines.Line.the-variants as line
 use Rattle.model.specs.Settings.{Settings}
-use Rattle.model.specs.Delivery.{Request, idsOf, retried, abandoned, forgotten}
+use Rattle.model.specs.Delivery.{Request, retried, abandoned, forgotten}
 use Rattle.model.specs.Requests as model
 use Rattle.model.specs.Requests.{ask, perform, wanted}
 use Rattle.model.specs.Check.{retries}
 use Rattle.model.specs.Lists.{idsIn, pairsIn}
-use Rattle.model.proofs.Well.{RisingIds}
 use Rattle.model.proofs.PendingLaws.{rising-checked, rising-requested}
 use Rattle.settings.specs.Values.{settingsOf}
 use Rattle.commands.specs.Pending.{requestsIn, holding}
@@ -41,34 +40,47 @@ use Rattle.keeper_text.specs.declared.keeping.Keeper.{Keeper}
 use Rattle.keeper_text.specs.declared.keeping.Answer.{Answer}
 use Rattle.keeper_text.specs.declared.keeping.Answer.the-variants as answer
 use Rattle.keeper_text.proofs.FitLaws.{id-one, fits-later, fits-checked, fits-wanted}
-use Rattle.keeper_text.proofs.KeptLaws.{kept-rise, next-few, holds-next}
+use Rattle.keeper_text.proofs.KeptLaws.{Good, kept-rise, next-few, holds-next}
 use Rattle.model.specs.Protocol.{trackedLimit}
 
 -- The answer and the table are what a step says.
 abbrev pub Says : Step → ℕ → ℕ → List ℕ → Answer → List ℕ → Type 0
 Says step at count table answer table′ = (answer ≡ answerAs at step) × ((table′ ≡ tableAfter count step table) × Holds step table′)
 
+-- With the area that it writes to.
+abbrev pub Told : Step → ℕ → ℕ → List ℕ → List ℕ → Answer → List ℕ → List ℕ → Type 0
+Told step at count table out answer table′ out′ =
+    (answer ≡ answerAs at step) × ((table′ ≡ tableAfter count step table) × ((out′ ≡ overwritten at (bytesOf step) out) × Holds step table′))
+
 pub says-ended : (step : Step) (at count : ℕ) (table : List ℕ) → step ≡ ended → Says step at count table answer.Ended table
 says-ended step at count table e = rw e (refl, (refl, tt))
 
-pub says-goes : (step : Step) (next : Keeping) (bytes : List ℕ) (at count : ℕ) (table : List ℕ) (keeper : Keeper) (end : ℕ) (table′ : List ℕ) → step ≡ goes next bytes
-    → keeper ≡ keeperOf next → end ≡ at + length bytes → table′ ≡ holding count (next .pending) table → Kept (keeperOf next) table′ × (keepingIn (keeperOf next) table′ ≡ next)
+pub says-goes : (step : Step) (next : Keeping) (bytes : List ℕ) (at count : ℕ) (table : List ℕ) (keeper : Keeper) (end : ℕ) (table′ : List ℕ)
+    → step ≡ goes next bytes → keeper ≡ keeperOf next → end ≡ at + length bytes → table′ ≡ holding count (next .pending) table
+    → Kept (keeperOf next) table′ × (keepingIn (keeperOf next) table′ ≡ next)
     → Says step at count table (answer.Next keeper end) table′
 says-goes step next bytes at count table keeper end table′ e a b c h = rw (e, a, b) (refl, (c, h))
 
 -- ---- lines that print nothing
 
 module _ (k : Keeping) (at : ℕ) (out : List ℕ) where
+  abbrev Silent : Step → Type 0
+  Silent step = bytesOf step ≡ []
+
   silent : (step : Step) → bytesOf step ≡ [] → out ≡ overwritten at (bytesOf step) out
   silent step e = rw e (sym (overwritten-nil at out))
 
   pub settings-silent : (timeout limit : ℕ) → out ≡ overwritten at (bytesOf (answered k (line.Settings timeout limit))) out
   unfolding answered
-  settings-silent timeout limit = silent (answered k (line.Settings timeout limit)) (either (λ (s : Step). bytesOf s ≡ []) (k .begun) ended (goes (begunWith k timeout limit) []) refl refl)
+  settings-silent timeout limit =
+      silent (answered k (line.Settings timeout limit))
+      (either Silent (k .begun) ended (goes (begunWith k timeout limit) []) refl refl)
 
   pub request-silent : (clock peer typeId byte : ℕ) → out ≡ overwritten at (bytesOf (answered k (line.Request clock peer typeId byte))) out
   unfolding answered
-  request-silent clock peer typeId byte = silent (answered k (line.Request clock peer typeId byte)) (either (λ (s : Step). bytesOf s ≡ []) (inOrder k clock) (goes (afterRequest k clock peer typeId byte) []) ended refl refl)
+  request-silent clock peer typeId byte =
+      silent (answered k (line.Request clock peer typeId byte))
+      (either Silent (inOrder k clock) (goes (afterRequest k clock peer typeId byte) []) ended refl refl)
 
 -- any other line
 pub other-ends : (k : Keeping) → answered k line.Other ≡ ended
@@ -86,8 +98,9 @@ module _ (k : Keeping) (timeout limit : ℕ) where
   unfolding answered
   first-settings e = rw e
 
-module _ (keeper : Keeper) (table : List ℕ) (k : Kept keeper table) (timeout limit at : ℕ) where
-  pub begins-twice : keeper .begun ≡ true → Says (answered (keepingIn keeper table) (line.Settings timeout limit)) at (keeper .count) table answer.Ended table
+module _ {keeper : Keeper} {table : List ℕ} (k : Kept keeper table) (timeout limit at : ℕ) where
+  pub begins-twice : keeper .begun ≡ true
+      → Says (answered (keepingIn keeper table) (line.Settings timeout limit)) at (keeper .count) table answer.Ended table
   unfolding keepingIn
   begins-twice e = says-ended _ at (keeper .count) table (second-settings (keepingIn keeper table) timeout limit e)
 
@@ -101,12 +114,11 @@ module _ (keeper : Keeper) (table : List ℕ) (k : Kept keeper table) (timeout l
       let next : Keeping = begunWith (keepingIn keeper table) timeout limit in
       let p : next .pending ≡ [] = none in
       let same : table ≡ holding (keeper .count) (next .pending) table = sym (holding-same (keeper .count) table (omega (arith, k .room)) f) in
-      let fit : All (Fits (next .settings) (next .clock)) (next .pending) = rw p tt in
-      let rise : RisingIds (idsOf (next .pending)) = kept-rise keeper table k in
+      let good : Good next = record { fit = rw p tt; rise = kept-rise k; begun = refl; limit = m; clock = c } in
       let l : keeper .count ≡ length (next .pending) = n ∙ sym (ap length p) in
       says-goes _ next [] at (keeper .count) table _ at table (first-settings (keepingIn keeper table) timeout limit e)
-      (ap (λ (count : ℕ). record { begun = true; settings = valuesOf (timed timeout limit); clock = keeper .clock; count = count }) l) (sym (add-zero at)) same
-      (holds-next keeper table k next fit rise refl m c table same)
+      (ap (λ (count : ℕ). record { begun = true; settings = valuesOf (timed timeout limit); clock = keeper .clock; count = count }) l)
+      (sym (add-zero at)) same (holds-next k good same)
 
 -- ---- lines with a clock
 
@@ -115,7 +127,8 @@ module _ (k : Keeping) (clock : ℕ) where
   unfolding answered
   request-ends peer typeId byte e = rw e
 
-  request-goes : (peer typeId byte : ℕ) → inOrder k clock ≡ true → answered k (line.Request clock peer typeId byte) ≡ goes (afterRequest k clock peer typeId byte) []
+  request-goes : (peer typeId byte : ℕ) → inOrder k clock ≡ true
+      → answered k (line.Request clock peer typeId byte) ≡ goes (afterRequest k clock peer typeId byte) []
   unfolding answered
   request-goes peer typeId byte e = rw e
 
@@ -127,137 +140,153 @@ module _ (k : Keeping) (clock : ℕ) where
   unfolding answered
   check-goes e = rw e
 
-module _ (keeper : Keeper) (table : List ℕ) (clock at : ℕ) where
-  out-of-order : keeper .begun && leb (keeper .clock) clock ≡ false → inOrder (keepingIn keeper table) clock ≡ false
+module _ (keeper : Keeper) (table : List ℕ) (clock at : ℕ) (late : keeper .begun && leb (keeper .clock) clock ≡ false) where
+  out-of-order : inOrder (keepingIn keeper table) clock ≡ false
   unfolding inOrder keepingIn
-  out-of-order e = e
+  out-of-order = late
 
-  in-order : keeper .begun && leb (keeper .clock) clock ≡ true → inOrder (keepingIn keeper table) clock ≡ true
-  unfolding inOrder keepingIn
-  in-order e = e
-
-  pub refuses-request : (peer typeId byte : ℕ) → keeper .begun && leb (keeper .clock) clock ≡ false
+  pub refuses-request : (peer typeId byte : ℕ)
       → Says (answered (keepingIn keeper table) (line.Request clock peer typeId byte)) at (keeper .count) table answer.Ended table
-  refuses-request peer typeId byte e = says-ended _ at (keeper .count) table (request-ends (keepingIn keeper table) clock peer typeId byte (out-of-order e))
+  refuses-request peer typeId byte =
+      says-ended _ at (keeper .count) table (request-ends (keepingIn keeper table) clock peer typeId byte out-of-order)
 
-  pub refuses-check : keeper .begun && leb (keeper .clock) clock ≡ false
-      → Says (answered (keepingIn keeper table) (line.Check clock)) at (keeper .count) table answer.Ended table
-  refuses-check e = says-ended _ at (keeper .count) table (check-ends (keepingIn keeper table) clock (out-of-order e))
+  pub refuses-check : (out : List ℕ) → Told (answered (keepingIn keeper table) (line.Check clock)) at (keeper .count) table out answer.Ended table out
+  refuses-check out = rw (check-ends (keepingIn keeper table) clock out-of-order) (refl, (refl, (sym (overwritten-nil at out), tt)))
 
-  -- what stays unprinted
-  pub refused-bytes : (out : List ℕ) → keeper .begun && leb (keeper .clock) clock ≡ false → out ≡ overwritten at (bytesOf (answered (keepingIn keeper table) (line.Check clock))) out
-  refused-bytes out e = rw (check-ends (keepingIn keeper table) clock (out-of-order e)) (sym (overwritten-nil at out))
+-- A line with a clock comes in order, and its values are within their types.
+pub record InTime (keeper : Keeper) (table : List ℕ) (clock : ℕ) : Type 0 where
+  pub kept : Kept keeper table
+  pub ok : keeper .begun && leb (keeper .clock) clock ≡ true
+  pub clock-fits : clock < 2 ^ 64
+  pub checks-fit : keeper .settings .checks < 2 ^ 32
 
-  module _ (k : Kept keeper table) (ok : keeper .begun && leb (keeper .clock) clock ≡ true) where
-    begun : keeper .begun ≡ true
-    begun = and-left (keeper .begun) (leb (keeper .clock) clock) ok
+module _ {keeper : Keeper} {table : List ℕ} {clock : ℕ} (t : InTime keeper table clock) where
+  begun : keeper .begun ≡ true
+  begun = and-left (keeper .begun) (leb (keeper .clock) clock) (t .ok)
 
-    later : keeper .clock ≤ clock
-    later = leb-true (keeper .clock) clock (and-right (keeper .begun) (leb (keeper .clock) clock) ok)
+  in-order : inOrder (keepingIn keeper table) clock ≡ true
+  unfolding inOrder keepingIn
+  in-order = t .ok
 
-    pub fit-now : All (Fits (settingsOf (keeper .settings)) clock) (requestsIn (keeper .count) table)
-    fit-now = fits-later (settingsOf (keeper .settings)) clock (keeper .clock) later (requestsIn (keeper .count) table) (k .requests)
+  pub fit-now : All (Fits (settingsOf (keeper .settings)) clock) (requestsIn (keeper .count) table)
+  fit-now =
+      let later : keeper .clock ≤ clock = leb-true (keeper .clock) clock (and-right (keeper .begun) (leb (keeper .clock) clock) (t .ok)) in
+      fits-later (settingsOf (keeper .settings)) clock (keeper .clock) later (requestsIn (keeper .count) table) (t .kept .requests)
 
-    -- ---- `q`
+-- ---- `q`
 
-    module _ (peer typeId byte : ℕ) (hc : clock < 2 ^ 64) (hm : keeper .settings .checks < 2 ^ 32) (hp : peer < 2 ^ 64) (ht : typeId < 2 ^ 8) (hb : byte < 256) where
-      next : Keeping
-      next = afterRequest (keepingIn keeper table) clock peer typeId byte
+-- A request in order, its values within their types.
+pub record Asked (keeper : Keeper) (table : List ℕ) (clock peer typeId byte : ℕ) : Type 0 where
+  pub in-time : InTime keeper table clock
+  pub peer-fits : peer < 2 ^ 64
+  pub type-fits : typeId < 2 ^ 8
+  pub byte-fits : byte < 256
 
-      done : model.Done
-      done = perform true clock (ask typeId peer [] (idOf byte ∷ [])) (requestsIn (keeper .count) table)
+module _ {keeper : Keeper} {table : List ℕ} {clock peer typeId byte : ℕ} (q : Asked keeper table clock peer typeId byte) where
+  next : Keeping
+  next = afterRequest (keepingIn keeper table) clock peer typeId byte
 
-      next-fits : All (Fits (next .settings) (next .clock)) (next .pending)
-      unfolding next afterRequest pendingAfterRequest keepingIn
-      next-fits = fits-wanted (settingsOf (keeper .settings)) clock typeId peer ht hp [] (idOf byte ∷ []) (requestsIn (keeper .count) table) (id-one byte hb, tt) fit-now
+  done : model.Done
+  done = perform true clock (ask typeId peer [] (idOf byte ∷ [])) (requestsIn (keeper .count) table)
 
-      next-rises : RisingIds (idsOf (next .pending))
-      unfolding next afterRequest pendingAfterRequest keepingIn
-      next-rises = rising-requested clock typeId peer (wanted (requestsIn (keeper .count) table) typeId [] (idOf byte ∷ [])) (requestsIn (keeper .count) table) (kept-rise keeper table k)
+  next-good : Good next
+  unfolding next afterRequest pendingAfterRequest keepingIn settingsOf
+  next-good =
+      let rs : List Request = requestsIn (keeper .count) table in
+      record {
+        fit =
+            fits-wanted (settingsOf (keeper .settings)) clock typeId peer (q .type-fits) (q .peer-fits) [] (idOf byte ∷ []) rs
+            (id-one byte (q .byte-fits), tt) (fit-now (q .in-time));
+        rise = rising-requested clock typeId peer (wanted rs typeId [] (idOf byte ∷ [])) rs (kept-rise (q .in-time .kept));
+        begun = begun (q .in-time);
+        limit = q .in-time .checks-fit;
+        clock = q .in-time .clock-fits;
+      }
 
-      next-begun : next .begun ≡ true
-      unfolding next afterRequest keepingIn
-      next-begun = begun
+  done-few : leb (length (done .pending)) trackedLimit ≡ true
+  unfolding done next afterRequest pendingAfterRequest keepingIn
+  done-few = le-leb (length (done .pending)) trackedLimit (omega (arith, next-few (q .in-time .kept) next-good))
 
-      next-limit : next .settings .maxChecks < 2 ^ 32
-      unfolding next afterRequest keepingIn settingsOf
-      next-limit = hm
+  -- rule 3 on the lists lent: nothing stored, the id alone
+  module _ (stored ids : List ℕ) (hs : stored ≡ []) (hi : ids ≡ idOf byte) where
+    abbrev performed : model.Done
+    performed = perform true clock (ask typeId peer (pairsIn stored) (idsIn ids)) (requestsIn (keeper .count) table)
 
-      next-clock : next .clock < 2 ^ 64
-      unfolding next afterRequest
-      next-clock = hc
+    as-done : performed ≡ done
+    unfolding done pairsIn idsIn idOf
+    as-done = rw (hs, hi)
 
-      done-few : leb (length (done .pending)) trackedLimit ≡ true
-      unfolding done next afterRequest pendingAfterRequest keepingIn
-      done-few = le-leb (length (done .pending)) trackedLimit (omega (arith, next-few keeper table k next next-fits next-rises next-begun next-limit next-clock))
+    pub never-full : {got : Requested} → got ≡ Full → got ≡ requestedAs trackedLimit 0 0 performed → ⊥
+    never-full g h =
+        let over = requested-full trackedLimit 0 0 done (sym g ∙ h ∙ ap (requestedAs trackedLimit 0 0) as-done) in
+        false≢true (sym over ∙ done-few)
 
-      module _ (stored ids : List ℕ) (hs : stored ≡ []) (hi : ids ≡ idOf byte) where
-        as-done : perform true clock (ask typeId peer (pairsIn stored) (idsIn ids)) (requestsIn (keeper .count) table) ≡ done
-        unfolding done pairsIn idsIn idOf
-        as-done = rw (hs, hi)
+    pub requests : (at : ℕ) {got : Requested} {w : Written} {table′ : List ℕ} → got ≡ Done w → got ≡ requestedAs trackedLimit 0 0 performed
+        → table′ ≡ heldWithin trackedLimit (keeper .count) (performed .pending) table
+        → Says (answered (keepingIn keeper table) (line.Request clock peer typeId byte)) at (keeper .count) table
+        (answer.Next (record { begun = true; settings = keeper .settings; clock = clock; count = w .count }) at) table′
+    unfolding next afterRequest pendingAfterRequest keepingIn settingsOf done
+    requests at {w = w} {table′ = table′} g h e =
+        let d = requested-done trackedLimit 0 0 done w (sym g ∙ h ∙ ap (requestedAs trackedLimit 0 0) as-done) in
+        let held : table′ ≡ holding (keeper .count) (next .pending) table =
+        e ∙ ap (λ (x : model.Done). heldWithin trackedLimit (keeper .count) (x .pending) table) as-done
+        ∙ few-held trackedLimit (keeper .count) (done .pending) table done-few in
+        says-goes _ next [] at (keeper .count) table _ at table′ (request-goes (keepingIn keeper table) clock peer typeId byte (in-order (q .in-time)))
+        (ap (λ (b : Bool). record { begun = b; settings = keeper .settings; clock = clock; count = w .count }) (sym (begun (q .in-time)))
+        ∙ ap (λ (n : ℕ). record { begun = keeper .begun; settings = keeper .settings; clock = clock; count = n }) (d .1 .0))
+        (sym (add-zero at)) held
+        (holds-next (q .in-time .kept) next-good held)
 
-        pub never-full : (got : Requested) → got ≡ Full → got ≡ requestedAs trackedLimit 0 0 (perform true clock (ask typeId peer (pairsIn stored) (idsIn ids)) (requestsIn (keeper .count) table)) → ⊥
-        never-full got g h = false≢true (sym (requested-full trackedLimit 0 0 done (sym g ∙ h ∙ ap (requestedAs trackedLimit 0 0) as-done)) ∙ done-few)
+-- ---- `c`
 
-        pub requests : (got : Requested) (w : Written) (table′ : List ℕ) → got ≡ Done w → got ≡ requestedAs trackedLimit 0 0 (perform true clock (ask typeId peer (pairsIn stored) (idsIn ids)) (requestsIn (keeper .count) table))
-            → table′ ≡ heldWithin trackedLimit (keeper .count) (perform true clock (ask typeId peer (pairsIn stored) (idsIn ids)) (requestsIn (keeper .count) table) .pending) table
-            → Says (answered (keepingIn keeper table) (line.Request clock peer typeId byte)) at (keeper .count) table
-            (answer.Next (record { begun = true; settings = keeper .settings; clock = clock; count = w .count }) at) table′
-        unfolding next afterRequest pendingAfterRequest keepingIn settingsOf done
-        requests got w table′ g h e =
-            let d = requested-done trackedLimit 0 0 done w (sym g ∙ h ∙ ap (requestedAs trackedLimit 0 0) as-done) in
-            let held : table′ ≡ holding (keeper .count) (next .pending) table =
-            e ∙ ap (λ (x : model.Done). heldWithin trackedLimit (keeper .count) (x .pending) table) as-done ∙ few-held trackedLimit (keeper .count) (done .pending) table done-few in
-            says-goes _ next [] at (keeper .count) table _ at table′ (request-goes (keepingIn keeper table) clock peer typeId byte (in-order ok))
-            (ap (λ (b : Bool). record { begun = b; settings = keeper .settings; clock = clock; count = w .count }) (sym begun)
-            ∙ ap (λ (n : ℕ). record { begun = keeper .begun; settings = keeper .settings; clock = clock; count = n }) (d .1 .0))
-            (sym (add-zero at)) held
-            (holds-next keeper table k next next-fits next-rises next-begun next-limit next-clock table′ held)
+-- the row of a check's counts
+abbrev pub rowOf : ℕ → Checked → List ℕ
+rowOf clock made = row (clock ∷ made .retried ∷ 0 ∷ made .abandoned ∷ made .forgotten ∷ made .pending ∷ [])
 
-    -- ---- `c`
+module _ {keeper : Keeper} {table : List ℕ} {clock : ℕ} (t : InTime keeper table clock) where
+  checked : Keeping
+  checked = afterCheck (keepingIn keeper table) clock
 
-    module _ (hc : clock < 2 ^ 64) (hm : keeper .settings .checks < 2 ^ 32) where
-      checked : Keeping
-      checked = afterCheck (keepingIn keeper table) clock
+  checked-good : Good checked
+  unfolding checked afterCheck keepingIn settingsOf
+  checked-good =
+      let rs : List Request = requestsIn (keeper .count) table in
+      record {
+        fit = fits-checked (settingsOf (keeper .settings)) clock rs (fit-now t);
+        rise = rising-checked (settingsOf (keeper .settings)) clock rs (kept-rise (t .kept));
+        begun = begun t;
+        limit = t .checks-fit;
+        clock = t .clock-fits;
+      }
 
-      checked-fits : All (Fits (checked .settings) (checked .clock)) (checked .pending)
-      unfolding checked afterCheck keepingIn
-      checked-fits = fits-checked (settingsOf (keeper .settings)) clock (requestsIn (keeper .count) table) fit-now
+  module _ {made : Checked} (em : made ≡ checkedAs (settingsOf (keeper .settings)) clock (requestsIn (keeper .count) table)) where
+    row-is : rowOf clock made ≡ checkRow (keepingIn keeper table) clock
+    unfolding checkRow judgedCount keepingIn checkedAs
+    row-is = rw em
 
-      checked-rises : RisingIds (idsOf (checked .pending))
-      unfolding checked afterCheck keepingIn
-      checked-rises = rising-checked (settingsOf (keeper .settings)) clock (requestsIn (keeper .count) table) (kept-rise keeper table k)
+    checked-says : (peers : List ℕ) (at end : ℕ) (table′ : List ℕ)
+        → table′ ≡ holding (keeper .count) (pendingAfterCheck false (settingsOf (keeper .settings)) clock peers (requestsIn (keeper .count) table)) table
+        → end ≡ at + length (rowOf clock made)
+        → Says (answered (keepingIn keeper table) (line.Check clock)) at (keeper .count) table
+        (answer.Next (record { begun = true; settings = keeper .settings; clock = clock; count = made .pending }) end) table′
+    unfolding checked afterCheck keepingIn settingsOf pendingAfterCheck retries checkedAs
+    checked-says peers at end table′ et ee =
+        let held : table′ ≡ holding (keeper .count) (checked .pending) table = et in
+        says-goes _ checked (checkRow (keepingIn keeper table) clock) at (keeper .count) table _ end table′
+        (check-goes (keepingIn keeper table) clock (in-order t))
+        (ap (λ (b : Bool). record { begun = b; settings = keeper .settings; clock = clock; count = made .pending }) (sym (begun t))
+        ∙ ap (λ (n : ℕ). record { begun = keeper .begun; settings = keeper .settings; clock = clock; count = n }) (ap (λ (c : Checked). c .pending) em))
+        (ee ∙ ap (λ (x : List ℕ). at + length x) row-is) held
+        (holds-next (t .kept) checked-good held)
 
-      checked-begun : checked .begun ≡ true
-      unfolding checked afterCheck keepingIn
-      checked-begun = begun
-
-      checked-limit : checked .settings .maxChecks < 2 ^ 32
-      unfolding checked afterCheck keepingIn settingsOf
-      checked-limit = hm
-
-      checked-clock : checked .clock < 2 ^ 64
-      unfolding checked afterCheck
-      checked-clock = hc
-
-      module _ (peers : List ℕ) (made : Checked) (table′ : List ℕ) (em : made ≡ checkedAs (settingsOf (keeper .settings)) clock (requestsIn (keeper .count) table))
-          (et : table′ ≡ holding (keeper .count) (pendingAfterCheck false (settingsOf (keeper .settings)) clock peers (requestsIn (keeper .count) table)) table) where
-        row-is : row (clock ∷ made .retried ∷ 0 ∷ made .abandoned ∷ made .forgotten ∷ made .pending ∷ []) ≡ checkRow (keepingIn keeper table) clock
-        unfolding checkRow judgedCount keepingIn checkedAs
-        row-is = rw em
-
-        pub checks : (end : ℕ) → end ≡ at + length (row (clock ∷ made .retried ∷ 0 ∷ made .abandoned ∷ made .forgotten ∷ made .pending ∷ []))
-            → Says (answered (keepingIn keeper table) (line.Check clock)) at (keeper .count) table
-            (answer.Next (record { begun = true; settings = keeper .settings; clock = clock; count = made .pending }) end) table′
-        unfolding checked afterCheck keepingIn settingsOf pendingAfterCheck retries checkedAs
-        checks end ee =
-            let held : table′ ≡ holding (keeper .count) (checked .pending) table = et in
-            says-goes _ checked (checkRow (keepingIn keeper table) clock) at (keeper .count) table _ end table′ (check-goes (keepingIn keeper table) clock (in-order ok))
-            (ap (λ (b : Bool). record { begun = b; settings = keeper .settings; clock = clock; count = made .pending }) (sym begun)
-            ∙ ap (λ (n : ℕ). record { begun = keeper .begun; settings = keeper .settings; clock = clock; count = n }) (ap (λ (c : Checked). c .pending) em))
-            (ee ∙ ap (λ (x : List ℕ). at + length x) row-is) held
-            (holds-next keeper table k checked checked-fits checked-rises checked-begun checked-limit checked-clock table′ held)
-
-        pub checked-bytes : (out out′ : List ℕ) → out′ ≡ overwritten at (row (clock ∷ made .retried ∷ 0 ∷ made .abandoned ∷ made .forgotten ∷ made .pending ∷ [])) out
-            → out′ ≡ overwritten at (bytesOf (answered (keepingIn keeper table) (line.Check clock))) out
-        checked-bytes out out′ e = rw (check-goes (keepingIn keeper table) clock (in-order ok)) (e ∙ ap (λ (x : List ℕ). overwritten at x out) row-is)
+    -- the table checked, and the row put
+    pub checks : (peers : List ℕ) (at end : ℕ) (table′ out out′ : List ℕ)
+        → table′ ≡ holding (keeper .count) (pendingAfterCheck false (settingsOf (keeper .settings)) clock peers (requestsIn (keeper .count) table)) table
+        → (out′ ≡ overwritten at (rowOf clock made) out) × (end ≡ at + length (rowOf clock made))
+        → Told (answered (keepingIn keeper table) (line.Check clock)) at (keeper .count) table out
+        (answer.Next (record { begun = true; settings = keeper .settings; clock = clock; count = made .pending }) end) table′ out′
+    checks peers at end table′ out out′ et put =
+        let says = checked-says peers at end table′ et (put .1) in
+        let bytes = put .0 ∙ ap (λ (x : List ℕ). overwritten at x out) row-is in
+        let goes-on = check-goes (keepingIn keeper table) clock (in-order t) in
+        (says .0, (says .1 .0, (bytes ∙ ap (λ (x : Step). overwritten at (bytesOf x) out) (sym goes-on), says .1 .1)))

@@ -19,8 +19,9 @@ use Rattle.keeper_lines.specs.declared.lines.Line.the-variants as line
 use Rattle.keeper_lines.proofs.FieldLaws.{too-short, line-taken, length-upTo, take-upTo}
 use Rattle.keeper_text.specs.Keeping.{Keeping, Step, ended, goes, timed, atFirst, inOrder, begunWith, afterRequest, afterCheck, checkRow, answered}
 use Rattle.keeper_text.specs.Printed.{linesOf, printing, printedFrom, printed}
-use Rattle.keeper_text.specs.Kept.{keepingIn, Kept, keeperOf, answerAs, bytesOf, Holds}
+use Rattle.keeper_text.specs.Kept.{keepingIn, Kept, keeperOf, answerAs, bytesOf}
 use Rattle.keeper_text.specs.Progress.{Prints}
+use Rattle.keeper_text.proofs.LineLaws.{Told}
 use Rattle.keeper_text.specs.declared.keeping.Keeper.{Keeper}
 use Rattle.keeper_text.specs.declared.printing.Progress.{Progress}
 use Rattle.keeper_text.specs.declared.keeping.Answer.{Answer}
@@ -32,11 +33,13 @@ use Rattle.model.specs.Layout.{tableSize}
 -- ---- lines of a text
 
 -- up to the first line feed
-pub lines-next : (bytes more : List ℕ) → length (upTo 10 bytes) < length bytes → linesOf (bytes ++ more) ≡ upTo 10 bytes ∷ linesOf (drop (suc (length (upTo 10 bytes))) bytes ++ more)
+pub lines-next : (bytes more : List ℕ) → length (upTo 10 bytes) < length bytes
+    → linesOf (bytes ++ more) ≡ upTo 10 bytes ∷ linesOf (drop (suc (length (upTo 10 bytes))) bytes ++ more)
 lines-next [] more h = absurd (lt-irrefl 0 h)
 lines-next (b ∷ bs) more h = go (eqb b 10) (lines-next bs more) h
   where
-    go : (t : Bool) → (length (upTo 10 bs) < length bs → linesOf (bs ++ more) ≡ upTo 10 bs ∷ linesOf (drop (suc (length (upTo 10 bs))) bs ++ more))
+    go : (t : Bool)
+        → (length (upTo 10 bs) < length bs → linesOf (bs ++ more) ≡ upTo 10 bs ∷ linesOf (drop (suc (length (upTo 10 bs))) bs ++ more))
         → length (cond t [] (b ∷ upTo 10 bs)) < suc (length bs)
         → cond t ([] ∷ linesOf (bs ++ more)) (ontoFirst b (linesOf (bs ++ more)))
         ≡ cond t [] (b ∷ upTo 10 bs) ∷ linesOf (drop (suc (length (cond t [] (b ∷ upTo 10 bs)))) (b ∷ bs) ++ more)
@@ -53,7 +56,8 @@ lines-last (b ∷ []) h e = go (eqb b 10) (ap length e)
     go false l = refl
 lines-last (b ∷ (d ∷ bs)) h e = go (eqb b 10) (ap length e) (lines-last (d ∷ bs) (omega arith))
   where
-    go : (t : Bool) → length (cond t [] (b ∷ upTo 10 (d ∷ bs))) ≡ suc (suc (length bs)) → (upTo 10 (d ∷ bs) ≡ d ∷ bs → linesOf (d ∷ bs) ≡ (d ∷ bs) ∷ [])
+    go : (t : Bool) → length (cond t [] (b ∷ upTo 10 (d ∷ bs))) ≡ suc (suc (length bs))
+        → (upTo 10 (d ∷ bs) ≡ d ∷ bs → linesOf (d ∷ bs) ≡ (d ∷ bs) ∷ [])
         → cond t ([] ∷ linesOf (d ∷ bs)) (ontoFirst b (linesOf (d ∷ bs))) ≡ (b ∷ (d ∷ bs)) ∷ []
     go true l r = absurd (lt-irrefl 0 (omega arith))
     go false l r =
@@ -74,7 +78,8 @@ Few step = length (bytesOf step) ≤ 126
 pub bytes-few : (k : Keeping) (l : Line) → length (bytesOf (answered k l)) ≤ 126
 unfolding answered
 bytes-few k (line.Settings timeout limit) = either Few (k .begun) ended (goes (begunWith k timeout limit) []) (omega arith) (omega arith)
-bytes-few k (line.Request clock peer typeId byte) = either Few (inOrder k clock) (goes (afterRequest k clock peer typeId byte) []) ended (omega arith) (omega arith)
+bytes-few k (line.Request clock peer typeId byte) =
+    either Few (inOrder k clock) (goes (afterRequest k clock peer typeId byte) []) ended (omega arith) (omega arith)
 bytes-few k (line.Check clock) = either Few (inOrder k clock) (goes (afterCheck k clock) (checkRow k clock)) ended (check-few k clock) (omega arith)
 bytes-few k line.Other = omega arith
 
@@ -113,153 +118,179 @@ goes-long k (b ∷ (d ∷ bytes)) next said h = omega arith
 
 -- the lines before `from` are answered, the next one ends at `end`
 pub record Running (k : Keeping) (text out₀ table out : List ℕ) (keeper : Keeper) (from at end : ℕ) : Type 0 where
+  pub room : length text * 42 + 126 ≤ length out₀
   pub kept : Kept keeper table
   pub inside : from ≤ length text
   pub place : at ≤ from * 42
   pub next : end ≡ from + length (nextLine (drop from text))
   pub long : length out ≡ length out₀
   pub stay : out ≡ overwritten 0 (take at out) out₀
-  pub prints : (more : List ℕ) → printedFrom k (linesOf (text ++ more)) ≡ take at out ++ printedFrom (keepingIn keeper table) (linesOf (drop from text ++ more))
+  pub prints : (more : List ℕ) → printedFrom k (linesOf (text ++ more))
+      ≡ take at out ++ printedFrom (keepingIn keeper table) (linesOf (drop from text ++ more))
 
-module _ (text out₀ : List ℕ) (room : length text * 42 + 126 ≤ length out₀) where
-  pub run-starts : (keeper : Keeper) (table : List ℕ) (end : ℕ) → Kept keeper table → end ≡ 0 + length (nextLine (drop 0 text)) → Running (keepingIn keeper table) text out₀ table out₀ keeper 0 0 end
-  run-starts keeper table end k e =
-      record { kept = k; inside = omega arith; place = omega arith; next = e; long = refl; stay = sym (overwritten-nil 0 out₀); prints = λ more. refl }
+pub run-starts : (text out₀ : List ℕ) (keeper : Keeper) (table : List ℕ) (end : ℕ) → length text * 42 + 126 ≤ length out₀ → Kept keeper table
+    → end ≡ 0 + length (nextLine (drop 0 text)) → Running (keepingIn keeper table) text out₀ table out₀ keeper 0 0 end
+run-starts text out₀ keeper table end room k e = record {
+  room = room;
+  kept = k;
+  inside = omega arith;
+  place = omega arith;
+  next = e;
+  long = refl;
+  stay = sym (overwritten-nil 0 out₀);
+  prints = λ more. refl;
+}
 
-  module _ (k : Keeping) (table out : List ℕ) (keeper : Keeper) (from at end : ℕ) (s : Running k text out₀ table out keeper from at end) where
-    pub run-room : at + 126 ≤ length out
-    run-room = omega (arith, s .place, s .inside, s .long)
+module _ {k : Keeping} {text out₀ table out : List ℕ} {keeper : Keeper} {from at end : ℕ} (s : Running k text out₀ table out keeper from at end) where
+  pub run-room : at + 126 ≤ length out
+  run-room = omega (arith, s .place, s .inside, s .long, s .room)
 
-    -- the text is used up but for a line without its line feed
-    pub run-ends : length text ≤ end → Prints k text out₀ (record { keeper = keeper; used = from; written = at; ended = false }) table out
-    run-ends h =
-        let rest : List ℕ = drop from text in
-        let l : length rest ≡ length text - from = length-drop from text in
-        let u : length (upTo 10 rest) ≤ length rest = length-upTo 10 rest in
+  -- the text is used up but for a line without its line feed
+  pub run-ends : length text ≤ end → Prints k text out₀ (record { keeper = keeper; used = from; written = at; ended = false }) table out
+  run-ends h =
+      let rest : List ℕ = drop from text in
+      let l : length rest ≡ length text - from = length-drop from text in
+      let u : length (upTo 10 rest) ≤ length rest = length-upTo 10 rest in
+      record {
+        prints = s .prints;
+        whole = λ e. sym (take-upTo 10 rest) ∙ take-all (length (upTo 10 rest)) rest (omega (arith, s .next, s .inside));
+        within = s .inside;
+        place = run-room;
+        stay = s .stay;
+        kept = λ e. s .kept;
+      }
+
+  module _ (more-left : end < length text) where
+    abbrev pub here : List ℕ
+    here = take (end - from) (drop from text)
+
+    abbrev pub step : Step
+    step = answered (keepingIn keeper table) (lineOf here)
+
+    this-line : take (end - from) (drop from text) ≡ upTo 10 (drop from text)
+    this-line = rw (s .next) (line-taken 10 from text)
+
+    lines-here : (more : List ℕ) → linesOf (drop from text ++ more) ≡ here ∷ linesOf (drop (end + 1) text ++ more)
+    lines-here more =
+        let l : length (drop from text) ≡ length text - from = length-drop from text in
+        let n : from + suc (length (upTo 10 (drop from text))) ≡ end + 1 = omega (arith, s .next) in
+        let d : drop (suc (length (upTo 10 (drop from text)))) (drop from text) ≡ drop (end + 1) text =
+        drop-drop (suc (length (upTo 10 (drop from text)))) from text ∙ ap (λ (m : ℕ). drop m text) n in
+        lines-next (drop from text) more (omega (arith, s .next))
+        ∙ ap (λ (bytes : List ℕ). upTo 10 (drop from text) ∷ linesOf (bytes ++ more)) d
+        ∙ ap (λ (bytes : List ℕ). bytes ∷ linesOf (drop (end + 1) text ++ more)) (sym this-line)
+
+    -- what the lines behind this one print
+    abbrev others : List ℕ → Keeping → List ℕ
+    others more n = printedFrom n (linesOf (drop (end + 1) text ++ more))
+
+    prints-here : (more : List ℕ) → printedFrom k (linesOf (text ++ more)) ≡ take at out ++ printing step (others more)
+    prints-here more = s .prints more ∙ ap (λ (ls : List (List ℕ)). take at out ++ printedFrom (keepingIn keeper table) ls) (lines-here more)
+
+    -- a line ends it
+    pub run-stops : {made : Answer} {table′ out′ : List ℕ} → made ≡ answer.Ended → Told step at (keeper .count) table out made table′ out′
+        → Prints k text out₀ (record { keeper = keeper; used = from; written = at; ended = true }) table′ out′
+    run-stops g m =
+        let z : step ≡ ended = ended-means at step (sym g ∙ m .0) in
+        let o : _ ≡ out = m .1 .1 .0 ∙ ap (λ (x : Step). overwritten at (bytesOf x) out) z ∙ overwritten-nil at out in
         record {
-          prints = s .prints;
-          whole = λ e. sym (take-upTo 10 rest) ∙ take-all (length (upTo 10 rest)) rest (omega (arith, s .next, s .inside));
+          prints =
+              λ more. prints-here more
+              ∙ ap (λ (x : Step). take at out ++ printing x (others more)) z
+              ∙ ap (λ (x : List ℕ). take at x ++ []) (sym o);
+          whole = λ f. absurd (false≢true (sym f));
           within = s .inside;
-          place = run-room;
-          stay = s .stay;
-          kept = λ e. s .kept;
+          place = omega (arith, run-room, ap length o);
+          stay = o ∙ s .stay ∙ ap (λ (x : List ℕ). overwritten 0 (take at x) out₀) (sym o);
+          kept = λ f. absurd (false≢true (sym f));
         }
 
-    module _ (more-left : end < length text) where
-      abbrev pub here : List ℕ
-      here = take (end - from) (drop from text)
+    module _ {made : Answer} {next : Keeper} {place : ℕ} {table′ out′ : List ℕ}
+        (told : made ≡ answer.Next next place) (m : Told step at (keeper .count) table out made table′ out′) where
+      means : (step ≡ goes (nextOf step) (bytesOf step)) × ((next ≡ keeperOf (nextOf step)) × (place ≡ at + length (bytesOf step)))
+      means = next-means at next place step (sym told ∙ m .0)
 
-      abbrev pub step : Step
-      step = answered (keepingIn keeper table) (lineOf here)
+      kept-next : Kept (keeperOf (nextOf step)) table′ × (keepingIn (keeperOf (nextOf step)) table′ ≡ nextOf step)
+      kept-next = rw (means .0) at (m .1 .1 .1)
 
-      this-line : take (end - from) (drop from text) ≡ upTo 10 (drop from text)
-      this-line = rw (s .next) (line-taken 10 from text)
+      few : length (bytesOf step) ≤ 126
+      few = bytes-few (keepingIn keeper table) (lineOf here)
 
-      lines-here : (more : List ℕ) → linesOf (drop from text ++ more) ≡ here ∷ linesOf (drop (end + 1) text ++ more)
-      lines-here more =
-          let l : length (drop from text) ≡ length text - from = length-drop from text in
-          let n : from + suc (length (upTo 10 (drop from text))) ≡ end + 1 = omega (arith, s .next) in
-          let d : drop (suc (length (upTo 10 (drop from text)))) (drop from text) ≡ drop (end + 1) text =
-          drop-drop (suc (length (upTo 10 (drop from text)))) from text ∙ ap (λ (m : ℕ). drop m text) n in
-          lines-next (drop from text) more (omega (arith, s .next))
-          ∙ ap (λ (bytes : List ℕ). upTo 10 (drop from text) ∷ linesOf (bytes ++ more)) d
-          ∙ ap (λ (bytes : List ℕ). bytes ∷ linesOf (drop (end + 1) text ++ more)) (sym this-line)
+      long-line : 2 ≤ length here
+      long-line = goes-long (keepingIn keeper table) here (nextOf step) (bytesOf step) (means .0)
 
-      prints-here : (more : List ℕ) → printedFrom k (linesOf (text ++ more)) ≡ take at out ++ printing step (λ (n : Keeping). printedFrom n (linesOf (drop (end + 1) text ++ more)))
-      prints-here more = s .prints more ∙ ap (λ (ls : List (List ℕ)). take at out ++ printedFrom (keepingIn keeper table) ls) (lines-here more)
+      far : end ≡ from + length here
+      far = s .next ∙ ap (λ (bytes : List ℕ). from + length bytes) (sym this-line)
 
-      -- a line ends it
-      pub run-stops : (made : Answer) (table′ out′ : List ℕ) → made ≡ answer.Ended → made ≡ answerAs at step → out′ ≡ overwritten at (bytesOf step) out
-          → Prints k text out₀ (record { keeper = keeper; used = from; written = at; ended = true }) table′ out′
-      run-stops made table′ out′ g h e =
-          let z : step ≡ ended = ended-means at step (sym g ∙ h) in
-          let o : out′ ≡ out = e ∙ ap (λ (x : Step). overwritten at (bytesOf x) out) z ∙ overwritten-nil at out in
+      out-long : length out′ ≡ length out
+      out-long = ap length (m .1 .1 .0) ∙ length-overwritten at (bytesOf step) out (omega (arith, run-room, few))
+
+      front : take place out′ ≡ take at out ++ bytesOf step
+      unfolding overwritten
+      front =
+          let p : place ≡ at + length (bytesOf step) = means .1 .1 in
+          let l : length (take at out) ≡ at = length-take-le at out (omega (arith, run-room)) in
+          let lb : length (take at out ++ bytesOf step) ≡ place = length-append (take at out) (bytesOf step) ∙ rw l (sym p) in
+          let behind : List ℕ = drop (at + length (bytesOf step)) out in
+          let a : out′ ≡ (take at out ++ bytesOf step) ++ behind = m .1 .1 .0 ∙ sym (append-assoc (take at out) (bytesOf step) behind) in
+          ap (take place) a ∙ take-at (take at out ++ bytesOf step) behind place lb
+
+      pub run-turn : {end′ : ℕ} → end′ ≡ end + 1 + length (nextLine (drop (end + 1) text)) → Running k text out₀ table′ out′ next (end + 1) place end′
+      run-turn ee =
+          let l : length (take at out) ≡ at = length-take-le at out (omega (arith, run-room)) in
+          let z : 0 + at ≡ at = omega arith in
+          let wrote : out′ ≡ overwritten (0 + at) (bytesOf step) out = rw z (m .1 .1 .0) in
+          let then-is : keepingIn next table′ ≡ nextOf step = ap (λ (x : Keeper). keepingIn x table′) (means .1 .0) ∙ kept-next .1 in
           record {
+            room = s .room;
+            kept = rw (means .1 .0) (kept-next .0);
+            inside = omega arith;
+            place = omega (arith, means .1 .1, few, long-line, far, s .place);
+            next = ee;
+            long = out-long ∙ s .long;
+            stay =
+                written-next 0 at (take at out) (bytesOf step) out₀ out out′ l (omega (arith, run-room, few, s .long)) (s .stay) wrote
+                ∙ ap (λ (x : List ℕ). overwritten 0 x out₀) (sym front);
             prints =
                 λ more. prints-here more
-                ∙ ap (λ (x : Step). take at out ++ printing x (λ (n : Keeping). printedFrom n (linesOf (drop (end + 1) text ++ more)))) z
-                ∙ ap (λ (x : List ℕ). take at x ++ []) (sym o);
-            whole = λ f. absurd (false≢true (sym f));
-            within = s .inside;
-            place = omega (arith, run-room, ap length o);
-            stay = o ∙ s .stay ∙ ap (λ (x : List ℕ). overwritten 0 (take at x) out₀) (sym o);
-            kept = λ f. absurd (false≢true (sym f));
+                ∙ ap (λ (x : Step). take at out ++ printing x (others more)) (means .0)
+                ∙ sym (append-assoc (take at out) (bytesOf step) (others more (nextOf step)))
+                ∙ ap (λ (x : List ℕ). x ++ others more (nextOf step)) (sym front)
+                ∙ ap (λ (n : Keeping). take place out′ ++ others more n) (sym then-is);
           }
-
-      module _ (made : Answer) (next : Keeper) (place : ℕ) (table′ out′ : List ℕ) (told : made ≡ answer.Next next place) (said : made ≡ answerAs at step) (e : out′ ≡ overwritten at (bytesOf step) out) (holds : Holds step table′) where
-        means : (step ≡ goes (nextOf step) (bytesOf step)) × ((next ≡ keeperOf (nextOf step)) × (place ≡ at + length (bytesOf step)))
-        means = next-means at next place step (sym told ∙ said)
-
-        kept-next : Kept (keeperOf (nextOf step)) table′ × (keepingIn (keeperOf (nextOf step)) table′ ≡ nextOf step)
-        kept-next = rw (means .0) at holds
-
-        few : length (bytesOf step) ≤ 126
-        few = bytes-few (keepingIn keeper table) (lineOf here)
-
-        long-line : 2 ≤ length here
-        long-line = goes-long (keepingIn keeper table) here (nextOf step) (bytesOf step) (means .0)
-
-        far : end ≡ from + length here
-        far = s .next ∙ ap (λ (bytes : List ℕ). from + length bytes) (sym this-line)
-
-        out-long : length out′ ≡ length out
-        out-long = ap length e ∙ length-overwritten at (bytesOf step) out (omega (arith, run-room, few))
-
-        front : take place out′ ≡ take at out ++ bytesOf step
-        unfolding overwritten
-        front =
-            let p : place ≡ at + length (bytesOf step) = means .1 .1 in
-            let l : length (take at out) ≡ at = length-take-le at out (omega (arith, run-room)) in
-            let lb : length (take at out ++ bytesOf step) ≡ place = length-append (take at out) (bytesOf step) ∙ rw l (sym p) in
-            let a : out′ ≡ (take at out ++ bytesOf step) ++ drop (at + length (bytesOf step)) out = e ∙ sym (append-assoc (take at out) (bytesOf step) (drop (at + length (bytesOf step)) out)) in
-            ap (take place) a ∙ take-at (take at out ++ bytesOf step) (drop (at + length (bytesOf step)) out) place lb
-
-        pub run-turn : (end′ : ℕ) → end′ ≡ end + 1 + length (nextLine (drop (end + 1) text)) → Running k text out₀ table′ out′ next (end + 1) place end′
-        run-turn end′ ee =
-            let l : length (take at out) ≡ at = length-take-le at out (omega (arith, run-room)) in
-            record {
-              kept = rw (means .1 .0) (kept-next .0);
-              inside = omega arith;
-              place = omega (arith, means .1 .1, few, long-line, far, s .place);
-              next = ee;
-              long = out-long ∙ s .long;
-              stay =
-                  written-next 0 at (take at out) (bytesOf step) out₀ out out′ l (omega (arith, run-room, few, s .long)) (s .stay) (let z : 0 + at ≡ at = omega arith in rw z e)
-                  ∙ ap (λ (x : List ℕ). overwritten 0 x out₀) (sym front);
-              prints =
-                  λ more. prints-here more
-                  ∙ ap (λ (x : Step). take at out ++ printing x (λ (n : Keeping). printedFrom n (linesOf (drop (end + 1) text ++ more)))) (means .0)
-                  ∙ sym (append-assoc (take at out) (bytesOf step) (printedFrom (nextOf step) (linesOf (drop (end + 1) text ++ more))))
-                  ∙ ap (λ (x : List ℕ). x ++ printedFrom (nextOf step) (linesOf (drop (end + 1) text ++ more))) (sym front)
-                  ∙ ap (λ (n : Keeping). take place out′ ++ printedFrom n (linesOf (drop (end + 1) text ++ more))) (sym (ap (λ (x : Keeper). keepingIn x table′) (means .1 .0) ∙ kept-next .1));
-            }
 
 -- ---- the last line, and a whole input
 
-pub last-prints : (k : Keeping) (text : List ℕ) → 0 < length text → nextLine text ≡ text → printedFrom k (linesOf text) ≡ bytesOf (answered k (lineOf text))
+-- `out′` has what is printed of a text without a line feed, from `at` to `end`
+abbrev pub LastPrinted : Keeping → List ℕ → ℕ → List ℕ → List ℕ → ℕ → Type 0
+LastPrinted k text at out out′ end =
+    (out′ ≡ overwritten at (printedFrom k (linesOf text)) out) × (end ≡ at + length (printedFrom k (linesOf text)))
+
+last-prints : (k : Keeping) (text : List ℕ) → 0 < length text → nextLine text ≡ text
+    → printedFrom k (linesOf text) ≡ bytesOf (answered k (lineOf text))
 last-prints k text h e = ap (printedFrom k) (lines-last text h e) ∙ go (answered k (lineOf text))
   where
     go : (step : Step) → printing step (λ (n : Keeping). []) ≡ bytesOf step
     go ended = refl
     go (goes next bytes) = append-nil bytes
 
-module _ (k : Keeping) (text : List ℕ) (one : nextLine text ≡ text) (at : ℕ) (out out′ : List ℕ) where
-  pub last-none : length text < 1 → (out ≡ overwritten at (printedFrom k (linesOf text)) out) × (at ≡ at + length (printedFrom k (linesOf text)))
-  last-none = go text
-    where
-      go : (t : List ℕ) → length t < 1 → (out ≡ overwritten at (printedFrom k (linesOf t)) out) × (at ≡ at + length (printedFrom k (linesOf t)))
-      go [] h = (sym (overwritten-nil at out), omega arith)
-      go (b ∷ bs) h = absurd (lt-irrefl 0 (omega arith))
+pub last-none : (k : Keeping) (text : List ℕ) (at : ℕ) (out : List ℕ) → length text < 1 → LastPrinted k text at out out at
+last-none k [] at out h = (sym (overwritten-nil at out), omega arith)
+last-none k (b ∷ bs) at out h = absurd (lt-irrefl 0 (omega arith))
 
-  module _ (h : 0 < length text) (e : out′ ≡ overwritten at (bytesOf (answered k (lineOf text))) out) where
-    pub last-ended : (made : Answer) → made ≡ answer.Ended → made ≡ answerAs at (answered k (lineOf text)) → (out′ ≡ overwritten at (printedFrom k (linesOf text)) out) × (at ≡ at + length (printedFrom k (linesOf text)))
-    last-ended made g a =
-        let z : printedFrom k (linesOf text) ≡ [] = last-prints k text h one ∙ ap bytesOf (ended-means at (answered k (lineOf text)) (sym g ∙ a)) in
-        (e ∙ ap (λ (x : List ℕ). overwritten at x out) (sym (last-prints k text h one)), rw z (omega arith))
+module _ (k : Keeping) (text : List ℕ) (one : nextLine text ≡ text) (h : 0 < length text) (at count : ℕ) (table out : List ℕ) where
+  abbrev answer-is : Answer → List ℕ → List ℕ → Type 0
+  answer-is made table′ out′ = Told (answered k (lineOf text)) at count table out made table′ out′
 
-    pub last-next : (made : Answer) (next : Keeper) (place : ℕ) → made ≡ answer.Next next place → made ≡ answerAs at (answered k (lineOf text))
-        → (out′ ≡ overwritten at (printedFrom k (linesOf text)) out) × (place ≡ at + length (printedFrom k (linesOf text)))
-    last-next made next place g a = rw (last-prints k text h one) (e, next-means at next place (answered k (lineOf text)) (sym g ∙ a) .1 .1)
+  pub last-ended : {made : Answer} (table′ out′ : List ℕ) → made ≡ answer.Ended → answer-is made table′ out′ → LastPrinted k text at out out′ at
+  last-ended table′ out′ g m =
+      let none : bytesOf (answered k (lineOf text)) ≡ [] = ap bytesOf (ended-means at (answered k (lineOf text)) (sym g ∙ m .0)) in
+      rw (last-prints k text h one) (m .1 .1 .0, rw none (omega arith))
+
+  pub last-next : {made : Answer} {next : Keeper} {place : ℕ} (table′ out′ : List ℕ) → made ≡ answer.Next next place → answer-is made table′ out′
+      → LastPrinted k text at out out′ place
+  last-next {next = next} {place = place} table′ out′ g m =
+      rw (last-prints k text h one) (m .1 .1 .0, next-means at next place (answered k (lineOf text)) (sym g ∙ m .0) .1 .1)
 
 last-few : (k : Keeping) (text : List ℕ) → nextLine text ≡ text → length (printedFrom k (linesOf text)) ≤ 126
 last-few k [] e = omega arith
@@ -273,43 +304,73 @@ pub first-kept : (keeper : Keeper) (table : List ℕ) → keeper ≡ keeperOf at
 unfolding atFirst rising
 first-kept keeper table e h = rw e (record { room = h; none = λ b. refl; order = refl; requests = tt })
 
-module _ (text out : List ℕ) (keeper : Keeper) (table₀ : List ℕ) (first : keeper ≡ keeperOf atFirst) (r : Progress) (table out₁ : List ℕ) (p : Prints (keepingIn keeper table₀) text out r table out₁) (long : length out₁ ≡ length out) where
-  so-far : printed text ≡ take (r .written) out₁ ++ cond (r .ended) [] (printedFrom (keepingIn (r .keeper) table) (linesOf (drop (r .used) text)))
+-- All lines of an input are answered but for a last one without its line feed, or up to one that ended the program.
+pub record Read (text out : List ℕ) (r : Progress) (table out₁ : List ℕ) : Type 0 where
+  pub prints : Prints atFirst text out r table out₁
+  pub long : length out₁ ≡ length out
+
+pub read-from-start : (keeper : Keeper) (table₀ : List ℕ) {text out : List ℕ} {r : Progress} {table out₁ : List ℕ} → keeper ≡ keeperOf atFirst
+    → Prints (keepingIn keeper table₀) text out r table out₁ → length out₁ ≡ length out → Read text out r table out₁
+read-from-start keeper table₀ first p long =
+    let start : keepingIn keeper table₀ ≡ atFirst = ap (λ (x : Keeper). keepingIn x table₀) first ∙ first-is table₀ in
+    record { prints = rw start at p; long = long }
+
+-- what is printed of a whole input stands in `out₂` up to `end`
+abbrev pub AllPrinted : List ℕ → List ℕ → List ℕ → ℕ → Type 0
+AllPrinted text out out₂ end = (out₂ ≡ overwritten 0 (printed text) out) × ((end ≡ length (printed text)) × (end ≤ length out₂))
+
+module _ {text out : List ℕ} {r : Progress} {table out₁ : List ℕ} (a : Read text out r table out₁) where
+  p : Prints atFirst text out r table out₁
+  p = a .prints
+
+  abbrev done : List ℕ
+  done = take (r .written) out₁
+
+  -- what the text left will print
+  abbrev then-prints : List ℕ → List ℕ
+  then-prints left = printedFrom (keepingIn (r .keeper) table) (linesOf left)
+
+  so-far : printed text ≡ done ++ cond (r .ended) [] (then-prints (drop (r .used) text))
   unfolding printed
   so-far =
-      ap (λ (n : Keeping). printedFrom n (linesOf text)) (sym (ap (λ (x : Keeper). keepingIn x table₀) first ∙ first-is table₀))
-      ∙ ap (λ (t : List ℕ). printedFrom (keepingIn keeper table₀) (linesOf t)) (sym (append-nil text))
+      ap (λ (t : List ℕ). printedFrom atFirst (linesOf t)) (sym (append-nil text))
       ∙ p .prints []
-      ∙ ap (λ (t : List ℕ). take (r .written) out₁ ++ cond (r .ended) [] (printedFrom (keepingIn (r .keeper) table) (linesOf t))) (append-nil (drop (r .used) text))
+      ∙ ap (λ (t : List ℕ). done ++ cond (r .ended) [] (then-prints t)) (append-nil (drop (r .used) text))
 
-  written-long : length (take (r .written) out₁) ≡ r .written
+  written-long : length done ≡ r .written
   written-long = length-take-le (r .written) out₁ (omega (arith, p .place))
 
-  pub all-stopped : r .ended ≡ true → (out₁ ≡ overwritten 0 (printed text) out) × ((r .written ≡ length (printed text)) × (r .written ≤ length out₁))
+  pub all-stopped : r .ended ≡ true → AllPrinted text out out₁ (r .written)
   all-stopped e =
-      let w : printed text ≡ take (r .written) out₁ = so-far ∙ ap (λ (b : Bool). take (r .written) out₁ ++ cond b [] (printedFrom (keepingIn (r .keeper) table) (linesOf (drop (r .used) text)))) e ∙ append-nil (take (r .written) out₁) in
+      let w : printed text ≡ done = so-far ∙ ap (λ (b : Bool). done ++ cond b [] (then-prints (drop (r .used) text))) e ∙ append-nil done in
       (p .stay ∙ ap (λ (x : List ℕ). overwritten 0 x out) (sym w), (sym written-long ∙ ap length (sym w), omega (arith, p .place)))
 
-  -- the rest of the text as it is lent
-  pub rest-whole : r .ended ≡ false → (rest : List ℕ) → rest ≡ take (length text - r .used) (drop (r .used) text) → (rest ≡ drop (r .used) text) × (nextLine rest ≡ rest)
-  rest-whole e rest q =
-      let l : length (drop (r .used) text) ≡ length text - r .used = length-drop (r .used) text in
-      let d : rest ≡ drop (r .used) text = q ∙ take-all (length text - r .used) (drop (r .used) text) (omega arith) in
-      (d, rw d (p .whole e))
+  module _ (e : r .ended ≡ false) where
+    -- the rest of the text, as it is lent
+    abbrev left : List ℕ
+    left = take (length text - r .used) (drop (r .used) text)
 
-  pub all-printed : r .ended ≡ false → (rest : List ℕ) → rest ≡ take (length text - r .used) (drop (r .used) text) → (out₂ : List ℕ) (end : ℕ)
-      → out₂ ≡ overwritten (r .written) (printedFrom (keepingIn (r .keeper) table) (linesOf rest)) out₁
-      → end ≡ r .written + length (printedFrom (keepingIn (r .keeper) table) (linesOf rest))
-      → (out₂ ≡ overwritten 0 (printed text) out) × ((end ≡ length (printed text)) × (end ≤ length out₂))
-  all-printed e rest q out₂ end eo ee =
-      let d = rest-whole e rest q in
-      let new : List ℕ = printedFrom (keepingIn (r .keeper) table) (linesOf rest) in
-      let few : length new ≤ 126 = last-few (keepingIn (r .keeper) table) rest (d .1) in
-      let same : printedFrom (keepingIn (r .keeper) table) (linesOf (drop (r .used) text)) ≡ new = ap (λ (t : List ℕ). printedFrom (keepingIn (r .keeper) table) (linesOf t)) (sym (d .0)) in
-      let w : printed text ≡ take (r .written) out₁ ++ new =
-      so-far ∙ ap (λ (b : Bool). take (r .written) out₁ ++ cond b [] (printedFrom (keepingIn (r .keeper) table) (linesOf (drop (r .used) text)))) e ∙ ap (λ (x : List ℕ). take (r .written) out₁ ++ x) same in
-      let l : length (printed text) ≡ r .written + length new = ap length w ∙ length-append (take (r .written) out₁) new ∙ ap (λ (n : ℕ). n + length new) written-long in
-      let l₂ : length out₂ ≡ length out₁ = ap length eo ∙ length-overwritten (r .written) new out₁ (omega (arith, p .place)) in (
-        written-next 0 (r .written) (take (r .written) out₁) new out out₁ out₂ written-long (omega (arith, p .place)) (p .stay) (let z : 0 + r .written ≡ r .written = omega arith in rw z eo) ∙ ap (λ (x : List ℕ). overwritten 0 x out) (sym w),
-        (ee ∙ sym l, omega (arith, p .place)),
-      )
+    left-is : left ≡ drop (r .used) text
+    left-is =
+        let l : length (drop (r .used) text) ≡ length text - r .used = length-drop (r .used) text in
+        take-all (length text - r .used) (drop (r .used) text) (omega arith)
+
+    pub left-whole : nextLine left ≡ left
+    left-whole = rw left-is (p .whole e)
+
+    pub all-printed : (out₂ : List ℕ) (end : ℕ) → LastPrinted (keepingIn (r .keeper) table) left (r .written) out₁ out₂ end
+        → AllPrinted text out out₂ end
+    all-printed out₂ end m =
+        let new : List ℕ = then-prints left in
+        let few : length new ≤ 126 = last-few (keepingIn (r .keeper) table) left left-whole in
+        let w : printed text ≡ done ++ new =
+        so-far ∙ ap (λ (b : Bool). done ++ cond b [] (then-prints (drop (r .used) text))) e
+        ∙ ap (λ (x : List ℕ). done ++ then-prints x) (sym left-is) in
+        let l : length (printed text) ≡ r .written + length new =
+        ap length w ∙ length-append done new ∙ ap (λ (n : ℕ). n + length new) written-long in
+        let l₂ : length out₂ ≡ length out₁ = ap length (m .0) ∙ length-overwritten (r .written) new out₁ (omega (arith, p .place)) in
+        let z : 0 + r .written ≡ r .written = omega arith in
+        let wrote : out₂ ≡ overwritten (0 + r .written) new out₁ = rw z (m .0) in
+        let whole : out₂ ≡ overwritten 0 (done ++ new) out =
+        written-next 0 (r .written) done new out out₁ out₂ written-long (omega (arith, p .place)) (p .stay) wrote in
+        (whole ∙ ap (λ (x : List ℕ). overwritten 0 x out) (sym w), (m .1 ∙ sym l, omega (arith, p .place)))

@@ -1,7 +1,7 @@
 -- Pairs gathered and read back: evicted ids as headers, a peer's pending ids.
 use Prim.Native.Nat.{ℕ, suc, _+_, _-_, _*_, _/_, _%_, _≤_, _<_}
 use mathlib.Core.Path.{_≡_, refl, sym, ap, _∙_}
-use mathlib.Core.Bool.{not, _&&_}
+use mathlib.Core.Bool.{Bool, not, _&&_}
 use mathlib.Core.List.{List, [], _∷_, map, append-nil}
 use native.Mathlib.Omega.{arith}
 use native.Mathlib.Numerals.{add-one}
@@ -23,15 +23,17 @@ use Rattle.model.specs.Calls.{pairBytes}
 use Rattle.commands.specs.Pending.{requestsIn}
 use Rattle.model.specs.Layout.{idSize, pairListSize, pairSize, recordSize}
 
-abbrev header : List ℕ → List ℕ
+-- an id as a header's pair
+abbrev pub header : List ℕ → List ℕ
 header = pairBytes headerType
 
 -- ---- one evicted id
 
-pub header-put : (ids : List ℕ) (i : ℕ) (pairs x y : List ℕ) → i * idSize + idSize ≤ length ids → i * pairSize + pairSize ≤ length pairs → x ≡ set pairs (i * pairSize) 101
-    → y ≡ overwritten (i * pairSize + 1) (take (i * idSize + idSize - i * idSize) (drop (i * idSize) ids)) x → y ≡ overwritten (i * pairSize) (pairBytes headerType (entry idSize i ids)) pairs
+pub header-put : (ids : List ℕ) (i : ℕ) (pairs : List ℕ) {x y : List ℕ} → i * idSize + idSize ≤ length ids → i * pairSize + pairSize ≤ length pairs
+    → x ≡ set pairs (i * pairSize) 101 → y ≡ overwritten (i * pairSize + 1) (take (i * idSize + idSize - i * idSize) (drop (i * idSize) ids)) x
+    → y ≡ overwritten (i * pairSize) (header (entry idSize i ids)) pairs
 unfolding entry
-header-put ids i pairs x y h l p q =
+header-put ids i pairs {x = x} h l p q =
     let id : List ℕ = take idSize (drop (i * idSize) ids) in
     let k : i * idSize + idSize - i * idSize ≡ idSize = omega arith in
     let n : length id ≡ idSize = length-take-le 32 (drop (i * idSize) ids) (rw (length-drop (i * idSize) ids) (omega arith)) in
@@ -47,18 +49,19 @@ headers-wide es w = all-map (λ (e : List ℕ). length e ≡ idSize) (λ (e : Li
 pub record Heading (ids : List ℕ) (count : ℕ) (d pairs : List ℕ) (i : ℕ) : Type 0 where
   pub i-le : i ≤ count
   pub long : length pairs ≡ length d
-  pub rest : overwritten (i * pairSize) (joined (map (pairBytes headerType) (drop i (entries idSize count ids)))) pairs ≡ overwritten 0 (joined (map (pairBytes headerType) (entries idSize count ids))) d
+  pub rest : overwritten (i * pairSize) (joined (map header (drop i (entries idSize count ids)))) pairs
+      ≡ overwritten 0 (joined (map header (entries idSize count ids))) d
 
 pub heading-starts : (ids : List ℕ) (count : ℕ) (d : List ℕ) → Heading ids count d d 0
 heading-starts ids count d = record { i-le = omega arith; long = refl; rest = refl }
 
-module _ (ids : List ℕ) (count : ℕ) (d pairs : List ℕ) (i : ℕ) (s : Heading ids count d pairs i) where
-  pub heading-next : i < count → count * idSize ≤ length ids → count * pairSize ≤ length d → (o : List ℕ) → o ≡ overwritten (i * pairSize) (pairBytes headerType (entry idSize i ids)) pairs
-      → Heading ids count d o (i + 1)
-  heading-next h fits room o eo =
+module _ {ids : List ℕ} {count : ℕ} {d pairs : List ℕ} {i : ℕ} (s : Heading ids count d pairs i) where
+  pub heading-next : i < count → count * idSize ≤ length ids → count * pairSize ≤ length d → {o : List ℕ}
+      → o ≡ overwritten (i * pairSize) (header (entry idSize i ids)) pairs → Heading ids count d o (i + 1)
+  heading-next h fits room eo =
       let es : List (List ℕ) = entries idSize count ids in
       let le : length es ≡ count = length-entries idSize count ids in
-      let one : List ℕ = pairBytes headerType (entry idSize i ids) in
+      let one : List ℕ = header (entry idSize i ids) in
       let ds : List (List ℕ) = drop (i + 1) es in
       let T : List ℕ = joined (map header ds) in
       let w : Wide idSize ds = all-drop (λ (e : List ℕ). length e ≡ idSize) (i + 1) es (entries-wide 32 count ids fits) in
@@ -73,7 +76,7 @@ module _ (ids : List ℕ) (count : ℕ) (d pairs : List ℕ) (i : ℕ) (s : Head
         rest = rw (at, eo) (overwritten-next (i * pairSize) one T pairs (omega (arith, s .long)) ∙ rw n at (s .rest));
       }
 
-  pub heading-ends : count ≤ i → pairs ≡ overwritten 0 (joined (map (pairBytes headerType) (entries idSize count ids))) d
+  pub heading-ends : count ≤ i → pairs ≡ overwritten 0 (joined (map header (entries idSize count ids))) d
   heading-ends h =
       let z : drop i (entries idSize count ids) ≡ [] = drop-of-length-le (entries idSize count ids) {i = i} (rw (length-entries idSize count ids) h) in
       let a : overwritten (i * pairSize) [] pairs ≡ overwritten 0 (joined (map header (entries idSize count ids))) d = rw z at (s .rest) in
@@ -81,7 +84,8 @@ module _ (ids : List ℕ) (count : ℕ) (d pairs : List ℕ) (i : ℕ) (s : Head
 
 -- ---- pairs read back from the front of their room
 
-pub pairs-back : (es : List (List ℕ)) (n : ℕ) (d pairs : List ℕ) → Wide pairSize es → n ≡ length es → pairs ≡ overwritten 0 (joined es) d → entriesOf pairSize (take (n * pairSize) pairs) ≡ es
+pub pairs-back : (es : List (List ℕ)) (n : ℕ) (d pairs : List ℕ) → Wide pairSize es → n ≡ length es → pairs ≡ overwritten 0 (joined es) d
+    → entriesOf pairSize (take (n * pairSize) pairs) ≡ es
 pairs-back es n d pairs w e f =
     let l : length (joined es) ≡ length es * pairSize = length-joined pairSize es w in
     let k : n * pairSize ≡ length (joined es) = rw (l, e) in
@@ -90,28 +94,43 @@ pairs-back es n d pairs w e f =
     rw (b, m) (rw append-nil at (entries-joined pairSize es [] w))
 
 -- n pairs at the front of a room of 1,024
-module _ (n : ℕ) (room : List ℕ) (few : n ≤ trackedLimit) (size : length room ≡ pairListSize) where
-  pub front-long : length (take (n * pairSize) room) ≡ n * pairSize
+module _ {n : ℕ} (room : List ℕ) (few : n ≤ trackedLimit) (size : length room ≡ pairListSize) where
+  abbrev front : List ℕ
+  front = take (n * pairSize) room
+
+  pub front-long : length front ≡ n * pairSize
   front-long = length-take-le (n * pairSize) room (omega arith)
 
   pub front-fits : (out : List ℕ) → pairListSize ≤ length out
-      → (length (take (n * pairSize) room) % pairSize ≡ 0) × ((length (take (n * pairSize) room) ≤ pairListSize) × (length (take (n * pairSize) room) ≤ length out))
+      → (length front % pairSize ≡ 0) × ((length front ≤ pairListSize) × (length front ≤ length out))
   front-fits out h = rw front-long (omega arith, (omega arith, omega arith))
 
 -- ---- the peer's pending ids
 
+-- a request's type and id as a pair
+abbrev pub pairOf : Request → List ℕ
+pairOf r = pairBytes (r .typeId) (r .id)
+
+abbrev LongId : Request → Type 0
+LongId r = length (r .id) ≡ idSize
+
 module _ (peer count : ℕ) (table : List ℕ) where
+  -- what makes a request the peer's orphan
+  abbrev orphan : Request → Bool
+  orphan r = eqb (r .peer) peer && not (isTransaction (r .typeId))
+
   pub orphans-few : length (orphansOf peer (requestsIn count table)) ≤ count
   unfolding orphansOf
   orphans-few =
-      let k = length-kept (λ (r : Request). eqb (r .peer) peer && not (isTransaction (r .typeId))) (requestsIn count table) in
+      let k = length-kept orphan (requestsIn count table) in
       let l : length (requestsIn count table) ≡ count = length-map (entries recordSize count table) requestOf ∙ length-entries recordSize count table in
       omega arith
 
-  pub orphans-wide : count * recordSize ≤ length table → Wide pairSize (map (λ (r : Request). pairBytes (r .typeId) (r .id)) (orphansOf peer (requestsIn count table)))
+  pub orphans-wide : count * recordSize ≤ length table → Wide pairSize (map pairOf (orphansOf peer (requestsIn count table)))
   unfolding orphansOf requestOf
   orphans-wide h =
-      let long : All (λ (r : Request). length (r .id) ≡ idSize) (requestsIn count table) =
-      all-map (λ (e : List ℕ). length e ≡ recordSize) (λ (r : Request). length (r .id) ≡ idSize) requestOf (λ e l. length-take-le 32 e (omega arith)) (entries recordSize count table) (entries-wide recordSize count table h) in
-      all-map (λ (r : Request). length (r .id) ≡ idSize) (λ (e : List ℕ). length e ≡ pairSize) (λ (r : Request). pairBytes (r .typeId) (r .id)) (λ r l. ap suc l) (orphansOf peer (requestsIn count table))
-      (all-kept (λ (r : Request). length (r .id) ≡ idSize) (λ (r : Request). eqb (r .peer) peer && not (isTransaction (r .typeId))) (requestsIn count table) long)
+      let wide : Wide recordSize (entries recordSize count table) = entries-wide recordSize count table h in
+      let long : All LongId (requestsIn count table) =
+      all-map (λ (e : List ℕ). length e ≡ recordSize) LongId requestOf (λ e l. length-take-le 32 e (omega arith)) (entries recordSize count table) wide in
+      all-map LongId (λ (e : List ℕ). length e ≡ pairSize) pairOf (λ r l. ap suc l) (orphansOf peer (requestsIn count table))
+      (all-kept LongId orphan (requestsIn count table) long)

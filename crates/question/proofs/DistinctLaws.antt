@@ -31,7 +31,8 @@ distinct-first y (z ∷ zs) = go (same y z) refl (distinct-first z zs)
     go true e d = let q : y ≡ z = same-eq y z e in d ∙ ap (λ (x : List ℕ). x ∷ drop 1 (distinct (z ∷ zs))) (sym q)
     go false e d = refl
 
-inserted-first : (x y : List ℕ) (ys : List (List ℕ)) → before y x ≡ false → insertedOnce x (distinct (y ∷ ys)) ≡ cond (same x y) (distinct (y ∷ ys)) (x ∷ distinct (y ∷ ys))
+inserted-first : (x y : List ℕ) (ys : List (List ℕ)) → before y x ≡ false
+    → insertedOnce x (distinct (y ∷ ys)) ≡ cond (same x y) (distinct (y ∷ ys)) (x ∷ distinct (y ∷ ys))
 inserted-first x y ys h =
     let d : distinct (y ∷ ys) ≡ y ∷ drop 1 (distinct (y ∷ ys)) = distinct-first y ys in
     let one : (rest : List (List ℕ)) → insertedOnce x (y ∷ rest) ≡ cond (same x y) (y ∷ rest) (x ∷ (y ∷ rest)) = λ rest. rw (h, same-sym y x) in
@@ -82,7 +83,8 @@ pub length-distinct : (es : List (List ℕ)) → Wide pairSize es → length (jo
 length-distinct [] w = omega arith
 length-distinct (e ∷ es) w = go (startsWith e es) (length-distinct es (w .1))
   where
-    go : (t : Bool) → length (joined (distinct es)) ≤ length es * pairSize → length (joined (cond t (distinct es) (e ∷ distinct es))) ≤ suc (length es) * pairSize
+    go : (t : Bool) → length (joined (distinct es)) ≤ length es * pairSize
+        → length (joined (cond t (distinct es) (e ∷ distinct es))) ≤ suc (length es) * pairSize
     go true h = omega arith
     go false h = rw (length-append e (joined (distinct es))) (omega (arith, w .0))
 
@@ -105,10 +107,10 @@ pub record Writing (es : List (List ℕ)) (d out : List ℕ) (at i : ℕ) : Type
 pub writing-starts : (es : List (List ℕ)) (d : List ℕ) → Writing es d d 0 0
 writing-starts es d = record { i-le = omega arith; at-le = omega arith; long = refl; to = omega arith; rest = refl }
 
-module _ (es : List (List ℕ)) (d out : List ℕ) (at i : ℕ) (s : Writing es d out at i) where
-  pub writing-next : i < length es → Wide pairSize es → length es * pairSize ≤ length d → (o : List ℕ) (at′ : ℕ) → o ≡ overwritten at (pairOnce es i) out
-      → at′ ≡ at + length (pairOnce es i) → Writing es d o at′ (i + 1)
-  writing-next h w room o at′ eo ea =
+module _ {es : List (List ℕ)} {d out : List ℕ} {at i : ℕ} (s : Writing es d out at i) where
+  pub writing-next : i < length es → Wide pairSize es → length es * pairSize ≤ length d → {o : List ℕ} {at′ : ℕ}
+      → (o ≡ overwritten at (pairOnce es i) out) × (at′ ≡ at + length (pairOnce es i)) → Writing es d o at′ (i + 1)
+  writing-next h w room put =
       let one : List ℕ = pairOnce es i in
       let T : List ℕ = joined (distinct (drop (i + 1) es)) in
       let n : joined (distinct (drop i es)) ≡ one ++ T = distinct-next es i h in
@@ -117,10 +119,10 @@ module _ (es : List (List ℕ)) (d out : List ℕ) (at i : ℕ) (s : Writing es 
       let k : length (joined (distinct es)) ≤ length es * pairSize = length-distinct es w in
       record {
         i-le = omega arith;
-        at-le = omega (arith, s .at-le);
-        long = rw eo (length-overwritten at one out (omega (arith, s .to, s .long))) ∙ s .long;
-        to = omega (arith, s .to);
-        rest = rw (ea, eo) (overwritten-next at one T out (omega (arith, s .to, s .long)) ∙ rw n at (s .rest));
+        at-le = omega (arith, s .at-le, put .1);
+        long = rw (put .0) (length-overwritten at one out (omega (arith, s .to, s .long))) ∙ s .long;
+        to = omega (arith, s .to, put .1);
+        rest = rw (put .1, put .0) (overwritten-next at one T out (omega (arith, s .to, s .long)) ∙ rw n at (s .rest));
       }
 
   pub writing-ends : length es ≤ i → (out ≡ overwritten 0 (joined (distinct es)) d) × (at ≡ length (joined (distinct es)))

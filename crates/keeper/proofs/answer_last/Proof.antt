@@ -16,13 +16,18 @@ add-answer : tie.Need-add-answer
 add-answer c = search needs
 
 answer-requires : tie.Need-answer-requires
-answer-requires c κs = let s = c .before .before .before .before .before .before .before in (s .pre .0, (simp length-set (omega (arith, s .pre .1)), simp length-set (omega (arith, s .pre .1))))
+answer-requires c κs =
+    let s : tie.Start = search in
+    (s .pre .0, (simp length-set (omega (arith, s .pre .1)), simp length-set (omega (arith, s .pre .1))))
 
 same-length : tie.Need-same-length
 same-length c = search needs
 
 same-length-2 : tie.Need-same-length-2
-same-length-2 c = let a = c .before .before .before .before .before .before .before .before .before .before .before .before .before .before .args in c .before .before .before .before .before .before .answer .kept .1 .1 .0 ∙ length-set (a .text .now) (a .held) 10
+same-length-2 c =
+    let s : tie.Start = search in
+    let answered : tie.After-answer = search in
+    answered .answer .kept .1 .1 .0 ∙ length-set (s .args .text .now) (s .args .held) 10
 
 same-length-3 : tie.Need-same-length-3
 same-length-3 c = search needs

@@ -1,18 +1,19 @@
 -- By the flag: `evicted-gathered`, `pending-gathered`.
-use lib.ListN.{length-drop}
 use borrow.Author.Needs.{needs}
 use native.Mathlib.Omega.{arith}
-use Prim.Native.Nat.{_-_, _*_}
-use Rattle.question.proofs.QuestionLaws.{rest-all, evicted-few, pending-few, types-narrow, evicted-gathered, pending-gathered}
+use Rattle.question.proofs.QuestionLaws.{Area, evicted-few, evicted-long, pending-few, pending-long, types-narrow, evicted-gathered, pending-gathered}
 use Rattle.question.proofs.gather.Statement.{statement}
 use Rattle.question.proofs.gather.Tie as tie
-use Rattle.model.specs.Layout.{areaSize, idSize, regionAt}
+
+-- the area lent
+its-area : (s : tie.Start) → Area (s .args .area .now) (s .args .head)
+its-area s = record { long = s .pre .0 .0; well = s .pre .0 .1; head = s .pre .1 .0 }
 
 mul-from : tie.Need-mul-from
-mul-from c = let s = c .before .before .before in omega (arith, evicted-few (s .args .area .now) (s .args .head) (s .pre .1 .0) (s .pre .0 .1))
+mul-from c = let s : tie.Start = search in omega (arith, evicted-few (its-area s))
 
 sub-from : tie.Need-sub-from
-sub-from c = let s = c .before .before .before in omega (arith, evicted-few (s .args .area .now) (s .args .head) (s .pre .1 .0) (s .pre .0 .1))
+sub-from c = let s : tie.Start = search in omega (arith, evicted-few (its-area s))
 
 sub-put-headers : tie.Need-sub-put-headers
 sub-put-headers c = search needs
@@ -24,18 +25,19 @@ part-put-headers-end : tie.Need-part-put-headers-end
 part-put-headers-end c = search needs
 
 put-headers-requires : tie.Need-put-headers-requires
-put-headers-requires c κs = let s = c .before .before .before .before .before in
-    let a = s .args in
-    let n = evicted-few (a .area .now) (a .head) (s .pre .1 .0) (s .pre .0 .1) in
-    (rw (rest-all (areaSize - a .head .evicted * idSize) (a .area .now), length-drop (areaSize - a .head .evicted * idSize) (a .area .now)) (omega (arith, n, s .pre .0)), omega (arith, n, s .pre .1))
+put-headers-requires c κs =
+    let s : tie.Start = search in
+    (evicted-long (its-area s), omega (arith, evicted-few (its-area s), s .pre .1))
 
 same-length : tie.Need-same-length
-same-length c = c .before .before .put-headers .kept .1 .1 .0
+same-length c = let put : tie.After-put-headers = search in put .put-headers .kept .1 .1 .0
 
 returns : tie.Need-returns
-returns c = let s = c .before .before .before .before .before .before .before .before in
-    let a = s .args in
-    evicted-gathered (a .area .now) (a .head) (s .pre .1 .0) (a .flag) (a .pairs .now) (c .before .before .put-headers .last .1 .1 .0) (c .before .before .before .before .before .if1 .taken) (c .before .before .put-headers .ensures)
+returns c =
+    let s : tie.Start = search in
+    let evicted : tie.Then1 = search in
+    let put : tie.After-put-headers = search in
+    evicted-gathered (its-area s) (s .args .flag) (s .args .pairs .now) (evicted .if1 .taken) (put .put-headers .ensures)
 
 sub-orphans : tie.Need-sub-orphans
 sub-orphans c = search needs
@@ -47,18 +49,20 @@ part-orphans-end : tie.Need-part-orphans-end
 part-orphans-end c = search needs
 
 orphans-requires : tie.Need-orphans-requires
-orphans-requires c κs = let s = c .before .before .before .before .before in
-    let a = s .args in
-    let n = pending-few (a .area .now) (a .head) (s .pre .1 .0) (s .pre .0 .1) in
-    ((rw (rest-all regionAt (a .area .now), length-drop regionAt (a .area .now)) (omega (arith, n, s .pre .0)), omega (arith, n, s .pre .1)), types-narrow (a .area .now) (a .head) (s .pre .1 .0) (s .pre .0 .1))
+orphans-requires c κs =
+    let s : tie.Start = search in
+    let area = its-area s in
+    ((pending-long area, omega (arith, pending-few area, s .pre .1)), types-narrow area)
 
 same-length-2 : tie.Need-same-length-2
-same-length-2 c = c .before .before .orphans .kept .1 .1 .1 .0
+same-length-2 c = let put : tie.After-orphans = search in put .orphans .kept .1 .1 .1 .0
 
 returns-2 : tie.Need-returns-2
-returns-2 c = let s = c .before .before .before .before .before .before .before .before in
-    let a = s .args in
-    pending-gathered (a .area .now) (a .head) (s .pre .1 .0) (a .flag) (a .pairs .now) (c .before .before .orphans .last .1 .1 .1 .0) (c .before .before .orphans .result) (c .before .before .before .before .before .if1 .left) (c .before .before .orphans .ensures .0) (c .before .before .orphans .ensures .1)
+returns-2 c =
+    let s : tie.Start = search in
+    let pending : tie.Else1 = search in
+    let put : tie.After-orphans = search in
+    pending-gathered (its-area s) (s .args .flag) (s .args .pairs .now) (pending .if1 .left) (put .orphans .ensures)
 
 pub gather-spec : {M : Type 1} → statement M
 gather-spec =

@@ -1,14 +1,14 @@
 -- A byte and 32 bytes behind it are one write: `header-put`.
-use lib.ListN.{length-set}
 use borrow.Author.Needs.{needs}
 use native.Mathlib.Omega.{arith}
 use Prim.Native.Nat.{_+_, _-_, _*_}
 use mathlib.Core.Path.{_≡_, refl, _∙_}
+use lib.ListN.{length-set}
 use Rattle.fields.proofs.PartLaws.{length-part}
+use Rattle.model.specs.Layout.{idSize, pairSize}
 use Rattle.question.proofs.AnswerLaws.{header-put}
 use Rattle.question.proofs.put_header.Statement.{statement}
 use Rattle.question.proofs.put_header.Tie as tie
-use Rattle.model.specs.Layout.{idSize, pairSize}
 
 mul-from : tie.Need-mul-from
 mul-from c = search needs
@@ -35,17 +35,22 @@ part-overwrite-end : tie.Need-part-overwrite-end
 part-overwrite-end c = search needs
 
 overwrite-requires : tie.Need-overwrite-requires
-overwrite-requires c κs = let a = c .before .before .before .before .args in
-    let n : a .i * idSize + idSize - a .i * idSize ≡ idSize = omega arith in
-    rw (length-set, n, length-part (a .i * idSize) 32 (a .ids .now) (c .before .before .before .before .pre .0)) (omega arith)
+overwrite-requires c κs =
+    let s : tie.Start = search in
+    let n : s .args .i * idSize + idSize - s .args .i * idSize ≡ idSize = omega arith in
+    rw (length-set, n, length-part (s .args .i * idSize) 32 (s .args .ids .now) (s .pre .0)) (omega arith)
 
 same-length : tie.Need-same-length
-same-length c = c .before .before .overwrite .kept .0 ∙ length-set (c .before .before .before .before .before .before .before .args .pairs .now) (c .before .before .before .before .before .before .before .args .i * pairSize) _
+same-length c =
+    let s : tie.Start = search in
+    let wrote : tie.After-overwrite = search in
+    wrote .overwrite .kept .0 ∙ length-set (s .args .pairs .now) (s .args .i * pairSize) _
 
 returns : tie.Need-returns
-returns c = let s = c .before .before .before .before .before .before .before in
-    let a = s .args in
-    header-put (a .ids .now) (a .i) (a .pairs .now) _ (c .before .before .overwrite .last .0) (s .pre .0) (s .pre .1) refl (c .before .before .overwrite .ensures)
+returns c =
+    let s : tie.Start = search in
+    let wrote : tie.After-overwrite = search in
+    header-put (s .args .ids .now) (s .args .i) (s .args .pairs .now) (s .pre .0) (s .pre .1) refl (wrote .overwrite .ensures)
 
 pub put-header-spec : {M : Type 1} → statement M
 put-header-spec =

@@ -12,13 +12,24 @@ Inv-loop ids count pairs₀ i₀ pairs i = Heading ids count pairs₀ pairs i
 abbrev μ-loop : tie.MeasureT-loop
 μ-loop ids count pairs₀ i₀ pairs i = count - i
 
+abbrev Start : Type 0
+Start = tie.Start Inv-loop μ-loop
+
+abbrev Loop : Type 0
+Loop = tie.At-loop Inv-loop μ-loop
+
+abbrev Turn : Type 0
+Turn = tie.In-loop Inv-loop μ-loop
+
 loop-holds : tie.Need-loop-holds Inv-loop μ-loop
-loop-holds c = let a = c .before .before .args in heading-starts (a .ids .now) (a .count) (a .pairs .now)
+loop-holds c = let s : Start = search in heading-starts (s .args .ids .now) (s .args .count) (s .args .pairs .now)
 
 put-header-requires : tie.Need-put-header-requires Inv-loop μ-loop
-put-header-requires c κs = let s = c .before .before .before .before .before in
-    let l = c .before .before .loop in
-    (omega (arith, c .before .loop-test .taken, s .pre .0), omega (arith, c .before .loop-test .taken, l .inv .long, s .pre .1))
+put-header-requires c κs =
+    let s : Start = search in
+    let l : Loop = search in
+    let turn : Turn = search in
+    (omega (arith, turn .loop-test .taken, s .pre .0), omega (arith, turn .loop-test .taken, l .loop .inv .long, s .pre .1))
 
 add-i : tie.Need-add-i Inv-loop μ-loop
 add-i c = search needs
@@ -27,18 +38,18 @@ loop-less : tie.Need-loop-less Inv-loop μ-loop
 loop-less c = search needs
 
 loop-again : tie.Need-loop-again Inv-loop μ-loop
-loop-again c = let s = c .before .before .before .before .before .before .before .before in
-    let a = s .args in
-    let l = c .before .before .before .before .before .loop in
-    heading-next (a .ids .now) (a .count) (a .pairs .now) (l .pairs) (l .i) (l .inv) (c .before .before .before .before .loop-test .taken) (s .pre .0) (s .pre .1) (c .before .before .put-header .last .1 .1 .0) (c .before .before .put-header .ensures)
+loop-again c =
+    let s : Start = search in
+    let l : Loop = search in
+    let turn : Turn = search in
+    let put : tie.After-put-header Inv-loop μ-loop = search in
+    heading-next (l .loop .inv) (turn .loop-test .taken) (s .pre .0) (s .pre .1) (put .put-header .ensures)
 
 same-length : tie.Need-same-length Inv-loop μ-loop
-same-length c = c .before .loop .inv .long
+same-length c = let l : Loop = search in l .loop .inv .long
 
 returns : tie.Need-returns Inv-loop μ-loop
-returns c = let a = c .before .before .before .before .args in
-    let l = c .before .loop in
-    heading-ends (a .ids .now) (a .count) (a .pairs .now) (l .pairs) (l .i) (l .inv) (c .loop-test .left)
+returns c = let l : Loop = search in heading-ends (l .loop .inv) (c .loop-test .left)
 
 pub put-headers-spec : {M : Type 1} → statement M
 put-headers-spec =

@@ -22,7 +22,10 @@ shared-slice-read-if1 : tie.Need-shared-slice-read-if1 Inv-loop μ-loop
 shared-slice-read-if1 c = search needs
 
 returns : tie.Need-returns Inv-loop μ-loop
-returns c = let s = c .before .before .before .before .args in omega (arith, ap length (upTo-stop (s .stop) (c .before .before .before .loop .i) (s .text .now) (omega arith) (c .if1 .taken)))
+returns c =
+    let s : tie.Start Inv-loop μ-loop = search in
+    let l : tie.At-loop Inv-loop μ-loop = search in
+    omega (arith, ap length (upTo-stop (s .args .stop) (l .loop .i) (s .args .text .now) (omega arith) (c .if1 .taken)))
 
 add-i : tie.Need-add-i Inv-loop μ-loop
 add-i c = search needs
@@ -31,10 +34,16 @@ loop-less : tie.Need-loop-less Inv-loop μ-loop
 loop-less c = search needs
 
 loop-again : tie.Need-loop-again Inv-loop μ-loop
-loop-again c = let s = c .before .before .before .before .args in omega (arith, upTo-pass (s .stop) (c .before .before .before .loop .i) (s .text .now) (omega arith) (c .if1 .left))
+loop-again c =
+    let s : tie.Start Inv-loop μ-loop = search in
+    let l : tie.At-loop Inv-loop μ-loop = search in
+    omega (arith, upTo-pass (s .args .stop) (l .loop .i) (s .args .text .now) (omega arith) (c .if1 .left))
 
 returns-2 : tie.Need-returns-2 Inv-loop μ-loop
-returns-2 c = let s = c .before .before .args in omega (arith, ap length (upTo-end (s .stop) (c .before .loop .i) (s .text .now) (omega arith)))
+returns-2 c =
+    let s : tie.Start Inv-loop μ-loop = search in
+    let l : tie.At-loop Inv-loop μ-loop = search in
+    omega (arith, ap length (upTo-end (s .args .stop) (l .loop .i) (s .args .text .now) (omega arith)))
 
 pub end-before-spec : {M : Type 1} → statement M
 end-before-spec =

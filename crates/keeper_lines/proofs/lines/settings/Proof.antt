@@ -1,13 +1,38 @@
 -- Field by field, each read or refused as the definition says (FieldLaws).
 use borrow.Author.Needs.{needs}
 use native.Mathlib.Omega.{arith}
-use Rattle.keeper_lines.proofs.FieldLaws.{decimal-read, decimal-refused, done-more, done-last, decimal-field-below}
-use Rattle.keeper_lines.specs.Line.{settingsOf}
 use Prim.Native.Nat.{ℕ, _^_}
 use mathlib.Core.Path.{sym, _∙_}
 use mathlib.Core.List.{List}
+use Rattle.keeper_lines.specs.Number.{decimal}
+use Rattle.keeper_lines.specs.Line.{settingsOf}
+use Rattle.keeper_lines.proofs.FieldLaws.{ReadAs, decimal-says, read-then, decimal-refused, decimal-as-below, done-more, done-last}
 use Rattle.keeper_lines.proofs.lines.settings.Statement.{statement}
 use Rattle.keeper_lines.proofs.lines.settings.Tie as tie
+
+-- ---- the fields read
+
+module _ (c : tie.After-timeout) where
+  abbrev start : tie.Start
+  start = search
+
+  abbrev line : List ℕ
+  line = start .args .line .now
+
+  abbrev timeout-end : ℕ
+  timeout-end = c .timeout .given .0 .1 .0
+
+  timeout-read : ReadAs (decimal (2 ^ 32)) line 1 (c .timeout .given .0 .0) timeout-end
+  timeout-read = let answer : tie.After-decimal-behind = search in decimal-says (2 ^ 32) (answer .decimal-behind .ensures) (c .timeout .given .1)
+
+module _ (c : tie.After-limit) where
+  abbrev its-timeout : tie.After-timeout
+  its-timeout = search
+
+  limit-read : ReadAs (decimal (2 ^ 32)) (line its-timeout) (timeout-end its-timeout) (c .limit .given .0 .0) (c .limit .given .0 .1 .0)
+  limit-read = let answer : tie.After-decimal-behind2 = search in decimal-says (2 ^ 32) (answer .decimal-behind2 .ensures) (c .limit .given .1)
+
+-- ---- the needs
 
 decimal-behind-requires : tie.Need-decimal-behind-requires
 decimal-behind-requires c κs = search needs
@@ -21,8 +46,9 @@ enum-told c = search needs
 returns : tie.Need-returns
 unfolding settingsOf
 returns c =
-    let line : List ℕ = c .before .before .before .before .args .line .now in
-    sym (decimal-refused (2 ^ 32) _ 1 line (sym (c .before .before .decimal-behind .ensures) ∙ c .enum-told .given .1))
+    let s : tie.Start = search in
+    let answer : tie.After-decimal-behind = search in
+    sym (decimal-refused (2 ^ 32) _ 1 (s .args .line .now) (answer .decimal-behind .ensures) (c .enum-told .given .1))
 
 decimal-behind-requires-2 : tie.Need-decimal-behind-requires-2
 decimal-behind-requires-2 c κs = search needs
@@ -36,31 +62,35 @@ enum-told-2 c = search needs
 returns-2 : tie.Need-returns-2
 unfolding settingsOf
 returns-2 c =
-    let line : List ℕ = c .before .before .before .before .before .before .before .before .args .line .now in
-    sym (decimal-read (2 ^ 32) _ 1 line _ _ (sym (c .before .before .before .before .before .before .decimal-behind .ensures) ∙ c .before .before .before .before .timeout .given .1)
-    ∙ decimal-refused (2 ^ 32) _ _ line (sym (c .before .before .decimal-behind2 .ensures) ∙ c .enum-told2 .given .1))
+    let s : tie.Start = search in
+    let timeout : tie.After-timeout = search in
+    let answer : tie.After-decimal-behind2 = search in
+    sym (read-then _ (timeout-read timeout)
+    ∙ decimal-refused (2 ^ 32) _ _ (s .args .line .now) (answer .decimal-behind2 .ensures) (c .enum-told2 .given .1))
 
 returns-3 : tie.Need-returns-3
 unfolding settingsOf
 returns-3 c =
-    let line : List ℕ = c .before .before .before .before .before .before .before .before .before .before .args .line .now in
-    sym (decimal-read (2 ^ 32) _ 1 line _ _ (sym (c .before .before .before .before .before .before .before .before .decimal-behind .ensures) ∙ c .before .before .before .before .before .before .timeout .given .1)
-    ∙ decimal-read (2 ^ 32) _ _ line _ _ (sym (c .before .before .before .before .decimal-behind2 .ensures) ∙ c .before .before .limit .given .1)
-    ∙ done-more _ _ line (c .if1 .taken))
+    let s : tie.Start = search in
+    let timeout : tie.After-timeout = search in
+    let limit : tie.After-limit = search in
+    sym (read-then _ (timeout-read timeout) ∙ read-then _ (limit-read limit)
+    ∙ done-more _ _ (s .args .line .now) (c .if1 .taken))
 
 cast-t10 : tie.Need-cast-t10
-cast-t10 c = omega (arith, decimal-field-below _ _ _ _ _ (sym (c .before .before .before .before .before .before .before .before .decimal-behind .ensures) ∙ c .before .before .before .before .before .before .timeout .given .1))
+cast-t10 c = let timeout : tie.After-timeout = search in omega (arith, decimal-as-below _ (timeout-read timeout))
 
 cast-t11 : tie.Need-cast-t11
-cast-t11 c = omega (arith, decimal-field-below _ _ _ _ _ (sym (c .before .before .before .before .decimal-behind2 .ensures) ∙ c .before .before .limit .given .1))
+cast-t11 c = let limit : tie.After-limit = search in omega (arith, decimal-as-below _ (limit-read limit))
 
 returns-4 : tie.Need-returns-4
 unfolding settingsOf
 returns-4 c =
-    let line : List ℕ = c .before .before .before .before .before .before .before .before .before .before .args .line .now in
-    sym (decimal-read (2 ^ 32) _ 1 line _ _ (sym (c .before .before .before .before .before .before .before .before .decimal-behind .ensures) ∙ c .before .before .before .before .before .before .timeout .given .1)
-    ∙ decimal-read (2 ^ 32) _ _ line _ _ (sym (c .before .before .before .before .decimal-behind2 .ensures) ∙ c .before .before .limit .given .1)
-    ∙ done-last _ _ line (c .if1 .left))
+    let s : tie.Start = search in
+    let timeout : tie.After-timeout = search in
+    let limit : tie.After-limit = search in
+    sym (read-then _ (timeout-read timeout) ∙ read-then _ (limit-read limit)
+    ∙ done-last _ _ (s .args .line .now) (c .if1 .left))
 
 pub settings-spec : {M : Type 1} → statement M
 settings-spec =

@@ -1,17 +1,58 @@
 -- The digits' own answers, put together by `hexPair`.
 use borrow.Author.Needs.{needs}
 use native.Mathlib.Omega.{arith}
-use Rattle.keeper_lines.proofs.NumberLaws.{value-of, nothing-of, hex-two, hex-not-two, hex-below}
-use Rattle.keeper_lines.specs.Number.{hexDigit}
 use Prim.Native.Nat.{ℕ}
-use mathlib.Core.Path.{sym, _∙_}
-use mathlib.Core.List.{List}
+use mathlib.Core.Path.{_≡_}
+use mathlib.Core.Option.{Option, some}
 use lib.ListN.{getD}
+use Rattle.keeper_lines.specs.Number.{hexDigit, hexPair, hexByte, numberOf}
+use Rattle.keeper_lines.proofs.NumberLaws.{value-of, nothing-of, hex-two, hex-not-two, hex-below}
 use Rattle.keeper_lines.proofs.numerals.read_hex.Statement.{statement}
 use Rattle.keeper_lines.proofs.numerals.read_hex.Tie as tie
 
+-- ---- the two digits
+
+abbrev high : tie.Start → Option ℕ
+high s = hexDigit (getD (s .args .s .now) 0 0)
+
+abbrev low : tie.Start → Option ℕ
+low s = hexDigit (getD (s .args .s .now) 1 0)
+
+two : (c : tie.Else1) → hexByte (c .before .before .args .s .now) ≡ hexPair (high (c .before .before)) (low (c .before .before))
+two c = hex-two (c .before .before .args .s .now) (c .if1 .left)
+
+module _ (c : tie.After-hex-digit) where
+  abbrev start1 : tie.Start
+  start1 = search
+
+  first : c .hex-digit .result ≡ numberOf (high start1)
+  first = let byte : tie.After-wide = search in rw (byte .wide .ensures) at (c .hex-digit .ensures)
+
+module _ (c : tie.After-hex-digit2) where
+  abbrev start2 : tie.Start
+  start2 = search
+
+  second : c .hex-digit2 .result ≡ numberOf (low start2)
+  second = let byte : tie.After-wide2 = search in rw (byte .wide2 .ensures) at (c .hex-digit2 .ensures)
+
+module _ (c : tie.After-high) where
+  abbrev start3 : tie.Start
+  start3 = search
+
+  high-read : high start3 ≡ some (c .high .given .0 .0)
+  high-read = let answer : tie.After-hex-digit = search in value-of (high start3) (first answer) (c .high .given .1)
+
+module _ (c : tie.After-low) where
+  abbrev start4 : tie.Start
+  start4 = search
+
+  low-read : low start4 ≡ some (c .low .given .0 .0)
+  low-read = let answer : tie.After-hex-digit2 = search in value-of (low start4) (second answer) (c .low .given .1)
+
+-- ---- the needs
+
 returns : tie.Need-returns
-returns c = rw (hex-not-two (c .before .before .args .s .now) (c .if1 .taken))
+returns c = let s : tie.Start = search in rw (hex-not-two (s .args .s .now) (c .if1 .taken))
 
 shared-slice-read-wide : tie.Need-shared-slice-read-wide
 shared-slice-read-wide c = search needs
@@ -30,8 +71,10 @@ enum-told c = search needs
 
 returns-2 : tie.Need-returns-2
 returns-2 c =
-    let s : List ℕ = c .before .before .before .before .before .before .before .args .s .now in
-    rw (hex-two s (omega arith), nothing-of (hexDigit (getD s 0 0)) (sym (c .enum-told .given .1) ∙ (rw (c .before .before .before .wide .ensures) at (c .before .before .hex-digit .ensures))))
+    let s : tie.Start = search in
+    let answer : tie.After-hex-digit = search in
+    let past : tie.Else1 = search in
+    rw (two past, nothing-of (high s) (first answer) (c .enum-told .given .1))
 
 shared-slice-read-wide-2 : tie.Need-shared-slice-read-wide-2
 shared-slice-read-wide-2 c = search needs
@@ -50,30 +93,27 @@ enum-told-2 c = search needs
 
 returns-3 : tie.Need-returns-3
 returns-3 c =
-    let s : List ℕ = c .before .before .before .before .before .before .before .before .before .before .before .before .before .args .s .now in
-    let high = value-of (hexDigit (getD s 0 0)) _ (sym (c .before .before .before .before .before .before .high .given .1) ∙ (rw (c .before .before .before .before .before .before .before .before .before .wide .ensures) at (c .before .before .before .before .before .before .before .before .hex-digit .ensures))) in
-    rw (hex-two s (omega arith), high, nothing-of (hexDigit (getD s 1 0)) (sym (c .enum-told2 .given .1) ∙ (rw (c .before .before .before .wide2 .ensures) at (c .before .before .hex-digit2 .ensures))))
+    let s : tie.Start = search in
+    let answer : tie.After-hex-digit2 = search in
+    let high : tie.After-high = search in
+    let past : tie.Else1 = search in
+    rw (two past, high-read high, nothing-of (low s) (second answer) (c .enum-told2 .given .1))
 
 mul-t7 : tie.Need-mul-t7
-mul-t7 c =
-    let s : List ℕ = c .before .before .before .before .before .before .before .before .before .before .before .before .before .before .args .s .now in
-    let high = value-of (hexDigit (getD s 0 0)) _ (sym (c .before .before .before .before .before .before .before .high .given .1) ∙ (rw (c .before .before .before .before .before .before .before .before .before .before .wide .ensures) at (c .before .before .before .before .before .before .before .before .before .hex-digit .ensures))) in
-    let low = value-of (hexDigit (getD s 1 0)) _ (sym (c .before .low .given .1) ∙ (rw (c .before .before .before .before .wide2 .ensures) at (c .before .before .before .hex-digit2 .ensures))) in
-    omega (arith, hex-below (getD s 0 0) _ high)
+mul-t7 c = let high : tie.After-high = search in omega (arith, hex-below _ _ (high-read high))
 
 add-t12 : tie.Need-add-t12
 add-t12 c =
-    let s : List ℕ = c .before .before .before .before .before .before .before .before .before .before .before .before .before .before .args .s .now in
-    let high = value-of (hexDigit (getD s 0 0)) _ (sym (c .before .before .before .before .before .before .before .high .given .1) ∙ (rw (c .before .before .before .before .before .before .before .before .before .before .wide .ensures) at (c .before .before .before .before .before .before .before .before .before .hex-digit .ensures))) in
-    let low = value-of (hexDigit (getD s 1 0)) _ (sym (c .before .low .given .1) ∙ (rw (c .before .before .before .before .wide2 .ensures) at (c .before .before .before .hex-digit2 .ensures))) in
-    omega (arith, hex-below (getD s 0 0) _ high, hex-below (getD s 1 0) _ low)
+    let high : tie.After-high = search in
+    let low : tie.After-low = search in
+    omega (arith, hex-below _ _ (high-read high), hex-below _ _ (low-read low))
 
 returns-4 : tie.Need-returns-4
 returns-4 c =
-    let s : List ℕ = c .before .before .before .before .before .before .before .before .before .before .before .before .before .before .args .s .now in
-    let high = value-of (hexDigit (getD s 0 0)) _ (sym (c .before .before .before .before .before .before .before .high .given .1) ∙ (rw (c .before .before .before .before .before .before .before .before .before .before .wide .ensures) at (c .before .before .before .before .before .before .before .before .before .hex-digit .ensures))) in
-    let low = value-of (hexDigit (getD s 1 0)) _ (sym (c .before .low .given .1) ∙ (rw (c .before .before .before .before .wide2 .ensures) at (c .before .before .before .hex-digit2 .ensures))) in
-    rw (hex-two s (omega arith), high, low)
+    let high : tie.After-high = search in
+    let low : tie.After-low = search in
+    let past : tie.Else1 = search in
+    rw (two past, high-read high, low-read low)
 
 pub read-hex-spec : {M : Type 1} → statement M
 read-hex-spec =

@@ -1,24 +1,33 @@
--- The mark behind the digits: `number-put`.
+-- The mark behind the digits: `number-marked`.
 use borrow.Author.Needs.{needs}
 use native.Mathlib.Omega.{arith}
-use Rattle.keeper_lines.proofs.RowLaws.{number-put, number-room}
+use Rattle.keeper_lines.proofs.RowLaws.{Marked, number-marked}
 use Rattle.keeper_lines.proofs.rows.put_number.Statement.{statement}
 use Rattle.keeper_lines.proofs.rows.put_number.Tie as tie
+
+module _ (c : tie.After-put-digits) where
+  abbrev start : tie.Start
+  start = search
+
+  marked : Marked (start .args .at) (start .args .mark) (start .args .n) (start .args .out .now) (c .put-digits .last .0) (c .put-digits .result)
+  marked =
+      number-marked (start .args .at) (start .args .mark) (start .args .out .now) (c .put-digits .last .0) (start .args .n) _ (start .pre)
+      (c .put-digits .ensures)
 
 put-digits-requires : tie.Need-put-digits-requires
 put-digits-requires c κs = search needs
 
 slice-write-out : tie.Need-slice-write-out
-slice-write-out c = let s = c .before .before .before .before .before in let m = c .before .before .put-digits in number-room (s .args .at) (s .args .mark) (s .args .out .now) (m .last .0) (s .pre) (s .args .n) (m .result) (m .ensures .0) (m .ensures .1)
+slice-write-out c = let digits : tie.After-put-digits = search in marked digits .room
 
 add-result : tie.Need-add-result
-add-result c = let s = c .before .before .before .before .before in let m = c .before .before .put-digits in omega (arith, number-room (s .args .at) (s .args .mark) (s .args .out .now) (m .last .0) (s .pre) (s .args .n) (m .result) (m .ensures .0) (m .ensures .1))
+add-result c = let digits : tie.After-put-digits = search in omega (arith, marked digits .room)
 
 same-length : tie.Need-same-length
 same-length c = search needs
 
 returns : tie.Need-returns
-returns c = let s = c .before .before .before .before .before in let m = c .before .before .put-digits in number-put (s .args .at) (s .args .mark) (s .args .out .now) (m .last .0) (s .pre) (s .args .n) (m .result) (m .ensures .0) (m .ensures .1)
+returns c = let digits : tie.After-put-digits = search in marked digits .put
 
 pub put-number-spec : {M : Type 1} → statement M
 put-number-spec =

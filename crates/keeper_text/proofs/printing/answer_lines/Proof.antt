@@ -16,26 +16,34 @@ Inv-loop table₀ text out₀ now₀ from₀ at₀ end₀ table out now from at 
 abbrev μ-loop : tie.MeasureT-loop
 μ-loop table₀ text out₀ now₀ from₀ at₀ end₀ table out now from at end = length text - from
 
+abbrev Loop : Type 0
+Loop = tie.At-loop Inv-loop μ-loop
+
+abbrev Turn : Type 0
+Turn = tie.In-loop Inv-loop μ-loop
+
+abbrev Line : Type 0
+Line = tie.After-answer-line Inv-loop μ-loop
+
 line-end-requires : tie.Need-line-end-requires Inv-loop μ-loop
 line-end-requires c κs = search needs
 
 loop-holds : tie.Need-loop-holds Inv-loop μ-loop
-loop-holds c = let s = c .before .before .before .before in let a = s .args in (run-starts (a .text .now) (a .out .now) (s .pre .1) (a .keeper) (a .table .now) (c .line-end .result) (s .pre .0) (c .line-end .ensures), refl)
+loop-holds c =
+    let s : tie.Start Inv-loop μ-loop = search in
+    (run-starts (s .args .text .now) (s .args .out .now) (s .args .keeper) (s .args .table .now) _ (s .pre .1) (s .pre .0) (c .line-end .ensures), refl)
 
 sub-answer-line : tie.Need-sub-answer-line Inv-loop μ-loop
-sub-answer-line c = omega (arith, c .before .before .loop .inv .0 .next)
+sub-answer-line c = let l : Loop = search in omega (arith, l .loop .inv .0 .next)
 
 part-answer-line-start : tie.Need-part-answer-line-start Inv-loop μ-loop
-part-answer-line-start c = omega (arith, c .before .before .loop .inv .0 .next)
+part-answer-line-start c = let l : Loop = search in omega (arith, l .loop .inv .0 .next)
 
 part-answer-line-end : tie.Need-part-answer-line-end Inv-loop μ-loop
-part-answer-line-end c = omega (arith, c .before .loop-test .taken)
+part-answer-line-end c = let turn : Turn = search in omega (arith, turn .loop-test .taken)
 
 answer-line-requires : tie.Need-answer-line-requires Inv-loop μ-loop
-answer-line-requires c κs = let s = c .before .before .before .before .before .before .before .before .before in
-    let a = s .args in
-    let l = c .before .before .before .before .loop in
-    (l .inv .0 .kept, run-room (a .text .now) (a .out .now) (s .pre .1) (keepingIn (a .keeper) (a .table .now)) (l .table) (l .out) (l .now) (l .from) (l .at) (l .end) (l .inv .0))
+answer-line-requires c κs = let l : Loop = search in (l .loop .inv .0 .kept, run-room (l .loop .inv .0))
 
 enum-known-next : tie.Need-enum-known-next Inv-loop μ-loop
 enum-known-next c = search needs
@@ -50,11 +58,11 @@ same-length-2 : tie.Need-same-length-2 Inv-loop μ-loop
 same-length-2 c = search needs
 
 returns : tie.Need-returns Inv-loop μ-loop
-returns c = let s = c .before .before .before .before .before .before .before .before .before .before .before .before .before .before .before .before in
-    let a = s .args in
-    let l = c .before .before .before .before .before .before .before .before .before .before .before .loop in
-    let m = c .before .before .before .before .before .before .answer-line in
-    run-stops (a .text .now) (a .out .now) (s .pre .1) (keepingIn (a .keeper) (a .table .now)) (l .table) (l .out) (l .now) (l .from) (l .at) (l .end) (l .inv .0) (c .before .before .before .before .before .before .before .before .before .before .loop-test .taken) (m .result) (m .last .0) (m .last .1 .1 .1 .0) (c .enum-told .given .1) (m .ensures .0) (m .ensures .1 .1 .0)
+returns c =
+    let l : Loop = search in
+    let turn : Turn = search in
+    let line : Line = search in
+    run-stops (l .loop .inv .0) (turn .loop-test .taken) (c .enum-told .given .1) (line .answer-line .ensures)
 
 add-from : tie.Need-add-from Inv-loop μ-loop
 add-from c = search needs
@@ -63,15 +71,21 @@ line-end-requires-2 : tie.Need-line-end-requires-2 Inv-loop μ-loop
 line-end-requires-2 c κs = search needs
 
 loop-less : tie.Need-loop-less Inv-loop μ-loop
-loop-less c = omega (arith, c .before .before .before .before .before .before .before .before .before .before .before .before .before .loop .inv .0 .next, c .before .before .before .before .before .before .before .before .before .before .before .before .loop-test .taken)
+loop-less c =
+    let l : Loop = search in
+    let turn : Turn = search in
+    omega (arith, l .loop .inv .0 .next, turn .loop-test .taken)
 
 loop-again : tie.Need-loop-again Inv-loop μ-loop
-loop-again c = let s = c .before .before .before .before .before .before .before .before .before .before .before .before .before .before .before .before .before .before in
-    let a = s .args in
-    let l = c .before .before .before .before .before .before .before .before .before .before .before .before .before .loop in
-    let m = c .before .before .before .before .before .before .before .before .answer-line in
-    let n = c .before .before .next .given in
-    (run-turn (a .text .now) (a .out .now) (s .pre .1) (keepingIn (a .keeper) (a .table .now)) (l .table) (l .out) (l .now) (l .from) (l .at) (l .end) (l .inv .0) (c .before .before .before .before .before .before .before .before .before .before .before .before .loop-test .taken) (m .result) (n .0 .0) (n .0 .1 .0) (m .last .0) (m .last .1 .1 .1 .0) (n .1) (m .ensures .0) (m .ensures .1 .1 .0) (m .ensures .1 .1 .1) (c .line-end2 .result) (c .line-end2 .ensures), m .kept .0 ∙ l .inv .1)
+loop-again c =
+    let l : Loop = search in
+    let turn : Turn = search in
+    let line : Line = search in
+    let next : tie.After-next Inv-loop μ-loop = search in
+    let answered = line .answer-line in (
+      run-turn (l .loop .inv .0) (turn .loop-test .taken) (next .next .given .1) (answered .ensures) (c .line-end2 .ensures),
+      answered .kept .0 ∙ l .loop .inv .1,
+    )
 
 same-length-3 : tie.Need-same-length-3 Inv-loop μ-loop
 same-length-3 c = search needs
@@ -80,10 +94,7 @@ same-length-4 : tie.Need-same-length-4 Inv-loop μ-loop
 same-length-4 c = search needs
 
 returns-2 : tie.Need-returns-2 Inv-loop μ-loop
-returns-2 c = let s = c .before .before .before .before .before .before in
-    let a = s .args in
-    let l = c .before .loop in
-    run-ends (a .text .now) (a .out .now) (s .pre .1) (keepingIn (a .keeper) (a .table .now)) (l .table) (l .out) (l .now) (l .from) (l .at) (l .end) (l .inv .0) (c .loop-test .left)
+returns-2 c = let l : Loop = search in run-ends (l .loop .inv .0) (c .loop-test .left)
 
 pub answer-lines-spec : {M : Type 1} → statement M
 answer-lines-spec =

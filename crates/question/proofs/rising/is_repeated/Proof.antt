@@ -2,17 +2,31 @@
 use borrow.Author.Needs.{needs}
 use native.Mathlib.Omega.{arith}
 use Prim.Native.Nat.{_+_}
+use lib.ListN.{getD}
+use Rattle.fields.proofs.AllLaws.{all-at}
 use Rattle.request_announced.specs.Pairs.{Within}
 use Rattle.question.proofs.PlaceLaws.{last-alone, same-as-next}
-use Rattle.fields.proofs.AllLaws.{all-at}
 use Rattle.question.proofs.rising.is_repeated.Statement.{statement}
 use Rattle.question.proofs.rising.is_repeated.Tie as tie
+
+-- the two places are among the pairs
+first-within : (s : tie.Start) → Within (s .args .pairs .now) (getD (s .args .places .now) (s .args .i) 0)
+first-within s = all-at (Within (s .args .pairs .now)) (s .args .places .now) (s .args .i) 0 (s .pre .1) (s .pre .0)
+
+module _ (c : tie.Else1) where
+  abbrev start : tie.Start
+  start = search
+
+  next-within : Within (start .args .pairs .now) (getD (start .args .places .now) (start .args .i + 1) 0)
+  next-within = all-at (Within (start .args .pairs .now)) (start .args .places .now) (start .args .i + 1) 0 (c .if1 .left) (start .pre .0)
+
+-- ---- the needs
 
 add-if1 : tie.Need-add-if1
 add-if1 c = search needs
 
 returns : tie.Need-returns
-returns c = let a = c .before .before .before .args in last-alone (a .pairs .now) (a .places .now) (a .i) (c .if1 .taken)
+returns c = let s : tie.Start = search in last-alone (s .args .pairs .now) (s .args .places .now) (s .args .i) (c .if1 .taken)
 
 mul-wide : tie.Need-mul-wide
 mul-wide c = search needs
@@ -24,8 +38,7 @@ wide-requires : tie.Need-wide-requires
 wide-requires c κs = search needs
 
 mul-p : tie.Need-mul-p
-mul-p c = let s = c .before .before .before .before .before in
-    omega (arith, c .wide .ensures, all-at (Within (s .args .pairs .now)) (s .args .places .now) (s .args .i) 0 (s .pre .1) (s .pre .0))
+mul-p c = let s : tie.Start = search in omega (arith, c .wide .ensures, first-within s)
 
 add-wide : tie.Need-add-wide
 add-wide c = search needs
@@ -40,18 +53,23 @@ wide-requires-2 : tie.Need-wide-requires-2
 wide-requires-2 c κs = search needs
 
 mul-q : tie.Need-mul-q
-mul-q c = let s = c .before .before .before .before .before .before .before in
-    omega (arith, c .wide2 .ensures, all-at (Within (s .args .pairs .now)) (s .args .places .now) (s .args .i + 1) 0 (c .before .before .before .before .if1 .left) (s .pre .0))
+mul-q c = let more : tie.Else1 = search in omega (arith, c .wide2 .ensures, next-within more)
 
 run-same-requires : tie.Need-run-same-requires
-run-same-requires c κs = let s = c .before .before .before .before .before .before .before in
-    let p = all-at (Within (s .args .pairs .now)) (s .args .places .now) (s .args .i) 0 (s .pre .1) (s .pre .0) in
-    let q = all-at (Within (s .args .pairs .now)) (s .args .places .now) (s .args .i + 1) 0 (c .before .before .before .before .if1 .left) (s .pre .0) in
-    (omega (arith, c .before .before .wide .ensures, p), omega (arith, c .wide2 .ensures, q))
+run-same-requires c κs =
+    let s : tie.Start = search in
+    let more : tie.Else1 = search in
+    let first : tie.After-wide = search in
+    (omega (arith, first .wide .ensures, first-within s), omega (arith, c .wide2 .ensures, next-within more))
 
 returns-2 : tie.Need-returns-2
-returns-2 c = let a = c .before .before .before .before .before .before .before .before .args in
-    same-as-next (a .pairs .now) (a .places .now) (a .i) (c .before .before .before .wide .result) (c .before .wide2 .result) (c .run-same .result) (c .before .before .before .before .before .if1 .left) (c .before .before .before .wide .ensures) (c .before .wide2 .ensures) (c .run-same .ensures)
+returns-2 c =
+    let s : tie.Start = search in
+    let more : tie.Else1 = search in
+    let first : tie.After-wide = search in
+    let next : tie.After-wide2 = search in
+    same-as-next (s .args .pairs .now) (s .args .places .now) (s .args .i) (more .if1 .left)
+    (first .wide .ensures) (next .wide2 .ensures) (c .run-same .ensures)
 
 pub is-repeated-spec : {M : Type 1} → statement M
 is-repeated-spec =
