@@ -11,11 +11,13 @@ words-at-requires c κs = search needs
 
 returns : tie.Need-returns
 returns c =
-    let s = c .before .before .before .before .before in
-    let f : Bytes (s .args .s .now) = λ i. omega (arith, c .before .before .before .before .shared-slice-known .given i) in
-    let g : Bytes (s .args .t .now) = λ i. omega (arith, c .before .before .before .shared-slice-known2 .given i) in
-    let w = c .before .before .words-at in
-    first-decides (s .args .s .now) (s .args .t .now) f g (s .args .p) (s .args .q) (s .args .size) (w .result .left) (w .result .right) (s .pre .0) (s .pre .1 .0) (s .pre .1 .1) (w .ensures .0) (w .ensures .1) (c .if1 .taken)
+    let s : tie.Start = search in
+    let known : tie.After-shared-slice-known = search in
+    let known2 : tie.After-shared-slice-known2 = search in
+    let w : tie.After-words-at = search in
+    let f : Bytes (s .args .s .now) = λ i. omega (arith, known .shared-slice-known .given i) in
+    let g : Bytes (s .args .t .now) = λ i. omega (arith, known2 .shared-slice-known2 .given i) in
+    first-decides (s .args .s .now) (s .args .t .now) f g (s .args .p) (s .args .q) (s .args .size) (w .words-at .result .left) (w .words-at .result .right) (s .pre .0) (s .pre .1 .0) (s .pre .1 .1) (w .words-at .ensures .0) (w .words-at .ensures .1) (c .if1 .taken)
 
 run-unlike-requires : tie.Need-run-unlike-requires
 run-unlike-requires c κs = search needs

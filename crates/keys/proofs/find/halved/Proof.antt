@@ -20,7 +20,9 @@ abbrev μ-loop : tie.MeasureT-loop
 μ-loop table width count key start size lo₀ hi₀ lo hi = hi - lo
 
 loop-holds : tie.Need-loop-holds Inv-loop μ-loop
-loop-holds c = (omega arith, (omega arith, (c .before .before .pre .1 .1 .below, (λ h. absurd (lt-irrefl 0 (omega arith))))))
+loop-holds c =
+    let start : tie.Start Inv-loop μ-loop = search in
+    (omega arith, (omega arith, (start .pre .1 .1 .below, (λ h. absurd (lt-irrefl 0 (omega arith))))))
 
 sub-mid : tie.Need-sub-mid Inv-loop μ-loop
 sub-mid c = search needs
@@ -29,14 +31,16 @@ add-mid : tie.Need-add-mid Inv-loop μ-loop
 add-mid c = search needs
 
 mul-comes-before : tie.Need-mul-comes-before Inv-loop μ-loop
-mul-comes-before c = let l = c .before in
-    let s = c .before .before .before .before in
+mul-comes-before c =
+    let s : tie.Start Inv-loop μ-loop = search in
+    let l : tie.At-loop Inv-loop μ-loop = search in
     let m : suc (l .loop .lo + (l .loop .hi - l .loop .lo) / 2) ≤ s .args .count = omega arith in
     omega (arith, mul-le-mul-right (s .args .width) m)
 
 comes-before-requires : tie.Need-comes-before-requires Inv-loop μ-loop
-comes-before-requires c κs = let l = c .before in
-    let s = c .before .before .before .before in
+comes-before-requires c κs =
+    let s : tie.Start Inv-loop μ-loop = search in
+    let l : tie.At-loop Inv-loop μ-loop = search in
     let m : suc (l .loop .lo + (l .loop .hi - l .loop .lo) / 2) ≤ s .args .count = omega arith in
     omega (arith, mul-le-mul-right (s .args .width) m)
 
@@ -47,8 +51,9 @@ loop-less : tie.Need-loop-less Inv-loop μ-loop
 loop-less c = search needs
 
 loop-again : tie.Need-loop-again Inv-loop μ-loop
-loop-again c = let l = c .before .before .before in
-    let s = c .before .before .before .before .before .before in
+loop-again c =
+    let s : tie.Start Inv-loop μ-loop = search in
+    let l : tie.At-loop Inv-loop μ-loop = search in
     let a = s .args in
     let m : ℕ = l .loop .lo + (l .loop .hi - l .loop .lo) / 2 in
     let h : m < a .count = omega arith in
@@ -62,8 +67,9 @@ loop-less-2 : tie.Need-loop-less-2 Inv-loop μ-loop
 loop-less-2 c = search needs
 
 loop-again-2 : tie.Need-loop-again-2 Inv-loop μ-loop
-loop-again-2 c = let l = c .before .before .before in
-    let s = c .before .before .before .before .before .before in
+loop-again-2 c =
+    let s : tie.Start Inv-loop μ-loop = search in
+    let l : tie.At-loop Inv-loop μ-loop = search in
     let a = s .args in
     let m : ℕ = l .loop .lo + (l .loop .hi - l .loop .lo) / 2 in (
       omega arith,
@@ -74,14 +80,17 @@ loop-again-2 c = let l = c .before .before .before in
     )
 
 mul-run-same : tie.Need-mul-run-same Inv-loop μ-loop
-mul-run-same c = let s = c .before .before .before .before .before in omega (arith, mul-le-mul-right (s .args .width) (c .if2 .taken))
+mul-run-same c = let s : tie.Start Inv-loop μ-loop = search in omega (arith, mul-le-mul-right (s .args .width) (c .if2 .taken))
 
 run-same-requires : tie.Need-run-same-requires Inv-loop μ-loop
-run-same-requires c κs = let s = c .before .before .before .before .before in omega (arith, mul-le-mul-right (s .args .width) (c .if2 .taken))
+run-same-requires c κs =
+    let s : tie.Start Inv-loop μ-loop = search in
+    omega (arith, mul-le-mul-right (s .args .width) (c .if2 .taken))
 
 returns : tie.Need-returns Inv-loop μ-loop
-returns c = let l = c .before .before .before .before in
-    let s = c .before .before .before .before .before .before .before in
+returns c =
+    let s : tie.Start Inv-loop μ-loop = search in
+    let l : tie.At-loop Inv-loop μ-loop = search in
     let a = s .args in
     let e : l .loop .hi ≡ l .loop .lo = omega arith in
     let h : l .loop .lo < a .count = omega arith in
@@ -89,8 +98,9 @@ returns c = let l = c .before .before .before .before in
     (compared-same (a .key .now) (a .table .now) (a .width) (a .count) (l .loop .lo) h (s .pre .0 .0) true (c .before .run-same .result) (c .before .run-same .ensures) (c .if3 .taken)))
 
 returns-2 : tie.Need-returns-2 Inv-loop μ-loop
-returns-2 c = let l = c .before .before .before .before in
-    let s = c .before .before .before .before .before .before .before in
+returns-2 c =
+    let s : tie.Start Inv-loop μ-loop = search in
+    let l : tie.At-loop Inv-loop μ-loop = search in
     let a = s .args in
     let e : l .loop .hi ≡ l .loop .lo = omega arith in
     let h : l .loop .lo < a .count = omega arith in
@@ -98,8 +108,9 @@ returns-2 c = let l = c .before .before .before .before in
     (compared-same (a .key .now) (a .table .now) (a .width) (a .count) (l .loop .lo) h (s .pre .0 .0) false (c .before .run-same .result) (c .before .run-same .ensures) (c .if3 .left)))
 
 returns-3 : tie.Need-returns-3 Inv-loop μ-loop
-returns-3 c = let l = c .before .before in
-    let s = c .before .before .before .before .before in
+returns-3 c =
+    let s : tie.Start Inv-loop μ-loop = search in
+    let l : tie.At-loop Inv-loop μ-loop = search in
     let a = s .args in
     sym (found-end (a .key .now) (entries (a .width) (a .count) (a .table .now)) (l .loop .lo) (rw length-entries (omega arith)) (l .loop .inv .1 .1 .0))
 

@@ -49,23 +49,25 @@ first-unlike-requires-3 c κs = search needs
 
 returns : tie.Need-returns
 returns c =
-    let s = c .before .before .before .before .before .before .before .before .before in
-    let f : Bytes (s .args .s .now) = λ i. omega (arith, c .before .before .before .before .before .before .before .before .shared-slice-known .given i) in
-    let g : Bytes (s .args .t .now) = λ i. omega (arith, c .before .before .before .before .before .before .before .shared-slice-known2 .given i) in
+    let s : tie.Start = search in
+    let known : tie.After-shared-slice-known = search in
+    let known2 : tie.After-shared-slice-known2 = search in
+    let first : tie.After-words-at = search in
+    let second : tie.After-words-at2 = search in
+    let third : tie.After-words-at3 = search in
+    let fourth : tie.After-words-at4 = search in
+    let u : tie.After-first-unlike = search in
+    let f : Bytes (s .args .s .now) = λ i. omega (arith, known .shared-slice-known .given i) in
+    let g : Bytes (s .args .t .now) = λ i. omega (arith, known2 .shared-slice-known2 .given i) in
     let p = s .args .p in
     let q = s .args .q in
-    let first = c .before .before .before .before .before .before .words-at in
-    let second = c .before .before .before .before .before .words-at2 in
-    let third = c .before .before .before .before .words-at3 in
-    let fourth = c .before .before .before .words-at4 in
-    let u = c .before .before .first-unlike in
     let v = c .before .first-unlike2 in
     let w = c .first-unlike3 in
-    front-decides (s .args .s .now) (s .args .t .now) f g p q (p + 8) (q + 8) 24 refl refl (omega arith) (omega arith) (first .result) (v .result) (w .result) (first .ensures .0) (first .ensures .1)
-    (front-decides (s .args .s .now) (s .args .t .now) f g (p + 8) (q + 8) (p + 16) (q + 16) 16 (omega arith) (omega arith) (omega arith) (omega arith) (second .result) (u .result) (v .result) (second .ensures .0) (second .ensures .1)
-    (front-decides (s .args .s .now) (s .args .t .now) f g (p + 16) (q + 16) (p + 24) (q + 24) 8 (omega arith) (omega arith) (omega arith) (omega arith) (third .result) (fourth .result) (u .result) (third .ensures .0) (third .ensures .1)
-    (only-decides (s .args .s .now) (s .args .t .now) f g (p + 24) (q + 24) 8 (fourth .result .left) (fourth .result .right) (omega arith) (omega arith) (omega arith) (fourth .ensures .0) (fourth .ensures .1) refl)
-    (u .ensures))
+    front-decides (s .args .s .now) (s .args .t .now) f g p q (p + 8) (q + 8) 24 refl refl (omega arith) (omega arith) (first .words-at .result) (v .result) (w .result) (first .words-at .ensures .0) (first .words-at .ensures .1)
+    (front-decides (s .args .s .now) (s .args .t .now) f g (p + 8) (q + 8) (p + 16) (q + 16) 16 (omega arith) (omega arith) (omega arith) (omega arith) (second .words-at2 .result) (u .first-unlike .result) (v .result) (second .words-at2 .ensures .0) (second .words-at2 .ensures .1)
+    (front-decides (s .args .s .now) (s .args .t .now) f g (p + 16) (q + 16) (p + 24) (q + 24) 8 (omega arith) (omega arith) (omega arith) (omega arith) (third .words-at3 .result) (fourth .words-at4 .result) (u .first-unlike .result) (third .words-at3 .ensures .0) (third .words-at3 .ensures .1)
+    (only-decides (s .args .s .now) (s .args .t .now) f g (p + 24) (q + 24) 8 (fourth .words-at4 .result .left) (fourth .words-at4 .result .right) (omega arith) (omega arith) (omega arith) (fourth .words-at4 .ensures .0) (fourth .words-at4 .ensures .1) refl)
+    (u .first-unlike .ensures))
     (v .ensures))
     (w .ensures)
 

@@ -33,13 +33,16 @@ read-requires-2 c κs = search needs
 
 returns : tie.Need-returns Inv-loop μ-loop
 returns c =
-    let s = c .before .before .before .before .before .before .before in
-    let f : Bytes (s .args .s .now) = λ i. omega (arith, c .before .before .before .before .before .before .shared-slice-known .given i) in
-    let g : Bytes (s .args .t .now) = λ i. omega (arith, c .before .before .before .before .before .shared-slice-known2 .given i) in
-    let l = c .before .before .before .before .loop in
-    let a = c .before .before .read in
+    let s : tie.Start Inv-loop μ-loop = search in
+    let known : tie.After-shared-slice-known Inv-loop μ-loop = search in
+    let known2 : tie.After-shared-slice-known2 Inv-loop μ-loop = search in
+    let head : tie.At-loop Inv-loop μ-loop = search in
+    let a : tie.After-read Inv-loop μ-loop = search in
+    let f : Bytes (s .args .s .now) = λ i. omega (arith, known .shared-slice-known .given i) in
+    let g : Bytes (s .args .t .now) = λ i. omega (arith, known2 .shared-slice-known2 .given i) in
+    let l = head .loop in
     let b = c .before .read2 in
-    differ-decides (s .args .s .now) (s .args .t .now) f g (s .args .p) (s .args .q) (s .args .size) (l .i) 1 (a .result) (b .result) (omega arith) (omega arith) (omega arith) (l .inv .1) (a .ensures .0) (b .ensures .0) (c .if1 .taken)
+    differ-decides (s .args .s .now) (s .args .t .now) f g (s .args .p) (s .args .q) (s .args .size) (l .i) 1 (a .read .result) (b .result) (omega arith) (omega arith) (omega arith) (l .inv .1) (a .read .ensures .0) (b .ensures .0) (c .if1 .taken)
 
 add-i : tie.Need-add-i Inv-loop μ-loop
 add-i c = search needs
@@ -49,18 +52,22 @@ loop-less c = search needs
 
 loop-again : tie.Need-loop-again Inv-loop μ-loop
 loop-again c =
-    let s = c .before .before .before .before .before .before .before in
-    let f : Bytes (s .args .s .now) = λ i. omega (arith, c .before .before .before .before .before .before .shared-slice-known .given i) in
-    let g : Bytes (s .args .t .now) = λ i. omega (arith, c .before .before .before .before .before .shared-slice-known2 .given i) in
-    let l = c .before .before .before .before .loop in
-    let a = c .before .before .read in
+    let s : tie.Start Inv-loop μ-loop = search in
+    let known : tie.After-shared-slice-known Inv-loop μ-loop = search in
+    let known2 : tie.After-shared-slice-known2 Inv-loop μ-loop = search in
+    let head : tie.At-loop Inv-loop μ-loop = search in
+    let a : tie.After-read Inv-loop μ-loop = search in
+    let f : Bytes (s .args .s .now) = λ i. omega (arith, known .shared-slice-known .given i) in
+    let g : Bytes (s .args .t .now) = λ i. omega (arith, known2 .shared-slice-known2 .given i) in
+    let l = head .loop in
     let b = c .before .read2 in
-    (omega arith, equal-next (s .args .s .now) (s .args .t .now) f g (s .args .p) (s .args .q) (s .args .size) (l .i) 1 (a .result) (b .result) (omega arith) (omega arith) (omega arith) (l .inv .1) (a .ensures .0) (b .ensures .0) (c .if1 .left))
+    (omega arith, equal-next (s .args .s .now) (s .args .t .now) f g (s .args .p) (s .args .q) (s .args .size) (l .i) 1 (a .read .result) (b .result) (omega arith) (omega arith) (omega arith) (l .inv .1) (a .read .ensures .0) (b .ensures .0) (c .if1 .left))
 
 returns-2 : tie.Need-returns-2 Inv-loop μ-loop
 returns-2 c =
+    let start : tie.Start Inv-loop μ-loop = search in
     let l = c .before .loop in
-    let a = c .before .before .before .before .args in
+    let a = start .args in
     let e : l .i ≡ a .size = omega arith in
     alike-decides (take (a .size) (drop (a .p) (a .s .now))) (take (a .size) (drop (a .q) (a .t .now))) (rw e at (l .inv .1))
 

@@ -34,12 +34,15 @@ words-at-requires c κs = search needs
 
 returns : tie.Need-returns Inv-loop μ-loop
 returns c =
-    let s = c .before .before .before .before .before .before .before in
-    let f : Bytes (s .args .s .now) = λ i. omega (arith, c .before .before .before .before .before .before .shared-slice-known .given i) in
-    let g : Bytes (s .args .t .now) = λ i. omega (arith, c .before .before .before .before .before .shared-slice-known2 .given i) in
-    let l = c .before .before .before .before .loop in
-    let w = c .before .before .words-at in
-    differ-decides (s .args .s .now) (s .args .t .now) f g (s .args .p) (s .args .q) (s .args .size) (l .i) 8 (w .result .left) (w .result .right) (omega arith) (omega arith) (omega arith) (l .inv .1) (w .ensures .0) (w .ensures .1) (c .if1 .taken)
+    let s : tie.Start Inv-loop μ-loop = search in
+    let known : tie.After-shared-slice-known Inv-loop μ-loop = search in
+    let known2 : tie.After-shared-slice-known2 Inv-loop μ-loop = search in
+    let head : tie.At-loop Inv-loop μ-loop = search in
+    let w : tie.After-words-at Inv-loop μ-loop = search in
+    let f : Bytes (s .args .s .now) = λ i. omega (arith, known .shared-slice-known .given i) in
+    let g : Bytes (s .args .t .now) = λ i. omega (arith, known2 .shared-slice-known2 .given i) in
+    let l = head .loop in
+    differ-decides (s .args .s .now) (s .args .t .now) f g (s .args .p) (s .args .q) (s .args .size) (l .i) 8 (w .words-at .result .left) (w .words-at .result .right) (omega arith) (omega arith) (omega arith) (l .inv .1) (w .words-at .ensures .0) (w .words-at .ensures .1) (c .if1 .taken)
 
 add-i : tie.Need-add-i Inv-loop μ-loop
 add-i c = search needs
@@ -49,12 +52,15 @@ loop-less c = search needs
 
 loop-again : tie.Need-loop-again Inv-loop μ-loop
 loop-again c =
-    let s = c .before .before .before .before .before .before .before in
-    let f : Bytes (s .args .s .now) = λ i. omega (arith, c .before .before .before .before .before .before .shared-slice-known .given i) in
-    let g : Bytes (s .args .t .now) = λ i. omega (arith, c .before .before .before .before .before .shared-slice-known2 .given i) in
-    let l = c .before .before .before .before .loop in
-    let w = c .before .before .words-at in
-    (omega arith, equal-next (s .args .s .now) (s .args .t .now) f g (s .args .p) (s .args .q) (s .args .size) (l .i) 8 (w .result .left) (w .result .right) (omega arith) (omega arith) (omega arith) (l .inv .1) (w .ensures .0) (w .ensures .1) (c .if1 .left))
+    let s : tie.Start Inv-loop μ-loop = search in
+    let known : tie.After-shared-slice-known Inv-loop μ-loop = search in
+    let known2 : tie.After-shared-slice-known2 Inv-loop μ-loop = search in
+    let head : tie.At-loop Inv-loop μ-loop = search in
+    let w : tie.After-words-at Inv-loop μ-loop = search in
+    let f : Bytes (s .args .s .now) = λ i. omega (arith, known .shared-slice-known .given i) in
+    let g : Bytes (s .args .t .now) = λ i. omega (arith, known2 .shared-slice-known2 .given i) in
+    let l = head .loop in
+    (omega arith, equal-next (s .args .s .now) (s .args .t .now) f g (s .args .p) (s .args .q) (s .args .size) (l .i) 8 (w .words-at .result .left) (w .words-at .result .right) (omega arith) (omega arith) (omega arith) (l .inv .1) (w .words-at .ensures .0) (w .words-at .ensures .1) (c .if1 .left))
 
 add-words-at-3 : tie.Need-add-words-at-3 Inv-loop μ-loop
 add-words-at-3 c = search needs
@@ -67,10 +73,13 @@ words-at-requires-2 c κs = search needs
 
 returns-2 : tie.Need-returns-2 Inv-loop μ-loop
 returns-2 c =
-    let s = c .before .before .before .before .before in
-    let f : Bytes (s .args .s .now) = λ i. omega (arith, c .before .before .before .before .shared-slice-known .given i) in
-    let g : Bytes (s .args .t .now) = λ i. omega (arith, c .before .before .before .shared-slice-known2 .given i) in
-    let l = c .before .before .loop in
+    let s : tie.Start Inv-loop μ-loop = search in
+    let known : tie.After-shared-slice-known Inv-loop μ-loop = search in
+    let known2 : tie.After-shared-slice-known2 Inv-loop μ-loop = search in
+    let head : tie.At-loop Inv-loop μ-loop = search in
+    let f : Bytes (s .args .s .now) = λ i. omega (arith, known .shared-slice-known .given i) in
+    let g : Bytes (s .args .t .now) = λ i. omega (arith, known2 .shared-slice-known2 .given i) in
+    let l = head .loop in
     let w = c .words-at2 in
     let last = s .args .size - 8 in
     let z : take last (drop (s .args .p) (s .args .s .now)) ≡ take last (drop (s .args .q) (s .args .t .now)) =

@@ -26,14 +26,17 @@ guess-requires : tie.Need-guess-requires
 guess-requires c κs = search needs
 
 less-requires : tie.Need-less-requires
-less-requires c κs = let s = c .before .before .before .before in
+less-requires c κs =
+    let s : tie.Start = search in
     let m : suc (c .guess .result) ≤ s .args .count = omega arith in
     omega (arith, mul-le-mul-right (s .args .width) m)
 
 among-requires-3 : tie.Need-among-requires-3
-among-requires-3 c κs = let s = c .before .before .before .before .before .before in
+among-requires-3 c κs =
+    let s : tie.Start = search in
+    let guess : tie.After-guess = search in
     let a = s .args in
-    let i : ℕ = c .before .before .guess .result in
+    let i : ℕ = guess .guess .result in
     let h : i < a .count = omega arith in
     (s .pre .0, below-probe (wordAt (a .width) (a .table .now)) (a .count) (a .word) i (s .pre .1) h (c .before .less .result) (c .before .less .ensures) (not-true (c .before .less .result) (c .if3 .taken)))
 
@@ -44,21 +47,25 @@ add-less : tie.Need-add-less
 add-less c = search needs
 
 less-requires-2 : tie.Need-less-requires-2
-less-requires-2 c κs = let s = c .before .before .before .before .before .before in
-    let m : suc (c .before .before .guess .result + 64) ≤ s .args .count = omega arith in
+less-requires-2 c κs =
+    let s : tie.Start = search in
+    let guess : tie.After-guess = search in
+    let m : suc (guess .guess .result + 64) ≤ s .args .count = omega arith in
     omega (arith, mul-le-mul-right (s .args .width) m)
 
 add-among : tie.Need-add-among
 add-among c = search needs
 
 among-requires-4 : tie.Need-among-requires-4
-among-requires-4 c κs = let s = c .before .before .before .before .before .before .before .before in
+among-requires-4 c κs =
+    let s : tie.Start = search in
+    let guess : tie.After-guess = search in
     let a = s .args in
-    let i : ℕ = c .before .before .before .before .guess .result + 64 in
+    let i : ℕ = guess .guess .result + 64 in
     let h : i < a .count = omega arith in
-    let e : i + 1 ≡ c .before .before .before .before .guess .result + 65 = omega arith in (
+    let e : i + 1 ≡ guess .guess .result + 65 = omega arith in (
       s .pre .0,
-      within-as (wordAt (a .width) (a .table .now)) (a .count) (a .word) (i + 1) (a .count) (c .before .before .before .before .guess .result + 65) (a .count) e refl
+      within-as (wordAt (a .width) (a .table .now)) (a .count) (a .word) (i + 1) (a .count) (guess .guess .result + 65) (a .count) e refl
           (above-probe (wordAt (a .width) (a .table .now)) (a .count) (a .word) i (s .pre .1) h (c .before .less2 .result) (c .before .less2 .ensures) (c .if4 .taken)),
     )
 
@@ -69,9 +76,13 @@ add-among-63 : tie.Need-add-among-63
 add-among-63 c = search needs
 
 among-63-requires : tie.Need-among-63-requires
-among-63-requires c κs = let s = c .before .before .before .before .before .before .before .before in
+among-63-requires c κs =
+    let s : tie.Start = search in
+    let guess : tie.After-guess = search in
+    let less : tie.After-less = search in
+    let else3 : tie.Else3 = search in
     let a = s .args in
-    let i : ℕ = c .before .before .before .before .guess .result in
+    let i : ℕ = guess .guess .result in
     let h : i < a .count = omega arith in
     let k : i + 64 < a .count = omega arith in
     let o : i + 1 ≤ i + 64 = omega arith in
@@ -79,7 +90,7 @@ among-63-requires c κs = let s = c .before .before .before .before .before .bef
       s .pre .0,
       within-as (wordAt (a .width) (a .table .now)) (a .count) (a .word) (i + 1) (i + 64) (i + 1) (i + 1 + 63) refl e
           (between (wordAt (a .width) (a .table .now)) (a .count) (a .word) (i + 1) (i + 64) o
-          (above-probe (wordAt (a .width) (a .table .now)) (a .count) (a .word) i (s .pre .1) h (c .before .before .before .less .result) (c .before .before .before .less .ensures) (not-false (c .before .before .before .less .result) (c .before .before .if3 .left)))
+          (above-probe (wordAt (a .width) (a .table .now)) (a .count) (a .word) i (s .pre .1) h (less .less .result) (less .less .ensures) (not-false (less .less .result) (else3 .if3 .left)))
           (below-probe (wordAt (a .width) (a .table .now)) (a .count) (a .word) (i + 64) (s .pre .1) k (c .before .less2 .result) (c .before .less2 .ensures) (c .if4 .left))),
     )
 
