@@ -32,11 +32,14 @@ contains-requires c κs = search needs
 
 returns : tie.Need-returns Inv-loop μ-loop
 returns c =
-    let l = c .before .before .before .before .loop in
-    let s = c .before .before .before .before .before .before .args in
-    let read = c .before .before .read-u64 in
-    let outside : isListed (read .result) (stalledPeers (s .stalled)) ≡ false = sym (c .before .contains .ensures) ∙ not-true (c .before .contains .result) (c .if1 .taken) in
-    sym (unstalled-here (s .peers .now) (l .i) (read .result) (c .before .before .before .loop-test .taken) (read .ensures) (stalledPeers (s .stalled)) outside) ∙ l .inv .1
+    let start : tie.Start Inv-loop μ-loop = search in
+    let head : tie.At-loop Inv-loop μ-loop = search in
+    let turn : tie.In-loop Inv-loop μ-loop = search in
+    let read : tie.After-read-u64 Inv-loop μ-loop = search in
+    let l = head .loop in
+    let s = start .args in
+    let outside : isListed (read .read-u64 .result) (stalledPeers (s .stalled)) ≡ false = sym (c .before .contains .ensures) ∙ not-true (c .before .contains .result) (c .if1 .taken) in
+    sym (unstalled-here (s .peers .now) (l .i) (read .read-u64 .result) (turn .loop-test .taken) (read .read-u64 .ensures) (stalledPeers (s .stalled)) outside) ∙ l .inv .1
 
 add-i : tie.Need-add-i Inv-loop μ-loop
 add-i c = search needs
@@ -46,16 +49,20 @@ loop-less c = search needs
 
 loop-again : tie.Need-loop-again Inv-loop μ-loop
 loop-again c =
-    let l = c .before .before .before .before .loop in
-    let s = c .before .before .before .before .before .before .args in
-    let read = c .before .before .read-u64 in
-    let inside : isListed (read .result) (stalledPeers (s .stalled)) ≡ true = sym (c .before .contains .ensures) ∙ not-false (c .before .contains .result) (c .if1 .left) in
-    (search needs, sym (unstalled-later (s .peers .now) (l .i) (read .result) (c .before .before .before .loop-test .taken) (read .ensures) (stalledPeers (s .stalled)) inside) ∙ l .inv .1)
+    let start : tie.Start Inv-loop μ-loop = search in
+    let head : tie.At-loop Inv-loop μ-loop = search in
+    let turn : tie.In-loop Inv-loop μ-loop = search in
+    let read : tie.After-read-u64 Inv-loop μ-loop = search in
+    let l = head .loop in
+    let s = start .args in
+    let inside : isListed (read .read-u64 .result) (stalledPeers (s .stalled)) ≡ true = sym (c .before .contains .ensures) ∙ not-false (c .before .contains .result) (c .if1 .left) in
+    (search needs, sym (unstalled-later (s .peers .now) (l .i) (read .read-u64 .result) (turn .loop-test .taken) (read .read-u64 .ensures) (stalledPeers (s .stalled)) inside) ∙ l .inv .1)
 
 returns-2 : tie.Need-returns-2 Inv-loop μ-loop
 returns-2 c =
+    let start : tie.Start Inv-loop μ-loop = search in
     let l = c .before .loop in
-    let s = c .before .before .before .args in
+    let s = start .args in
     sym (unstalled-end (s .peers .now) (l .i) (c .loop-test .left) (stalledPeers (s .stalled))) ∙ l .inv .1
 
 pub first-unstalled-spec : {M : Type 1} → statement M
