@@ -18,27 +18,41 @@ use Rattle.order.specs.Gathered.{gathered}
 
 -- ---- an id, copied by words
 
-module _ (table ids : List ℕ) (from to : ℕ) (bytes : Bytes table) (within : from + 32 ≤ length table) (room : to + 32 ≤ length ids) where
-  -- the first m bytes are copied, then the next word
-  word-next : (m word : ℕ) (t u : List ℕ) → m + 8 ≤ 32 → word ≡ fromBe (take 8 (drop (from + m) table)) → t ≡ overwritten to (take m (drop from table)) ids
-      → u ≡ overwritten (to + m) (toBe 8 word) t → u ≡ overwritten to (take (m + 8) (drop from table)) ids
-  word-next m word t u h w e f =
-      let la : length (take m (drop from table)) ≡ m = length-part from m table (omega arith) in
-      let lb : length (take 8 (drop (from + m) table)) ≡ 8 = length-part (from + m) 8 table (omega arith) in
-      let n : overwritten (to + m) (take 8 (drop (from + m) table)) (overwritten to (take m (drop from table)) ids)
-      ≡ overwritten to (take m (drop from table) ++ take 8 (drop (from + m) table)) ids = rw la at (overwritten-next to (take m (drop from table)) (take 8 (drop (from + m) table)) ids (omega arith)) in
-      let p : take m (drop from table) ++ take 8 (drop (from + m) table) ≡ take (m + 8) (drop from table) = rw (take-add m 8 (drop from table), drop-drop) in
-      f ∙ rw (e, w, toBe-part (from + m) 8 table (omega arith) bytes, ← p) n
+-- the four words of the id at `from`
+pub record Read (table : List ℕ) (from a b c d : ℕ) : Type 0 where
+  pub bytes : Bytes table
+  pub within : from + 32 ≤ length table
+  pub first : a ≡ fromBe (take 8 (drop from table))
+  pub second : b ≡ fromBe (take 8 (drop (from + 8) table))
+  pub third : c ≡ fromBe (take 8 (drop (from + 16) table))
+  pub fourth : d ≡ fromBe (take 8 (drop (from + 24) table))
 
-  pub id-copied : (a b c d : ℕ) (t₁ t₂ t₃ t₄ : List ℕ)
-      → a ≡ fromBe (take 8 (drop from table)) → b ≡ fromBe (take 8 (drop (from + 8) table)) → c ≡ fromBe (take 8 (drop (from + 16) table)) → d ≡ fromBe (take 8 (drop (from + 24) table))
-      → t₁ ≡ overwritten to (toBe 8 a) ids → t₂ ≡ overwritten (to + 8) (toBe 8 b) t₁ → t₃ ≡ overwritten (to + 16) (toBe 8 c) t₂ → t₄ ≡ overwritten (to + 24) (toBe 8 d) t₃
-      → t₄ ≡ overwritten to (take 32 (drop from table)) ids
-  id-copied a b c d t₁ t₂ t₃ t₄ ra rb rc rd e₁ e₂ e₃ e₄ =
-      let m₁ : t₁ ≡ overwritten to (take 8 (drop from table)) ids = e₁ ∙ rw (ra, toBe-part from 8 table (omega arith) bytes) in
-      let m₂ : t₂ ≡ overwritten to (take 16 (drop from table)) ids = word-next 8 b t₁ t₂ (omega arith) rb m₁ e₂ in
-      let m₃ : t₃ ≡ overwritten to (take 24 (drop from table)) ids = word-next 16 c t₂ t₃ (omega arith) rc m₂ e₃ in
-      word-next 24 d t₃ t₄ (omega arith) rd m₃ e₄
+module _ {table : List ℕ} {from a b c d : ℕ} (r : Read table from a b c d) (ids : List ℕ) (to : ℕ) (room : to + 32 ≤ length ids) where
+  -- the id's first m bytes stand at `to`
+  abbrev Copied : ℕ → List ℕ → Type 0
+  Copied m t = t ≡ overwritten to (take m (drop from table)) ids
+
+  -- the next word
+  word-next : (m word : ℕ) {t u : List ℕ} → m + 8 ≤ 32 → word ≡ fromBe (take 8 (drop (from + m) table)) → Copied m t
+      → u ≡ overwritten (to + m) (toBe 8 word) t → Copied (m + 8) u
+  word-next m word h w e f =
+      let within = r .within in
+      let done : List ℕ = take m (drop from table) in
+      let next : List ℕ = take 8 (drop (from + m) table) in
+      let la : length done ≡ m = length-part from m table (omega arith) in
+      let lb : length next ≡ 8 = length-part (from + m) 8 table (omega arith) in
+      let n : overwritten (to + m) next (overwritten to done ids) ≡ overwritten to (done ++ next) ids =
+      rw la at (overwritten-next to done next ids (omega arith)) in
+      let p : done ++ next ≡ take (m + 8) (drop from table) = rw (take-add m 8 (drop from table), drop-drop) in
+      f ∙ rw (e, w, toBe-part (from + m) 8 table (omega arith) (r .bytes), ← p) n
+
+  pub id-copied : {t₁ t₂ t₃ t₄ : List ℕ} → t₁ ≡ overwritten to (toBe 8 a) ids → t₂ ≡ overwritten (to + 8) (toBe 8 b) t₁
+      → t₃ ≡ overwritten (to + 16) (toBe 8 c) t₂ → t₄ ≡ overwritten (to + 24) (toBe 8 d) t₃ → t₄ ≡ overwritten to (take 32 (drop from table)) ids
+  id-copied {t₁} {t₂} {t₃} {t₄} e₁ e₂ e₃ e₄ =
+      let one : Copied 8 t₁ = e₁ ∙ rw (r .first, toBe-part from 8 table (omega (arith, r .within)) (r .bytes)) in
+      let two : Copied 16 t₂ = word-next 8 b (omega arith) (r .second) one e₂ in
+      let three : Copied 24 t₃ = word-next 16 c (omega arith) (r .third) two e₃ in
+      word-next 24 d (omega arith) (r .fourth) three e₄
 
 -- ---- ids, one after another
 

@@ -19,7 +19,9 @@ id-end c = let s = c .before .before .before .before .before .before .before in
     id-ends (s .args .width) (s .args .offset) (s .args .table .now) (s .pre .1 .0) (s .args .places .now) (c .before .before .before .loop .i) (c .wide .result) (s .pre .0) (c .before .before .loop-test .taken) (c .wide .ensures)
 
 loop-holds : tie.Need-loop-holds Inv-loop μ-loop
-loop-holds c = let a = c .before .before .before .args in gather-starts (a .width) (a .offset) (a .table .now) (a .places .now) (a .ids .now)
+loop-holds c =
+    let start : tie.Start Inv-loop μ-loop = search in
+    let a = start .args in gather-starts (a .width) (a .offset) (a .table .now) (a .places .now) (a .ids .now)
 
 mul-wide : tie.Need-mul-wide Inv-loop μ-loop
 mul-wide c = search needs
@@ -40,7 +42,11 @@ mul-put-id : tie.Need-mul-put-id Inv-loop μ-loop
 mul-put-id c = search needs
 
 put-id-requires : tie.Need-put-id-requires Inv-loop μ-loop
-put-id-requires c κs = let s = c .before .before .before .before .before .before .before .before in let l = c .before .before .before .before .loop in (omega (arith, id-end (c .before)), omega (arith, l .inv .long, c .before .before .before .loop-test .taken, s .pre .1 .1))
+put-id-requires c κs =
+    let s : tie.Start Inv-loop μ-loop = search in
+    let head : tie.At-loop Inv-loop μ-loop = search in
+    let turn : tie.In-loop Inv-loop μ-loop = search in
+    let l = head .loop in (omega (arith, id-end (c .before)), omega (arith, l .inv .long, turn .loop-test .taken, s .pre .1 .1))
 
 add-i : tie.Need-add-i Inv-loop μ-loop
 add-i c = search needs
@@ -49,17 +55,23 @@ loop-less : tie.Need-loop-less Inv-loop μ-loop
 loop-less c = search needs
 
 loop-again : tie.Need-loop-again Inv-loop μ-loop
-loop-again c = let s = c .before .before .before .before .before .before .before .before .before .before .before in
+loop-again c =
+    let s : tie.Start Inv-loop μ-loop = search in
+    let head : tie.At-loop Inv-loop μ-loop = search in
+    let turn : tie.In-loop Inv-loop μ-loop = search in
+    let w : tie.After-wide Inv-loop μ-loop = search in
+    let put-id : tie.After-put-id Inv-loop μ-loop = search in
     let a = s .args in
-    let l = c .before .before .before .before .before .before .before .loop in
-    let w = c .before .before .before .before .wide in
-    gather-turn (a .width) (a .offset) (a .table .now) (s .pre .1 .0) (a .places .now) (a .ids .now) (l .ids) (l .i) (l .inv) (s .pre .0) (s .pre .1 .1) (c .before .before .before .before .before .before .loop-test .taken) (w .result) (w .ensures) (c .before .before .put-id .last .1 .1 .0) (c .before .before .put-id .ensures)
+    let l = head .loop in
+    gather-turn (a .width) (a .offset) (a .table .now) (s .pre .1 .0) (a .places .now) (a .ids .now) (l .ids) (l .i) (l .inv) (s .pre .0) (s .pre .1 .1) (turn .loop-test .taken) (w .wide .result) (w .wide .ensures) (put-id .put-id .last .1 .1 .0) (put-id .put-id .ensures)
 
 same-length : tie.Need-same-length Inv-loop μ-loop
 same-length c = c .before .loop .inv .long
 
 returns : tie.Need-returns Inv-loop μ-loop
-returns c = let s = c .before .before .before .before .before in let l = c .before .loop in
+returns c =
+    let s : tie.Start Inv-loop μ-loop = search in
+    let l = c .before .loop in
     gather-ends (s .args .width) (s .args .offset) (s .args .table .now) (s .pre .1 .0) (s .args .places .now) (s .args .ids .now) (l .ids) (l .i) (l .inv) (s .pre .0) (s .pre .1 .1) (c .loop-test .left)
 
 pub gather-spec : {M : Type 1} → statement M
