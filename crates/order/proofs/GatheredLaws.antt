@@ -86,32 +86,6 @@ module _ (width offset : ℕ) (table : List ℕ) where
   pub gather-starts : (places d : List ℕ) → Gathering places d d 0
   gather-starts places d = record { i-le = omega arith; long = refl; rest = refl }
 
-  module _ (fits : offset + 32 ≤ width) (places d ids : List ℕ) (i : ℕ) (g : Gathering places d ids i) (w : All Within places) (room : length places * 32 ≤ length d) where
-    pub gather-turn : i < length places → (p : ℕ) → p ≡ getD places i 0
-        → (o : List ℕ) → o ≡ overwritten (i * 32) (take 32 (drop (p * width + offset) table)) ids → Gathering places d o (i + 1)
-    gather-turn h p ep o eo =
-        let place : ℕ = getD places i 0 in
-        let x : List ℕ = take 32 (drop offset (entry width place table)) in
-        let xo : o ≡ overwritten (i * 32) x ids = eo ∙ rw (ep, ← entry-field width place offset 32 table fits) in
-        let lx : length x ≡ 32 = id-long fits place (all-at Within places i 0 h w) in
-        let T : List ℕ = joined (gathered width offset table (drop (i + 1) places)) in
-        let lT : length T ≡ length (drop (i + 1) places) * 32 = length-gathered fits (drop (i + 1) places) (all-drop Within (i + 1) places w) in
-        let ld : length (drop (i + 1) places) ≡ length places - (i + 1) = length-drop (i + 1) places in
-        let e : (i + 1) * 32 ≡ i * 32 + length x = omega arith in
-        let r : overwritten (i * 32) (x ++ T) ids ≡ overwritten 0 (joined (gathered width offset table places)) d =
-        rw (next-mapped (λ (q : ℕ). take 32 (drop offset (entry width q table))) places i h) at (g .rest) in
-        record {
-          i-le = omega arith;
-          long = rw xo (length-overwritten (i * 32) x ids (omega (arith, g .long))) ∙ g .long;
-          rest = rw (e, xo) (overwritten-next (i * 32) x T ids (omega (arith, g .long)) ∙ r);
-        }
-
-    pub gather-ends : length places ≤ i → ids ≡ overwritten 0 (joined (gathered width offset table places)) d
-    gather-ends h =
-        let z : drop i places ≡ [] = drop-of-length-le places {i = i} h in
-        let a : overwritten (i * 32) [] ids ≡ overwritten 0 (joined (gathered width offset table places)) d = rw z at (g .rest) in
-        sym (overwritten-nil (i * 32) ids) ∙ a
-
   -- the ids are read back at the front; where the room is theirs alone, they are all of it
   module _ (fits : offset + 32 ≤ width) (places d ids : List ℕ) (w : All Within places) (e : ids ≡ overwritten 0 (joined (gathered width offset table places)) d) where
     pub gathered-front : take (length places * 32) ids ≡ joined (gathered width offset table places)
@@ -119,3 +93,34 @@ module _ (width offset : ℕ) (table : List ℕ) where
 
     pub gathered-all : length d ≡ length places * 32 → ids ≡ joined (gathered width offset table places)
     gathered-all l = e ∙ overwritten-all (joined (gathered width offset table places)) d (length-gathered fits places w ∙ sym l)
+
+-- a turn of the loop, and its end
+module _ {width offset : ℕ} {table places d ids : List ℕ} {i : ℕ} (g : Gathering width offset table places d ids i) where
+  abbrev Inside : ℕ → Type 0
+  Inside = Within width offset table
+
+  pub gather-turn : offset + 32 ≤ width → All Inside places → length places * 32 ≤ length d → i < length places → {p : ℕ} → p ≡ getD places i 0
+      → {o : List ℕ} → o ≡ overwritten (i * 32) (take 32 (drop (p * width + offset) table)) ids → Gathering width offset table places d o (i + 1)
+  gather-turn fits w room h {p} ep {o} eo =
+      let place : ℕ = getD places i 0 in
+      let id : List ℕ = take 32 (drop offset (entry width place table)) in
+      let written : o ≡ overwritten (i * 32) id ids = eo ∙ rw (ep, ← entry-field width place offset 32 table fits) in
+      let l : length id ≡ 32 = id-long width offset table fits place (all-at Inside places i 0 h w) in
+      let left : List ℕ = drop (i + 1) places in
+      let later : List ℕ = joined (gathered width offset table left) in
+      let m : length later ≡ length left * 32 = length-gathered width offset table fits left (all-drop Inside (i + 1) places w) in
+      let n : length left ≡ length places - (i + 1) = length-drop (i + 1) places in
+      let e : (i + 1) * 32 ≡ i * 32 + length id = omega arith in
+      let r : overwritten (i * 32) (id ++ later) ids ≡ overwritten 0 (joined (gathered width offset table places)) d =
+      rw (next-mapped (λ (q : ℕ). take 32 (drop offset (entry width q table))) places i h) at (g .rest) in
+      record {
+        i-le = omega arith;
+        long = rw written (length-overwritten (i * 32) id ids (omega (arith, g .long))) ∙ g .long;
+        rest = rw (e, written) (overwritten-next (i * 32) id later ids (omega (arith, g .long)) ∙ r);
+      }
+
+  pub gather-ends : length places ≤ i → ids ≡ overwritten 0 (joined (gathered width offset table places)) d
+  gather-ends h =
+      let z : drop i places ≡ [] = drop-of-length-le places {i = i} h in
+      let a : overwritten (i * 32) [] ids ≡ overwritten 0 (joined (gathered width offset table places)) d = rw z at (g .rest) in
+      sym (overwritten-nil (i * 32) ids) ∙ a
