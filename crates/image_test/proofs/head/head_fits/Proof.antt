@@ -21,13 +21,14 @@ peer-fits-requires c κs = search needs
 
 returns : tie.Need-returns
 returns c =
-    let area = c .before .before .before .before .before .before .args .area .now in
-    let starts = c .before .before .before .before .starts-well in
-    let marks = c .before .before .before .marks-fit in
-    let counts = c .before .before .counts-fit in
+    let start : tie.Start = search in
+    let starts : tie.After-starts-well = search in
+    let marks : tie.After-marks-fit = search in
+    let counts : tie.After-counts-fit = search in
+    let area = start .args .area .now in
     let clocks = c .before .clocks-fit in
     let peer = c .peer-fits in
-    parts-fit area (starts .result) (marks .result) (counts .result) (clocks .result) (peer .result) (starts .ensures) (marks .ensures) (counts .ensures) (clocks .ensures) (peer .ensures)
+    parts-fit area (starts .starts-well .result) (marks .marks-fit .result) (counts .counts-fit .result) (clocks .result) (peer .result) (starts .starts-well .ensures) (marks .marks-fit .ensures) (counts .counts-fit .ensures) (clocks .ensures) (peer .ensures)
 
 pub head-fits-spec : {M : Type 1} → statement M
 head-fits-spec =

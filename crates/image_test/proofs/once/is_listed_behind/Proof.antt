@@ -19,7 +19,7 @@ element-copy-out-if1 c = search needs
 
 returns : tie.Need-returns
 returns c =
-    let s = c .before .before .before in
+    let s : tie.Start = search in
     let i = s .args .i in
     sym (unflagged (s .args .flags .now) (elements (s .args .count - (i + 1)) (i + 1) (s .args .peers .now)) (getD (s .args .peers .now) i 0) (s .pre .1) (c .if1 .taken))
 
