@@ -27,9 +27,10 @@ is-rising-requires c κs = search needs
 returns : tie.Need-returns
 returns c =
     let start : tie.Start = search in
-    let count-at : tie.After-count-at = search in
+    let count : tie.After-count-at = search in
     let area = start .args .area .now in
-    c .is-rising .ensures ∙ rw (count-at .count-at .ensures, take-all (length area - regionAt) (drop regionAt area) (rw (length-drop regionAt area) (omega arith)))
+    c .is-rising .ensures
+    ∙ rw (count .count-at .ensures, take-all (length area - regionAt) (drop regionAt area) (rw (length-drop regionAt area) (omega arith)))
 
 pub ids-rise-spec : {M : Type 1} → statement M
 ids-rise-spec =

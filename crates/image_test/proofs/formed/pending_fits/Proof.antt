@@ -38,8 +38,9 @@ returns c =
     let count : tie.After-count-at = search in
     let settings : tie.After-read-settings = search in
     let area = start .args .area .now in
-    let rest : take (length area - regionAt) (drop regionAt area) ≡ drop regionAt area = take-all (length area - regionAt) (drop regionAt area) (rw (length-drop regionAt area) (omega arith)) in
-    pending-read area (take (length area - regionAt) (drop regionAt area)) (settings .read-settings .result) (clock .read-u64 .result) (count .count-at .result) (settings .read-settings .ensures) (clock .read-u64 .ensures) (count .count-at .ensures) rest (c .records-fit .result) (c .records-fit .ensures)
+    let rest : take (length area - regionAt) (drop regionAt area) ≡ drop regionAt area =
+    take-all (length area - regionAt) (drop regionAt area) (rw (length-drop regionAt area) (omega arith)) in
+    pending-read area (settings .read-settings .ensures) (clock .read-u64 .ensures) (count .count-at .ensures) rest (c .records-fit .ensures)
 
 pub pending-fits-spec : {M : Type 1} → statement M
 pending-fits-spec =

@@ -63,14 +63,15 @@ most-requests-requires c κs = search needs
 returns-3 : tie.Need-returns-3
 returns-3 c =
     let start : tie.Start = search in
-    let else1 : tie.Else1 = search in
+    let narrow : tie.Else1 = search in
     let stamp : tie.After-read-u64 = search in
-    let else2 : tie.Else2 = search in
-    let read-u32 : tie.After-read-u32 = search in
+    let timely : tie.Else2 = search in
+    let checks : tie.After-read-u32 = search in
     let s = start .args in
-    let zero : getD (s .region .now) (s .i * recordSize + 40) 0 ≡ 0 = else1 .if1 .left in
-    let past : stamp .read-u64 .result ≤ s .clock = else2 .if2 .left in
-    rw (read-u32 .read-u32 .ensures, c .most-requests .ensures) (record-checks (settingsOf (s .settings)) (s .clock) (s .i) (s .region .now) (start .pre) zero (rw (stamp .read-u64 .ensures) at past))
+    let zero : getD (s .region .now) (s .i * recordSize + 40) 0 ≡ 0 = narrow .if1 .left in
+    let past : stamp .read-u64 .result ≤ s .clock = timely .if2 .left in
+    rw (checks .read-u32 .ensures, c .most-requests .ensures)
+    (record-checks (settingsOf (s .settings)) (s .clock) (s .i) (s .region .now) (start .pre) zero (rw (stamp .read-u64 .ensures) at past))
 
 pub record-fits-spec : {M : Type 1} → statement M
 record-fits-spec =

@@ -71,13 +71,13 @@ is-zero-requires-3 c κs = search needs
 returns : tie.Need-returns
 returns c =
     let s : tie.Start = search in
-    let n : tie.After-count-at = search in
-    let p : tie.After-count-at2 = search in
-    let e : tie.After-count-at3 = search in
-    let is-zero : tie.After-is-zero = search in
-    let is-zero2 : tie.After-is-zero2 = search in
-    room (s .args .area .now) (n .count-at .result) (p .count-at2 .result) (e .count-at3 .result) (is-zero .is-zero .result) (is-zero2 .is-zero2 .result) (c .is-zero3 .result) (n .count-at .ensures) (p .count-at2 .ensures) (e .count-at3 .ensures) (omega arith) (omega arith)
-    (is-zero .is-zero .ensures) (is-zero2 .is-zero2 .ensures) (c .is-zero3 .ensures)
+    let stalled : tie.After-count-at = search in
+    let pending : tie.After-count-at2 = search in
+    let evicted : tie.After-count-at3 = search in
+    let header : tie.After-is-zero = search in
+    let places : tie.After-is-zero2 = search in
+    room (s .args .area .now) (stalled .count-at .ensures) (pending .count-at2 .ensures) (evicted .count-at3 .ensures) (omega arith) (omega arith)
+    (header .is-zero .ensures) (places .is-zero2 .ensures) (c .is-zero3 .ensures)
 
 pub room-is-zero-spec : {M : Type 1} → statement M
 room-is-zero-spec =

@@ -25,10 +25,8 @@ returns c =
     let starts : tie.After-starts-well = search in
     let marks : tie.After-marks-fit = search in
     let counts : tie.After-counts-fit = search in
-    let area = start .args .area .now in
-    let clocks = c .before .clocks-fit in
-    let peer = c .peer-fits in
-    parts-fit area (starts .starts-well .result) (marks .marks-fit .result) (counts .counts-fit .result) (clocks .result) (peer .result) (starts .starts-well .ensures) (marks .marks-fit .ensures) (counts .counts-fit .ensures) (clocks .ensures) (peer .ensures)
+    parts-fit (start .args .area .now) (starts .starts-well .ensures) (marks .marks-fit .ensures) (counts .counts-fit .ensures)
+    (c .before .clocks-fit .ensures) (c .peer-fits .ensures)
 
 pub head-fits-spec : {M : Type 1} → statement M
 head-fits-spec =

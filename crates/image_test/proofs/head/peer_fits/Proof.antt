@@ -17,8 +17,8 @@ shared-slice-read-result-2 c = search needs
 returns : tie.Need-returns
 returns c =
     let start : tie.Start = search in
-    let read-u64 : tie.After-read-u64 = search in
-    rw (read-u64 .read-u64 .ensures, peer-byte (getD (start .args .area .now) 5 0))
+    let peer : tie.After-read-u64 = search in
+    rw (peer .read-u64 .ensures, peer-byte (getD (start .args .area .now) 5 0))
 
 pub peer-fits-spec : {M : Type 1} → statement M
 peer-fits-spec =

@@ -23,8 +23,8 @@ shared-slice-read-result-4 c = search needs
 returns : tie.Need-returns
 returns c =
     let start : tie.Start = search in
-    let read-u16 : tie.After-read-u16 = search in
-    rw (read-u16 .read-u16 .ensures, same-three (start .args .area .now) 69 68 84 (omega arith))
+    let version : tie.After-read-u16 = search in
+    rw (version .read-u16 .ensures, same-three (start .args .area .now) 69 68 84 (omega arith))
 
 pub starts-well-spec : {M : Type 1} → statement M
 starts-well-spec =

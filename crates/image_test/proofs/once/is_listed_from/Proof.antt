@@ -11,7 +11,8 @@ use Rattle.image_test.proofs.once.is_listed_from.Statement.{statement}
 use Rattle.image_test.proofs.once.is_listed_from.Tie as tie
 
 abbrev Inv-loop : tie.InvT-loop
-Inv-loop peers from count peer found₀ i₀ found i = (count ≤ 256) × (found || isListed peer (elements (count - i) i peers) ≡ isListed peer (elements (count - from) from peers))
+Inv-loop peers from count peer found₀ i₀ found i =
+    (count ≤ 256) × (found || isListed peer (elements (count - i) i peers) ≡ isListed peer (elements (count - from) from peers))
 
 abbrev μ-loop : tie.MeasureT-loop
 μ-loop peers from count peer found₀ i₀ found i = count - i

@@ -46,10 +46,11 @@ loop-again c =
     let head : tie.At-loop Inv-loop μ-loop = search in
     let l = head .loop in
     let s = start .args in
-    let listed = c .before .is-listed-behind in (
-      omega arith,
-      (omega arith, (rw length-set (l .inv .1 .1 .0), passed-next (s .peers .now) (s .count) (l .flags) (l .ok) (listed .result) (l .i) (l .i - 1) (omega arith) (omega arith) (l .inv .1 .1 .0) (l .inv .1 .1 .1) (listed .ensures))),
-    )
+    let listed = c .before .is-listed-behind in
+    let next =
+    passed-next (s .peers .now) (s .count) (l .flags) (l .ok) (listed .result) (l .i) (l .i - 1) (omega arith) (omega arith)
+    (l .inv .1 .1 .0) (l .inv .1 .1 .1) (listed .ensures) in
+    (omega arith, (omega arith, (rw length-set (l .inv .1 .1 .0), next)))
 
 returns : tie.Need-returns Inv-loop μ-loop
 returns c =

@@ -35,7 +35,9 @@ returns-2 c =
     let s : tie.Start = search in
     let count : tie.After-count-at = search in
     let read : tie.After-read-stalled = search in
-    c .is-none-twice .ensures ∙ stalled-read (s .args .area .now) (count .count-at .result) (count .count-at .ensures) (read .read-stalled .result) (omega arith) (omega arith) (read .read-stalled .ensures .0) (read .read-stalled .ensures .1)
+    let stalled = read .read-stalled in
+    c .is-none-twice .ensures
+    ∙ stalled-read (s .args .area .now) (count .count-at .result) (count .count-at .ensures) (stalled .result) (omega arith) (omega arith) (stalled .ensures .0) (stalled .ensures .1)
 
 pub stalled-once-spec : {M : Type 1} → statement M
 stalled-once-spec =

@@ -16,7 +16,8 @@ used-places-requires c κs = search needs
 
 returns : tie.Need-returns
 returns c =
-    let s = c .before .before .before .before .args in
+    let start : tie.Start = search in
+    let s = start .args in
     let used = c .before .used-places in
     row-refused (s .i) (s .rows .now) (used .result) (used .ensures) (omega arith)
 
@@ -64,9 +65,10 @@ is-zero-requires c κs = search needs
 
 returns-2 : tie.Need-returns-2
 returns-2 c =
-    let s = c .before .before .before .before .before .before .before .before .before .args in
-    let used = c .before .before .before .before .before .before .used-places in
-    row-read (s .i) (s .rows .now) (used .result) (used .ensures) (c .is-zero .result) (omega arith) (c .is-zero .ensures)
+    let start : tie.Start = search in
+    let used : tie.After-used-places = search in
+    let s = start .args in
+    row-read (s .i) (s .rows .now) (used .used-places .result) (used .used-places .ensures) (c .is-zero .result) (omega arith) (c .is-zero .ensures)
 
 pub row-fits-spec : {M : Type 1} → statement M
 row-fits-spec =
