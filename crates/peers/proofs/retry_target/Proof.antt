@@ -32,7 +32,7 @@ returns c =
     let l = head .loop in
     let s = start .args in
     let read = c .before .read-u64 in
-    sym (target-here (s .peers .now) (l .i) (read .result) (turn .loop-test .taken) (read .ensures) (s .failed) (c .if1 .taken)) ∙ l .inv
+    sym (target-here (s .peers .now) (l .i) (turn .loop-test .taken) (read .ensures) (s .failed) (c .if1 .taken)) ∙ l .inv
 
 add-i : tie.Need-add-i Inv-loop μ-loop
 add-i c = search needs
@@ -48,7 +48,7 @@ loop-again c =
     let l = head .loop in
     let s = start .args in
     let read = c .before .read-u64 in
-    sym (target-later (s .peers .now) (l .i) (read .result) (turn .loop-test .taken) (read .ensures) (s .failed) (c .if1 .left)) ∙ l .inv
+    sym (target-later (s .peers .now) (l .i) (turn .loop-test .taken) (read .ensures) (s .failed) (c .if1 .left)) ∙ l .inv
 
 returns-2 : tie.Need-returns-2 Inv-loop μ-loop
 returns-2 c =

@@ -14,14 +14,15 @@ is-well-formed-requires c κs = search needs
 
 returns-2 : tie.Need-returns-2
 returns-2 c =
-    let else1 : tie.Else1 = search in
-    given-2 _ _ _ (eq-eqb _ _ (else1 .if1 .left)) (sym (c .before .is-well-formed .ensures) ∙ not-true _ (c .if2 .taken))
+    let past-1 : tie.Else1 = search in
+    given-2 _ _ _ (eq-eqb _ _ (past-1 .if1 .left)) (sym (c .before .is-well-formed .ensures) ∙ not-true _ (c .if2 .taken))
 
 returns-3 : tie.Need-returns-3
 returns-3 c =
-    let else1 : tie.Else1 = search in
-    let is-well-formed : tie.After-is-well-formed = search in
-    given-3 _ _ _ (eq-eqb _ _ (else1 .if1 .left)) (sym (is-well-formed .is-well-formed .ensures) ∙ not-false _ (c .before .if2 .left)) (lt-leb _ _ (c .if3 .taken))
+    let past-1 : tie.Else1 = search in
+    let image : tie.After-is-well-formed = search in
+    let well = sym (image .is-well-formed .ensures) ∙ not-false _ (c .before .if2 .left) in
+    given-3 _ _ _ (eq-eqb _ _ (past-1 .if1 .left)) well (lt-leb _ _ (c .if3 .taken))
 
 read-head-requires : tie.Need-read-head-requires
 read-head-requires c κs = search needs
@@ -31,11 +32,12 @@ lent-refusal-requires c κs = search needs
 
 returns-4 : tie.Need-returns-4
 returns-4 c =
-    let else1 : tie.Else1 = search in
-    let is-well-formed : tie.After-is-well-formed = search in
-    let else2 : tie.Else2 = search in
-    let else3 : tie.Else3 = search in
-    given-lent _ _ _ (eq-eqb _ _ (else1 .if1 .left)) (sym (is-well-formed .is-well-formed .ensures) ∙ not-false _ (else2 .if2 .left)) _ _ (le-leb _ _ (else3 .if3 .left)) (c .before .read-head .ensures) (c .lent-refusal .ensures)
+    let past-1 : tie.Else1 = search in
+    let image : tie.After-is-well-formed = search in
+    let past-2 : tie.Else2 = search in
+    let past-3 : tie.Else3 = search in
+    let well = sym (image .is-well-formed .ensures) ∙ not-false _ (past-2 .if2 .left) in
+    given-lent _ _ _ (eq-eqb _ _ (past-1 .if1 .left)) well (le-leb _ _ (past-3 .if3 .left)) (c .before .read-head .ensures) (c .lent-refusal .ensures)
 
 pub step-refusal-spec : {M : Type 1} → statement M
 step-refusal-spec =

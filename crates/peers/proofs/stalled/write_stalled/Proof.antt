@@ -54,11 +54,11 @@ loop-again c =
     let start : tie.Start Inv-loop μ-loop = search in
     let zeroed : tie.After-fill-zero Inv-loop μ-loop = search in
     let head : tie.At-loop Inv-loop μ-loop = search in
-    let write-u64 : tie.After-write-u64 Inv-loop μ-loop = search in
+    let put : tie.After-write-u64 Inv-loop μ-loop = search in
     let l = head .loop in
     let peers = start .args .stalled .peers in
     let turn =
-    write-u64 .write-u64 .ensures
+    put .write-u64 .ensures
     ∙ ap (overwritten (l .i * 8) (toBe 8 (getD peers (l .i) 0))) (l .inv .1 .1 .1)
     ∙ written-next (zeroed .fill-zero .last .0) (l .i) peers (omega arith) in
     (l .inv .0, (omega arith, (l .inv .1 .1 .0, turn)))

@@ -16,10 +16,8 @@ used-places-requires c κs = search needs
 
 returns : tie.Need-returns
 returns c =
-    let start : tie.Start = search in
-    let s = start .args in
-    let used = c .before .used-places in
-    row-refused (s .i) (s .rows .now) (used .result) (used .ensures) (omega arith)
+    let s : tie.Start = search in
+    row-refused (s .args .i) (s .args .rows .now) (c .before .used-places .ensures) (omega arith)
 
 add-flags : tie.Need-add-flags
 add-flags c = search needs
@@ -65,10 +63,9 @@ is-zero-requires c κs = search needs
 
 returns-2 : tie.Need-returns-2
 returns-2 c =
-    let start : tie.Start = search in
+    let s : tie.Start = search in
     let used : tie.After-used-places = search in
-    let s = start .args in
-    row-read (s .i) (s .rows .now) (used .used-places .result) (used .used-places .ensures) (c .is-zero .result) (omega arith) (c .is-zero .ensures)
+    row-read (s .args .i) (s .args .rows .now) (used .used-places .ensures) (omega arith) (c .is-zero .ensures)
 
 pub row-fits-spec : {M : Type 1} → statement M
 row-fits-spec =

@@ -24,13 +24,10 @@ row-fits-requires c κs = search needs
 
 returns : tie.Need-returns Inv-loop μ-loop
 returns c =
-    let start : tie.Start Inv-loop μ-loop = search in
-    let head : tie.At-loop Inv-loop μ-loop = search in
+    let s : tie.Start Inv-loop μ-loop = search in
+    let l : tie.At-loop Inv-loop μ-loop = search in
     let turn : tie.In-loop Inv-loop μ-loop = search in
-    let l = head .loop in
-    let s = start .args in
-    let row = c .before .row-fits in
-    rows-break (s .count) (l .i) (s .rows .now) (turn .loop-test .taken) (row .result) (row .ensures) (l .inv) (c .if1 .taken)
+    rows-break (s .args .count) (l .loop .i) (s .args .rows .now) (turn .loop-test .taken) (c .before .row-fits .ensures) (l .loop .inv) (c .if1 .taken)
 
 add-i : tie.Need-add-i Inv-loop μ-loop
 add-i c = search needs
@@ -40,13 +37,10 @@ loop-less c = search needs
 
 loop-again : tie.Need-loop-again Inv-loop μ-loop
 loop-again c =
-    let start : tie.Start Inv-loop μ-loop = search in
-    let head : tie.At-loop Inv-loop μ-loop = search in
+    let s : tie.Start Inv-loop μ-loop = search in
+    let l : tie.At-loop Inv-loop μ-loop = search in
     let turn : tie.In-loop Inv-loop μ-loop = search in
-    let l = head .loop in
-    let s = start .args in
-    let row = c .before .row-fits in
-    rows-go-on (s .count) (l .i) (s .rows .now) (turn .loop-test .taken) (row .result) (row .ensures) (l .inv) (c .if1 .left)
+    rows-go-on (s .args .count) (l .loop .i) (s .args .rows .now) (turn .loop-test .taken) (c .before .row-fits .ensures) (l .loop .inv) (c .if1 .left)
 
 returns-2 : tie.Need-returns-2 Inv-loop μ-loop
 returns-2 c =

@@ -24,10 +24,9 @@ add-sizes c = search needs
 returns-2 : tie.Need-returns-2
 unfolding firstHeight
 returns-2 c =
-    let start : tie.Start = search in
-    let else1 : tie.Else1 = search in
-    let first = c .before .read-u32 in
-    view-refused (start .args .view .now) (first .result) (else1 .if1 .left) (first .ensures) (not-true _ (c .if2 .taken))
+    let s : tie.Start = search in
+    let long : tie.Else1 = search in
+    view-refused (s .args .view .now) (long .if1 .left) (c .before .read-u32 .ensures) (not-true _ (c .if2 .taken))
 
 sub-rows-fit : tie.Need-sub-rows-fit
 sub-rows-fit c = search needs
@@ -44,11 +43,11 @@ rows-fit-requires c κs = search needs
 returns-3 : tie.Need-returns-3
 unfolding firstHeight
 returns-3 c =
-    let start : tie.Start = search in
-    let else1 : tie.Else1 = search in
+    let s : tie.Start = search in
+    let long : tie.Else1 = search in
     let first : tie.After-read-u32 = search in
-    let else2 : tie.Else2 = search in
-    view-rows (start .args .view .now) (first .read-u32 .result) (else1 .if1 .left) (first .read-u32 .ensures) (c .rows-fit .result) (not-false _ (else2 .if2 .left)) (c .rows-fit .ensures)
+    let past : tie.Else2 = search in
+    view-rows (s .args .view .now) (long .if1 .left) (first .read-u32 .ensures) (not-false _ (past .if2 .left)) (c .rows-fit .ensures)
 
 pub view-fits-spec : {M : Type 1} → statement M
 view-fits-spec =
