@@ -9,6 +9,23 @@ use Rattle.keys.proofs.WithinLaws.{past-quarters}
 use Rattle.keys.proofs.words.past_quarters.Statement.{statement}
 use Rattle.keys.proofs.words.past_quarters.Tie as tie
 
+-- the three probes counted: each is 1 at most
+module _ (c : tie.After-one3) where
+  abbrev s : tie.Start
+  s = search
+
+  abbrev one : tie.After-one
+  one = search
+
+  abbrev two : tie.After-one2
+  two = search
+
+  abbrev counted : ℕ
+  counted = one .one .result + two .one2 .result + c .one3 .result
+
+  few : counted ≤ 3
+  few = omega (arith, c .one3 .ensures .1, two .one2 .ensures .1, one .one .ensures .1)
+
 add-less : tie.Need-add-less
 add-less c = search needs
 
@@ -64,44 +81,26 @@ one-requires-3 : tie.Need-one-requires-3
 one-requires-3 c κs = search needs
 
 add-result : tie.Need-add-result
-add-result c =
-    let one : tie.After-one = search in
-    let one2 : tie.After-one2 = search in
-    omega (arith, c .one3 .ensures .1, one2 .one2 .ensures .1, one .one .ensures .1)
+add-result c = omega (arith, few c)
 
 add-result-2 : tie.Need-add-result-2
-add-result-2 c =
-    let one : tie.After-one = search in
-    let one2 : tie.After-one2 = search in
-    omega (arith, c .one3 .ensures .1, one2 .one2 .ensures .1, one .one .ensures .1)
+add-result-2 c = omega (arith, few c)
 
 mul-result : tie.Need-mul-result
-mul-result c =
-    let s : tie.Start = search in
-    let one : tie.After-one = search in
-    let one2 : tie.After-one2 = search in
-    let m : one .one .result + one2 .one2 .result + c .one3 .result ≤ 3 = omega (arith, c .one3 .ensures .1, one2 .one2 .ensures .1, one .one .ensures .1) in
-    omega (arith, mul-le-mul-right (s .args .size) m, s .pre .1 .inside)
+mul-result c = omega (arith, few c, mul-le-mul-right (s c .args .size) (few c), s c .pre .1 .inside)
 
 add-result-3 : tie.Need-add-result-3
-add-result-3 c =
-    let s : tie.Start = search in
-    let one : tie.After-one = search in
-    let one2 : tie.After-one2 = search in
-    let m : one .one .result + one2 .one2 .result + c .one3 .result ≤ 3 = omega (arith, c .one3 .ensures .1, one2 .one2 .ensures .1, one .one .ensures .1) in
-    omega (arith, mul-le-mul-right (s .args .size) m, s .pre .1 .inside)
+add-result-3 c = omega (arith, few c, mul-le-mul-right (s c .args .size) (few c), s c .pre .1 .inside)
 
 returns : tie.Need-returns
 returns c =
-    let s : tie.Start = search in
-    let less : tie.After-less = search in
-    let one : tie.After-one = search in
-    let less2 : tie.After-less2 = search in
-    let one2 : tie.After-one2 = search in
-    let a = s .args in
-    past-quarters (wordAt (a .width) (a .table .now)) (a .count) (a .word) (a .from) (a .room) (a .size) (s .pre .1) (s .pre .0 .1 .1 .0) (s .pre .0 .1 .1 .1)
-    (less .less .result) (less2 .less2 .result) (c .before .less3 .result) (one .one .result) (one2 .one2 .result) (c .one3 .result)
-    (less .less .ensures) (less2 .less2 .ensures) (c .before .less3 .ensures) (one .one .ensures .0) (one2 .one2 .ensures .0) (c .one3 .ensures .0)
+    let first : tie.After-less = search in
+    let second : tie.After-less2 = search in
+    let third : tie.After-less3 = search in
+    let asked = s c .pre .0 .1 .1 in
+    past-quarters (s c .args .room) (s c .args .size) (s c .pre .1) (asked .0) (asked .1)
+    (first .less .ensures) (second .less2 .ensures) (third .less3 .ensures)
+    (one c .one .ensures .0) (two c .one2 .ensures .0) (c .one3 .ensures .0)
 
 pub past-quarters-spec : {M : Type 1} → statement M
 past-quarters-spec =

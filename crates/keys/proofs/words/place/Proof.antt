@@ -34,11 +34,10 @@ less-requires c κs =
 among-requires-3 : tie.Need-among-requires-3
 among-requires-3 c κs =
     let s : tie.Start = search in
-    let guess : tie.After-guess = search in
-    let a = s .args in
-    let i : ℕ = guess .guess .result in
-    let h : i < a .count = omega arith in
-    (s .pre .0, below-probe (wordAt (a .width) (a .table .now)) (a .count) (a .word) i (s .pre .1) h (c .before .less .result) (c .before .less .ensures) (not-true (c .before .less .result) (c .if3 .taken)))
+    let g : tie.After-guess = search in
+    let less = c .before .less in
+    let h : g .guess .result < s .args .count = omega arith in
+    (s .pre .0, below-probe (s .pre .1) (g .guess .result) h (less .ensures) (not-true (less .result) (c .if3 .taken)))
 
 returns-3 : tie.Need-returns-3
 returns-3 c = search needs
@@ -49,8 +48,8 @@ add-less c = search needs
 less-requires-2 : tie.Need-less-requires-2
 less-requires-2 c κs =
     let s : tie.Start = search in
-    let guess : tie.After-guess = search in
-    let m : suc (guess .guess .result + 64) ≤ s .args .count = omega arith in
+    let g : tie.After-guess = search in
+    let m : suc (g .guess .result + 64) ≤ s .args .count = omega arith in
     omega (arith, mul-le-mul-right (s .args .width) m)
 
 add-among : tie.Need-add-among
@@ -59,15 +58,11 @@ add-among c = search needs
 among-requires-4 : tie.Need-among-requires-4
 among-requires-4 c κs =
     let s : tie.Start = search in
-    let guess : tie.After-guess = search in
-    let a = s .args in
-    let i : ℕ = guess .guess .result + 64 in
-    let h : i < a .count = omega arith in
-    let e : i + 1 ≡ guess .guess .result + 65 = omega arith in (
-      s .pre .0,
-      within-as (wordAt (a .width) (a .table .now)) (a .count) (a .word) (i + 1) (a .count) (guess .guess .result + 65) (a .count) e refl
-          (above-probe (wordAt (a .width) (a .table .now)) (a .count) (a .word) i (s .pre .1) h (c .before .less2 .result) (c .before .less2 .ensures) (c .if4 .taken)),
-    )
+    let g : tie.After-guess = search in
+    let i : ℕ = g .guess .result + 64 in
+    let h : i < s .args .count = omega arith in
+    let e : i + 1 ≡ g .guess .result + 65 = omega arith in
+    (s .pre .0, within-as e refl (above-probe (s .pre .1) i h (c .before .less2 .ensures) (c .if4 .taken)))
 
 returns-4 : tie.Need-returns-4
 returns-4 c = search needs
@@ -78,21 +73,18 @@ add-among-63 c = search needs
 among-63-requires : tie.Need-among-63-requires
 among-63-requires c κs =
     let s : tie.Start = search in
-    let guess : tie.After-guess = search in
-    let less : tie.After-less = search in
-    let else3 : tie.Else3 = search in
-    let a = s .args in
-    let i : ℕ = guess .guess .result in
-    let h : i < a .count = omega arith in
-    let k : i + 64 < a .count = omega arith in
+    let g : tie.After-guess = search in
+    let first : tie.After-less = search in
+    let past : tie.Else3 = search in
+    let less = first .less in
+    let i : ℕ = g .guess .result in
+    let h : i < s .args .count = omega arith in
+    let k : i + 64 < s .args .count = omega arith in
     let o : i + 1 ≤ i + 64 = omega arith in
-    let e : i + 64 ≡ i + 1 + 63 = omega arith in (
-      s .pre .0,
-      within-as (wordAt (a .width) (a .table .now)) (a .count) (a .word) (i + 1) (i + 64) (i + 1) (i + 1 + 63) refl e
-          (between (wordAt (a .width) (a .table .now)) (a .count) (a .word) (i + 1) (i + 64) o
-          (above-probe (wordAt (a .width) (a .table .now)) (a .count) (a .word) i (s .pre .1) h (less .less .result) (less .less .ensures) (not-false (less .less .result) (else3 .if3 .left)))
-          (below-probe (wordAt (a .width) (a .table .now)) (a .count) (a .word) (i + 64) (s .pre .1) k (c .before .less2 .result) (c .before .less2 .ensures) (c .if4 .left))),
-    )
+    let e : i + 64 ≡ i + 1 + 63 = omega arith in
+    let above = above-probe (s .pre .1) i h (less .ensures) (not-false (less .result) (past .if3 .left)) in
+    let below = below-probe (s .pre .1) (i + 64) k (c .before .less2 .ensures) (c .if4 .left) in
+    (s .pre .0, within-as refl e (between o above below))
 
 returns-5 : tie.Need-returns-5
 returns-5 c = search needs
