@@ -61,11 +61,13 @@ module _ (key table : List ℕ) (width count i : ℕ) (h : i < count) (l : lengt
   pub key-at : take (length key) (getD (entries width count table) i []) ≡ take (length key) (drop (i * width) table)
   key-at = rw (entries-at width count i table h) (entry-front width i (length key) table l)
 
-  pub compared-before : (b answer : Bool) → answer ≡ before (take (length key) (drop (i * width) table)) (take (length key) key) → answer ≡ b → Below key (entries width count table) i b
-  compared-before b answer asked e = rw key-at (rw (take-length key) at (sym asked ∙ e))
+  pub compared-before : {b answer : Bool} → answer ≡ before (take (length key) (drop (i * width) table)) (take (length key) key) → answer ≡ b
+      → Below key (entries width count table) i b
+  compared-before asked e = rw key-at (rw (take-length key) at (sym asked ∙ e))
 
-  pub compared-same : (b answer : Bool) → answer ≡ same (take (length key) (drop (i * width) table)) (take (length key) key) → answer ≡ b → Here key (entries width count table) i b
-  compared-same b answer asked e = rw key-at (rw (take-length key) at (sym asked ∙ e))
+  pub compared-same : {b answer : Bool} → answer ≡ same (take (length key) (drop (i * width) table)) (take (length key) key) → answer ≡ b
+      → Here key (entries width count table) i b
+  compared-same asked e = rw key-at (rw (take-length key) at (sym asked ∙ e))
 
 -- ---- what the answer means
 
@@ -169,7 +171,7 @@ module _ (key : List ℕ) where
 
 module _ (width count size i : ℕ) (table : List ℕ) (p : 0 < i) (h : i < count) (l : size ≤ width)
     (so-far : rising size (entries width count table) ≡ rising size (drop (i - 1) (entries width count table)))
-    (answer : Bool) (asked : answer ≡ before (take size (drop ((i - 1) * width) table)) (take size (drop (i * width) table))) where
+    {answer : Bool} (asked : answer ≡ before (take size (drop ((i - 1) * width) table)) (take size (drop (i * width) table))) where
   pub rising-breaks : not answer ≡ true → false ≡ rising size (entries width count table)
   rising-breaks t = sym (so-far ∙ rising-pair width count size i table p h l ∙ rw (sym asked ∙ not-true answer t))
 

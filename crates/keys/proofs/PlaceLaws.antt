@@ -90,7 +90,7 @@ module _ {key table : List ℕ} {width count word : ℕ} (s : Searched key table
     unfolding wordAt
     below j h =
         let k : j < count = omega (arith, n .inside) in
-        compared-before key table width count j k l true true
+        compared-before key table width count j k l
         (first-less table key f g (j * width) 0 (length key) (fromBe (take 8 (drop (j * width) table))) word w (inside j k) (omega arith) refl ew (n .low j h)) refl
 
     pub place-end : count ≤ i → Gap i ≡ found key 0 (entries width count table)
@@ -100,17 +100,17 @@ module _ {key table : List ℕ} {width count word : ℕ} (s : Searched key table
     module _ (h : i < count) {left right : ℕ} (d : Decides left right (take (length key) (drop (i * width) table)) (take (length key) key)) where
       pub place-at : left ≡ right → At i ≡ found key 0 (entries width count table)
       place-at e = sym (found-at key (entries width count table) i (rw length-entries h) below
-          (compared-before key table width count i h l false (ltb left right) (d .order) (le-ltb left right (omega arith)))
-          (compared-same key table width count i h l true (eqb left right) (d .equality) (eq-eqb left right e)))
+          (compared-before key table width count i h l (d .order) (le-ltb left right (omega arith)))
+          (compared-same key table width count i h l (d .equality) (eq-eqb left right e)))
 
       pub place-gap : right < left → Gap i ≡ found key 0 (entries width count table)
       place-gap e = sym (found-gap key (entries width count table) i (rw length-entries h) below
-          (compared-before key table width count i h l false (ltb left right) (d .order) (le-ltb left right (omega arith)))
-          (compared-same key table width count i h l false (eqb left right) (d .equality) (ne-eqb left right (λ q. lt-irrefl left (omega arith)))))
+          (compared-before key table width count i h l (d .order) (le-ltb left right (omega arith)))
+          (compared-same key table width count i h l (d .equality) (ne-eqb left right (λ q. lt-irrefl left (omega arith)))))
 
       pub place-passed : left < right → Passed key (entries width count table) count (i + 1)
       place-passed e = record {
         inside = omega arith;
         below = below-falls key (entries width count table) r i (rw length-entries h)
-            (compared-before key table width count i h l true (ltb left right) (d .order) (lt-ltb left right e));
+            (compared-before key table width count i h l (d .order) (lt-ltb left right e));
       }

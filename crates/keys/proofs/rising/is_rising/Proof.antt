@@ -49,7 +49,8 @@ returns c =
     let s : tie.Start Inv-loop μ-loop = search in
     let l : tie.At-loop Inv-loop μ-loop = search in
     let a = s .args in
-    rising-breaks (a .width) (a .count) (a .size) (l .loop .i) (a .table .now) (omega arith) (omega arith) (s .pre .0) (l .loop .inv .1) (c .before .comes-before .result) (c .before .comes-before .ensures) (c .if1 .taken)
+    rising-breaks (a .width) (a .count) (a .size) (l .loop .i) (a .table .now) (omega arith) (omega arith) (s .pre .0) (l .loop .inv .1)
+    (c .before .comes-before .ensures) (c .if1 .taken)
 
 add-i : tie.Need-add-i Inv-loop μ-loop
 add-i c = search needs
@@ -62,11 +63,11 @@ loop-again c =
     let s : tie.Start Inv-loop μ-loop = search in
     let l : tie.At-loop Inv-loop μ-loop = search in
     let a = s .args in
-    let e : l .loop .i + 1 - 1 ≡ l .loop .i = omega arith in (
-      omega arith,
-      rw e
-          (rising-goes-on (a .width) (a .count) (a .size) (l .loop .i) (a .table .now) (omega arith) (omega arith) (s .pre .0) (l .loop .inv .1) (c .before .comes-before .result) (c .before .comes-before .ensures) (c .if1 .left)),
-    )
+    let e : l .loop .i + 1 - 1 ≡ l .loop .i = omega arith in
+    let on =
+    rising-goes-on (a .width) (a .count) (a .size) (l .loop .i) (a .table .now) (omega arith) (omega arith) (s .pre .0) (l .loop .inv .1)
+    (c .before .comes-before .ensures) (c .if1 .left) in
+    (omega arith, rw e on)
 
 returns-2 : tie.Need-returns-2 Inv-loop μ-loop
 returns-2 c =
