@@ -91,7 +91,8 @@ module _ (s t : List ℕ) (f : Bytes s) (g : Bytes t) where
             ≡ ltb (front .left) (front .right) || (eqb (front .left) (front .right) && before (take n (drop p′ s)) (take n (drop q′ t)))
         whole-before = rw (ea, eb) (words-before s t f g p q 8 p′ q′ e d h k n)
 
-        whole-same : same (take (8 + n) (drop p s)) (take (8 + n) (drop q t)) ≡ eqb (front .left) (front .right) && same (take n (drop p′ s)) (take n (drop q′ t))
+        whole-same : same (take (8 + n) (drop p s)) (take (8 + n) (drop q t))
+            ≡ eqb (front .left) (front .right) && same (take n (drop p′ s)) (take n (drop q′ t))
         whole-same = rw (ea, eb) (words-same s t f g p q 8 p′ q′ e d h k n)
 
         go : (b : Bool) → eqb (front .left) (front .right) ≡ b → words ≡ cond b behind front

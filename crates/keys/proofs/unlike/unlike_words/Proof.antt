@@ -24,7 +24,8 @@ module _ (c : tie.After-words-at Inv-loop μ-loop) where
   abbrev l : tie.At-loop Inv-loop μ-loop
   l = search
 
-  words : Behind (a .args .s .now) (a .args .t .now) (a .args .p) (a .args .q) (a .args .size) (l .loop .i) 8 (c .words-at .result .left) (c .words-at .result .right)
+  words : Behind (a .args .s .now) (a .args .t .now) (a .args .p) (a .args .q) (a .args .size) (l .loop .i) 8 (c .words-at .result .left)
+      (c .words-at .result .right)
   words =
       let left : tie.After-shared-slice-known Inv-loop μ-loop = search in
       let right : tie.After-shared-slice-known2 Inv-loop μ-loop = search in
