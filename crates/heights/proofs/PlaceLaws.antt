@@ -82,9 +82,9 @@ module _ (view : List ℕ) (at : ℕ) (h : at + placeSize ≤ length view) where
         let l : length (take pairSize (drop at view)) ≡ pairSize = length-take-le pairSize (drop at view) (simp length-drop (omega arith)) in
         rw (e, l) (omega arith)
 
-    pub place-written : (pairs′ : List ℕ) → pairs′ ≡ overwritten (to * pairSize) (take (at + pairSize - at) (drop at view)) pairs
+    pub place-written : {pairs′ : List ℕ} → pairs′ ≡ overwritten (to * pairSize) (take (at + pairSize - at) (drop at view)) pairs
         → (to + 1 ≡ to + length (placePairs at view)) × (pairs′ ≡ overwritten (to * pairSize) (joined (placePairs at view)) pairs)
-    place-written pairs′ e =
+    place-written e =
         let k : at + pairSize - at ≡ pairSize = omega arith in
         rw (missing-at s, append-nil) (refl, e ∙ rw k)
 
@@ -98,7 +98,18 @@ long-place : (place : List ℕ) → length place ≡ placeSize → Long (section
 unfolding sectionOf
 long-place place l = ap suc (length-take-le 32 (drop 1 place) (simp length-drop (omega arith)))
 
-module _ (i : ℕ) (view : List ℕ) (h : i * rowSize + 107 ≤ length view) (few : getD (rowAt i view) 0 0 ≤ 3) where
+-- row i stands in the view, and uses three places at most
+pub record Stands (i : ℕ) (view : List ℕ) : Type 0 where
+  pub within : i * rowSize + 107 ≤ length view
+  pub few : getD (rowAt i view) 0 0 ≤ 3
+
+module _ {i : ℕ} {view : List ℕ} (s : Stands i view) where
+  h : i * rowSize + 107 ≤ length view
+  h = s .within
+
+  few : getD (rowAt i view) 0 0 ≤ 3
+  few = s .few
+
   row-long : All Long (sectionsOf (rowAt i view))
   unfolding sectionsOf
   row-long =
@@ -140,15 +151,15 @@ module _ (i : ℕ) (view : List ℕ) (h : i * rowSize + 107 ≤ length view) (fe
     row-end l = rw (drop-of-length-le (sectionsOf (rowAt i view)) {i = k} (rw length-sections l))
 
   -- the pass over the row's places, at place k
-  module _ (count k to : ℕ) (pairs₀ pairs : List ℕ) (found : ℕ) (c : count ≡ getD (rowAt i view) 0 0)
+  module _ (k : ℕ) {count to : ℕ} {pairs₀ pairs : List ℕ} {found : ℕ} (c : count ≡ getD (rowAt i view) 0 0)
       (w : Writing pairSize to (rowPairs i view) (missingPairs (drop k (sectionsOf (rowAt i view)))) pairs₀ pairs found) where
     pub row-done : count ≤ k → (found ≡ to + length (rowPairs i view)) × (pairs ≡ overwritten (to * pairSize) (joined (rowPairs i view)) pairs₀)
     row-done l =
         let e : missingPairs (drop k (sectionsOf (rowAt i view))) ≡ [] = row-end k (rw c at l) in
-        writing-ends pairSize to (rowPairs i view) pairs₀ pairs found (rw e at w)
+        writing-ends (rw e at w)
 
     pub place-within : k < count → i * rowSize + 5 + k * placeSize + placeSize ≤ length view
-    place-within l = omega arith
+    place-within l = omega (arith, h, few)
 
     module _ (l : k < count) (room : (to + length (rowPairs i view)) * pairSize ≤ length pairs₀) where
       abbrev new : List (List ℕ)
@@ -167,11 +178,9 @@ module _ (i : ℕ) (view : List ℕ) (h : i * rowSize + 107 ≤ length view) (fe
       wide = rw split at (rest-wide k)
 
       pub row-room : (found + length (placePairs (i * rowSize + 5 + k * placeSize) view)) * pairSize ≤ length pairs
-      row-room = writing-room pairSize to (rowPairs i view) new rest pairs₀ pairs found left room
+      row-room = writing-room new rest left room
 
-      pub row-turn : (pairs′ : List ℕ) (found′ : ℕ) → found′ ≡ found + length (placePairs (i * rowSize + 5 + k * placeSize) view)
+      pub row-turn : {pairs′ : List ℕ} {found′ : ℕ} → found′ ≡ found + length (placePairs (i * rowSize + 5 + k * placeSize) view)
           → pairs′ ≡ overwritten (found * pairSize) (joined (placePairs (i * rowSize + 5 + k * placeSize) view)) pairs
           → Writing pairSize to (rowPairs i view) (missingPairs (drop (k + 1) (sectionsOf (rowAt i view)))) pairs₀ pairs′ found′
-      row-turn pairs′ found′ n p =
-          writing-next pairSize to (rowPairs i view) new rest pairs₀ pairs found left room (all-front (λ (e : List ℕ). length e ≡ pairSize) new rest wide) (all-back (λ (e : List ℕ). length e ≡ pairSize) new rest wide)
-          pairs′ found′ p n
+      row-turn n p = writing-next new rest left room wide p n

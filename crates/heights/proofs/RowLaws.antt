@@ -127,28 +127,34 @@ fits-front view h =
     leb-true 4 (length view) (and-left (leb 4 (length view)) (eqb ((length view - 4) % rowSize) 0
     && (leb (firstHeight view + rowCount view) (2 ^ 32) && rowsFit (entries rowSize (rowCount view) (drop 4 view)))) h)
 
--- as the code finds it: by first height and row count
-module _ (view : List ℕ) (first count height : ℕ) (f : first ≡ firstHeight view) (n : count ≡ rowCount view) (has : Bool) (e : has ≡ leb first height && ltb (height - first) count) where
-  by-view : leb (firstHeight view) height && ltb (height - firstHeight view) (rowCount view) ≡ has
-  by-view = sym (rw (f, n) at e)
+-- A turn of a loop over heights: whether the next height has a row, by first height and row count as the code read them.
+pub record Turn (view : List ℕ) (first count end height : ℕ) (has : Bool) : Type 0 where
+  pub first-height : first ≡ firstHeight view
+  pub rows : count ≡ rowCount view
+  pub going : height < end
+  pub answer : has ≡ leb first (height + 1) && ltb (height + 1 - first) count
 
-  pub view-none : has ≡ false → viewOf view height ≡ none
+module _ {view : List ℕ} {first count end height : ℕ} {has : Bool} (t : Turn view first count end height has) where
+  by-view : leb (firstHeight view) (height + 1) && ltb (height + 1 - firstHeight view) (rowCount view) ≡ has
+  by-view = sym (rw (t .first-height, t .rows) at (t .answer))
+
+  pub view-none : has ≡ false → viewOf view (height + 1) ≡ none
   unfolding viewOf
   view-none h = rw (by-view ∙ h)
 
   module _ (h : has ≡ true) where
-    pub first-le : first ≤ height
-    first-le = leb-true first height (and-left (leb first height) (ltb (height - first) count) (sym e ∙ h))
+    pub first-le : first ≤ height + 1
+    first-le = leb-true first (height + 1) (and-left (leb first (height + 1)) (ltb (height + 1 - first) count) (sym (t .answer) ∙ h))
 
-    pub row-below : height - first < count
-    row-below = ltb-true (height - first) count (and-right (leb first height) (ltb (height - first) count) (sym e ∙ h))
+    pub row-below : height + 1 - first < count
+    row-below = ltb-true (height + 1 - first) count (and-right (leb first (height + 1)) (ltb (height + 1 - first) count) (sym (t .answer) ∙ h))
 
-    pub row-within : 4 ≤ length view → (height - first) * rowSize + 107 ≤ length view
+    pub row-within : 4 ≤ length view → (height + 1 - first) * rowSize + 107 ≤ length view
     unfolding rowCount
     row-within l =
-        let b : height - first < (length view - 4) / rowSize = rw n at row-below in
+        let b : height + 1 - first < (length view - 4) / rowSize = rw (t .rows) at row-below in
         omega arith
 
-    pub view-row : viewOf view height ≡ some (headerOf (rowAt (height - first) view))
+    pub view-row : viewOf view (height + 1) ≡ some (headerOf (rowAt (height + 1 - first) view))
     unfolding viewOf rowAt
-    view-row = rw (by-view ∙ h, f)
+    view-row = rw (by-view ∙ h, t .first-height)

@@ -33,7 +33,9 @@ length-stalledOf area = length-map (entries 8 (stalledCount area) (drop 512 area
 
 length-pendingOf : (area : List ℕ) → length (pendingOf area) ≡ pendingCount area
 unfolding pendingOf
-length-pendingOf area = length-map (entries recordSize (pendingCount area) (drop regionAt area)) requestOf ∙ length-entries recordSize (pendingCount area) (drop regionAt area)
+length-pendingOf area =
+    let records : List (List ℕ) = entries recordSize (pendingCount area) (drop regionAt area) in
+    length-map records requestOf ∙ length-entries recordSize (pendingCount area) (drop regionAt area)
 
 length-evictedOf : (area : List ℕ) → length (evictedOf area) ≡ evictedCount area
 unfolding evictedOf

@@ -60,7 +60,7 @@ together true true false marks rest = refl
 together true true true marks rest = refl
 
 module _ (area : List ℕ) where
-  pub parts-fit : (starts marks counts clocks peer : Bool)
+  pub parts-fit : {starts marks counts clocks peer : Bool}
       → starts ≡ same (take 3 area) (69 ∷ 68 ∷ 84 ∷ []) && (eqb (field 3 2 area) 1 && leb (modeByte area) 4)
       → marks ≡ marksFit area
       → counts ≡ countsFit area
@@ -68,7 +68,7 @@ module _ (area : List ℕ) where
       → peer ≡ hasSyncPeer (modeOf (modeByte area)) || eqb (field 48 8 area) 0
       → (starts && marks) && (counts && (clocks && peer)) ≡ headFits area
   unfolding headFits
-  parts-fit starts marks counts clocks peer e₁ e₂ e₃ e₄ e₅ =
+  parts-fit e₁ e₂ e₃ e₄ e₅ =
       rw (e₁, e₂, e₃, e₄, e₅) (together (same (take 3 area) (69 ∷ 68 ∷ 84 ∷ [])) (eqb (field 3 2 area) 1) (leb (modeByte area) 4) (marksFit area)
       (countsFit area && (clocksFit area && (hasSyncPeer (modeOf (modeByte area)) || eqb (field 48 8 area) 0))))
 
@@ -76,7 +76,8 @@ module _ (area : List ℕ) where
   unfolding countsFit
   counts-few h = (
     leb-true (stalledCount area) 256 (and-left (leb (stalledCount area) 256) (leb (pendingCount area + evictedCount area) trackedLimit) h),
-    leb-true (pendingCount area + evictedCount area) trackedLimit (and-right (leb (stalledCount area) 256) (leb (pendingCount area + evictedCount area) trackedLimit) h),
+    leb-true (pendingCount area + evictedCount area) trackedLimit
+        (and-right (leb (stalledCount area) 256) (leb (pendingCount area + evictedCount area) trackedLimit) h),
   )
 
   -- behind a header that fits the tables lie within the area

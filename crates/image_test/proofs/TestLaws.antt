@@ -61,13 +61,13 @@ module _ (settings : Settings) (clock count i : ℕ) (region : List ℕ) where
       let rest : List (List ℕ) = drop (suc i) es in
       rw (add-one, d) (and-swap (requestFits settings clock (requestOf e)) (eqb (getD e 40 0) 0) (allFit settings clock (map requestOf rest)) (typesNarrow rest))
 
-  pub fits-next : (fits : Bool) → fits ≡ recordFits settings clock (entry recordSize i region) → fits ≡ true → i < count
+  pub fits-next : {fits : Bool} → fits ≡ recordFits settings clock (entry recordSize i region) → fits ≡ true → i < count
       → recordsFit settings clock (drop (i + 1) (entries recordSize count region)) ≡ recordsFit settings clock (drop i (entries recordSize count region))
-  fits-next fits e f h = sym (fits-turn h ∙ rw (sym e, f))
+  fits-next e f h = sym (fits-turn h ∙ rw (sym e, f))
 
-  pub fits-not : (fits : Bool) → fits ≡ recordFits settings clock (entry recordSize i region) → fits ≡ false → i < count
+  pub fits-not : {fits : Bool} → fits ≡ recordFits settings clock (entry recordSize i region) → fits ≡ false → i < count
       → recordsFit settings clock (drop i (entries recordSize count region)) ≡ false
-  fits-not fits e f h = fits-turn h ∙ rw (sym e, f)
+  fits-not e f h = fits-turn h ∙ rw (sym e, f)
 
   pub fits-end : count ≤ i → recordsFit settings clock (drop i (entries recordSize count region)) ≡ true
   fits-end h =
@@ -76,43 +76,53 @@ module _ (settings : Settings) (clock count i : ℕ) (region : List ℕ) where
 
 -- a record's numbers read where they stand
 module _ (settings : Settings) (clock i : ℕ) (region : List ℕ) (h : i * recordSize + recordSize ≤ length region) where
-  record-parts : recordFits settings clock (entry recordSize i region)
-      ≡ (leb (field (i * recordSize + 42) 8 region) clock && ltb (field (i * recordSize + 50) 4 region) (mostRequests settings (field (i * recordSize + 40) 2 region))) && eqb (getD region (i * recordSize + 40) 0) 0
+  -- its stamp and its checks
+  abbrev timely : Bool
+  timely = leb (field (i * recordSize + 42) 8 region) clock && ltb (field (i * recordSize + 50) 4 region) (mostRequests settings (field (i * recordSize + 40) 2 region))
+
+  record-parts : recordFits settings clock (entry recordSize i region) ≡ timely && eqb (getD region (i * recordSize + 40) 0) 0
   unfolding requestFits requestOf
   record-parts =
       let e : List ℕ = entry recordSize i region in
       let l : length e ≡ recordSize = length-entry recordSize i region h in
       let high : getD e 40 0 ≡ getD region (i * recordSize + 40) 0 =
       sym (fromBe-one 40 e (omega arith)) ∙ ap fromBe (entry-field recordSize i 40 1 region (omega arith)) ∙ fromBe-one (i * recordSize + 40) region (omega arith) in
-      rw (high, entry-field recordSize i 40 2 region (omega arith), entry-field recordSize i 42 8 region (omega arith), entry-field recordSize i 50 4 region (omega arith))
+      rw (
+        high,
+        entry-field recordSize i 40 2 region (omega arith),
+        entry-field recordSize i 42 8 region (omega arith),
+        entry-field recordSize i 50 4 region (omega arith),
+      )
 
   pub record-wide : (getD region (i * recordSize + 40) 0 ≡ 0 → ⊥) → recordFits settings clock (entry recordSize i region) ≡ false
-  record-wide w = record-parts ∙ rw (ne-eqb (getD region (i * recordSize + 40) 0) 0 w) (and-false (leb (field (i * recordSize + 42) 8 region) clock && ltb (field (i * recordSize + 50) 4 region) (mostRequests settings (field (i * recordSize + 40) 2 region))))
+  record-wide w = record-parts ∙ rw (ne-eqb (getD region (i * recordSize + 40) 0) 0 w) (and-false timely)
 
   pub record-late : clock < field (i * recordSize + 42) 8 region → recordFits settings clock (entry recordSize i region) ≡ false
   record-late l = record-parts ∙ rw (lt-leb (field (i * recordSize + 42) 8 region) clock l)
 
   -- the high byte of the type is zero, so that the low one is the type
   pub record-checks : getD region (i * recordSize + 40) 0 ≡ 0 → field (i * recordSize + 42) 8 region ≤ clock
-      → ltb (field (i * recordSize + 50) 4 region) (mostRequests settings (getD region (i * recordSize + 41) 0)) ≡ recordFits settings clock (entry recordSize i region)
+      → ltb (field (i * recordSize + 50) 4 region) (mostRequests settings (getD region (i * recordSize + 41) 0))
+      ≡ recordFits settings clock (entry recordSize i region)
   record-checks z s =
       let next : i * recordSize + 40 + 1 ≡ i * recordSize + 41 = omega arith in
-      let two : field (i * recordSize + 40) 2 region ≡ field (i * recordSize + 40) 1 region * 256 + field (i * recordSize + 41) 1 region = rw next at (fromBe-split 1 1 (i * recordSize + 40) region (omega arith)) in
+      let two : field (i * recordSize + 40) 2 region ≡ field (i * recordSize + 40) 1 region * 256 + field (i * recordSize + 41) 1 region =
+      rw next at (fromBe-split 1 1 (i * recordSize + 40) region (omega arith)) in
       let low : field (i * recordSize + 40) 2 region ≡ getD region (i * recordSize + 41) 0 =
       omega (arith, fromBe-one (i * recordSize + 40) region (omega arith), fromBe-one (i * recordSize + 41) region (omega arith)) in
       sym (record-parts ∙ rw (le-leb (field (i * recordSize + 42) 8 region) clock s, eq-eqb (getD region (i * recordSize + 40) 0) 0 z, low) (and-true _))
 
 -- the records with the header's settings and clock
-pub pending-read : (area region : List ℕ) (settings : declared.Settings) (clock n : ℕ) → settings ≡ headIn area .settings → clock ≡ lastClockOf area → n ≡ pendingCount area
-    → region ≡ drop regionAt area
-    → (answer : Bool) → answer ≡ recordsFit (values.settingsOf settings) clock (entries recordSize n region)
+pub pending-read : (area : List ℕ) {region : List ℕ} {settings : declared.Settings} {clock n : ℕ}
+    → settings ≡ headIn area .settings → clock ≡ lastClockOf area → n ≡ pendingCount area → region ≡ drop regionAt area
+    → {answer : Bool} → answer ≡ recordsFit (values.settingsOf settings) clock (entries recordSize n region)
     → answer ≡ allFit (settingsOf area) (lastClockOf area) (pendingOf area) && typesNarrow (entries recordSize (pendingCount area) (drop regionAt area))
 unfolding headIn pendingOf settingsOf values.settingsOf
-pending-read area region settings clock n s c k r answer a = a ∙ rw (s, c, k, r)
+pending-read area s c k r a = a ∙ rw (s, c, k, r)
 
 -- ---- room
 
-pub room : (area : List ℕ) (n p e : ℕ) (header places between : Bool) → n ≡ stalledCount area → p ≡ pendingCount area → e ≡ evictedCount area
+pub room : (area : List ℕ) {n p e : ℕ} {header places between : Bool} → n ≡ stalledCount area → p ≡ pendingCount area → e ≡ evictedCount area
     → n ≤ 256 → p + e ≤ trackedLimit → header ≡ allZero (take 438 (drop 74 area))
     → places ≡ allZero (take (regionAt - (512 + n * 8)) (drop (512 + n * 8) area))
     → between ≡ allZero (take (areaSize - e * idSize - (regionAt + p * recordSize)) (drop (regionAt + p * recordSize) area))
@@ -120,7 +130,7 @@ pub room : (area : List ℕ) (n p e : ℕ) (header places between : Bool) → n 
     ≡ allZero (take 438 (drop 74 area))
     && (allZero (take ((256 - stalledCount area) * 8) (drop (512 + stalledCount area * 8) area))
     && allZero (take (regionSize - pendingCount area * recordSize - evictedCount area * idSize) (drop (regionAt + pendingCount area * recordSize) area)))
-room area n p e header places between i j k few tracked a b c =
+room area {n} {p} {e} i j k few tracked a b c =
     let free : regionAt - (512 + n * 8) ≡ (256 - n) * 8 = omega arith in
     let gap : areaSize - e * idSize - (regionAt + p * recordSize) ≡ regionSize - p * recordSize - e * idSize = omega arith in
     rw (a, b, c, free, gap, i, j, k)
@@ -152,11 +162,12 @@ together true true true true true true true true true true true true false betwe
 
 module _ (area : List ℕ) where
   -- the parts behind the header, in the order of the tests
-  abbrev idsRise : Bool
+  abbrev pub idsRise : Bool
   idsRise = rising idSize (entries recordSize (pendingCount area) (drop regionAt area))
 
-  abbrev pendingFits : Bool
-  pendingFits = allFit (settingsOf area) (lastClockOf area) (pendingOf area) && typesNarrow (entries recordSize (pendingCount area) (drop regionAt area))
+  abbrev pub pendingFits : Bool
+  pendingFits =
+      allFit (settingsOf area) (lastClockOf area) (pendingOf area) && typesNarrow (entries recordSize (pendingCount area) (drop regionAt area))
 
   abbrev roomZero : Bool
   roomZero =

@@ -61,11 +61,13 @@ module _ (key table : List ℕ) (width count i : ℕ) (h : i < count) (l : lengt
   pub key-at : take (length key) (getD (entries width count table) i []) ≡ take (length key) (drop (i * width) table)
   key-at = rw (entries-at width count i table h) (entry-front width i (length key) table l)
 
-  pub compared-before : (b answer : Bool) → answer ≡ before (take (length key) (drop (i * width) table)) (take (length key) key) → answer ≡ b → Below key (entries width count table) i b
-  compared-before b answer asked e = rw key-at (rw (take-length key) at (sym asked ∙ e))
+  pub compared-before : {b answer : Bool} → answer ≡ before (take (length key) (drop (i * width) table)) (take (length key) key) → answer ≡ b
+      → Below key (entries width count table) i b
+  compared-before asked e = rw key-at (rw (take-length key) at (sym asked ∙ e))
 
-  pub compared-same : (b answer : Bool) → answer ≡ same (take (length key) (drop (i * width) table)) (take (length key) key) → answer ≡ b → Here key (entries width count table) i b
-  compared-same b answer asked e = rw key-at (rw (take-length key) at (sym asked ∙ e))
+  pub compared-same : {b answer : Bool} → answer ≡ same (take (length key) (drop (i * width) table)) (take (length key) key) → answer ≡ b
+      → Here key (entries width count table) i b
+  compared-same asked e = rw key-at (rw (take-length key) at (sym asked ∙ e))
 
 -- ---- what the answer means
 
@@ -92,8 +94,10 @@ module _ (key : List ℕ) where
           let z : k - k ≡ 0 = omega arith in
           rw z (record { inside = omega arith; below = λ j l. absurd (not-suc-le-zero l); stops = λ l. p })
 
-      go : (b s : Bool) → before (take (length key) e) key ≡ b → (k + 1 ≤ indexOf (found key (k + 1) es)) × Stop key es (indexOf (found key (k + 1) es) - (k + 1))
-          → (k ≤ indexOf (cond b (found key (k + 1) es) (cond s (At k) (Gap k)))) × Stop key (e ∷ es) (indexOf (cond b (found key (k + 1) es) (cond s (At k) (Gap k))) - k)
+      go : (b s : Bool) → before (take (length key) e) key ≡ b
+          → (k + 1 ≤ indexOf (found key (k + 1) es)) × Stop key es (indexOf (found key (k + 1) es) - (k + 1))
+          → (k ≤ indexOf (cond b (found key (k + 1) es) (cond s (At k) (Gap k))))
+          × Stop key (e ∷ es) (indexOf (cond b (found key (k + 1) es) (cond s (At k) (Gap k))) - k)
       go true s p w =
           let i : ℕ = indexOf (found key (k + 1) es) in
           let l : k + 1 ≤ i = w .0 in
@@ -149,9 +153,11 @@ module _ (key : List ℕ) where
             let z : _≡_ {A = ℕ} 0 1 = cc in absurd (lt-irrefl 0 (omega arith))
 
     -- and, where keys rise, those from i on come behind it
-    pub gap-above : rising (length key) es ≡ true → found key 0 es ≡ Gap i → (j : ℕ) → i ≤ j → j < length es → before key (take (length key) (getD es j [])) ≡ true
+    pub gap-above : rising (length key) es ≡ true → found key 0 es ≡ Gap i → (j : ℕ) → i ≤ j → j < length es
+        → before key (take (length key) (getD es j [])) ≡ true
     gap-above r h j a l =
-        let f : before key (take (length key) (getD es i [])) ≡ true = before-or-same (take (length key) (getD es i [])) key (gap-stop h .stops (omega arith)) (gap-other h (omega arith)) in
+        let f : before key (take (length key) (getD es i [])) ≡ true =
+        before-or-same (take (length key) (getD es i [])) key (gap-stop h .stops (omega arith)) (gap-other h (omega arith)) in
         ⊎-elim
         (λ (e : i ≡ j). rw e at f)
         (λ (o : i < j). before-transitive key (take (length key) (getD es i [])) (take (length key) (getD es j [])) f (rising-at (length key) es r i j o l))
@@ -163,13 +169,14 @@ module _ (key : List ℕ) where
       where
         go : (t : Bool) → ltb j i ≡ t → Here key es j false
         go true e = before-not-same (take (length key) (getD es j [])) key (gap-stop h .below j (ltb-true j i e))
-        go false e = same-sym (take (length key) (getD es j [])) key ∙ before-not-same key (take (length key) (getD es j [])) (gap-above r h j (ltb-false j i e) l)
+        go false e =
+            same-sym (take (length key) (getD es j [])) key ∙ before-not-same key (take (length key) (getD es j [])) (gap-above r h j (ltb-false j i e) l)
 
 -- ---- whether the keys rise, by neighbours
 
 module _ (width count size i : ℕ) (table : List ℕ) (p : 0 < i) (h : i < count) (l : size ≤ width)
     (so-far : rising size (entries width count table) ≡ rising size (drop (i - 1) (entries width count table)))
-    (answer : Bool) (asked : answer ≡ before (take size (drop ((i - 1) * width) table)) (take size (drop (i * width) table))) where
+    {answer : Bool} (asked : answer ≡ before (take size (drop ((i - 1) * width) table)) (take size (drop (i * width) table))) where
   pub rising-breaks : not answer ≡ true → false ≡ rising size (entries width count table)
   rising-breaks t = sym (so-far ∙ rising-pair width count size i table p h l ∙ rw (sym asked ∙ not-true answer t))
 

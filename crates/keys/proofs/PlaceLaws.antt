@@ -61,7 +61,8 @@ module _ {key table : List ℕ} {width count word : ℕ} (s : Searched key table
   ordered : (i j : ℕ) → i < j → j < count → before (take (length key) (drop (i * width) table)) (take (length key) (drop (j * width) table)) ≡ true
   ordered i j o h =
       let hi : i < count = omega arith in
-      rw (sym (key-at key table width count i hi l), sym (key-at key table width count j h l)) (rising-at (length key) (entries width count table) r i j o (rw length-entries h))
+      rw (sym (key-at key table width count i hi l), sym (key-at key table width count j h l))
+      (rising-at (length key) (entries width count table) r i j o (rw length-entries h))
 
   -- words of keys that rise do not fall
   steady : (i j : ℕ) → i ≤ j → j < count → wordAt width table i ≤ wordAt width table j
@@ -77,12 +78,19 @@ module _ {key table : List ℕ} {width count word : ℕ} (s : Searched key table
           (λ (p : a < b). omega arith)
           (λ (q : (a ≡ b) ⊎ (b < a)). ⊎-elim
           (λ (p : a ≡ b). omega arith)
-          (λ (p : b < a). absurd (false≢true (first-more table table f f (i * width) (j * width) (length key) a b w (inside i hi) (inside j h) refl refl p ∙ ordered i j o h)))
+          (λ (p : b < a). absurd (false≢true (first-more table table f f (i * width) (j * width) (length key) a b w (inside i hi)
+          (inside j h) refl refl p ∙ ordered i j o h)))
           q)
           (trichotomy a b)
 
   pub whole : Within (wordAt width table) count word 0 count
-  whole = record { steady = steady; order = omega arith; inside = omega arith; low = λ j h. absurd (not-suc-le-zero h); high = λ j h k. absurd (lt-irrefl j (omega arith)) }
+  whole = record {
+    steady = steady;
+    order = omega arith;
+    inside = omega arith;
+    low = λ j h. absurd (not-suc-le-zero h);
+    high = λ j h k. absurd (lt-irrefl j (omega arith));
+  }
 
   -- the place is i
   module _ {i : ℕ} (n : Within (wordAt width table) count word i i) where
@@ -90,8 +98,9 @@ module _ {key table : List ℕ} {width count word : ℕ} (s : Searched key table
     unfolding wordAt
     below j h =
         let k : j < count = omega (arith, n .inside) in
-        compared-before key table width count j k l true true
-        (first-less table key f g (j * width) 0 (length key) (fromBe (take 8 (drop (j * width) table))) word w (inside j k) (omega arith) refl ew (n .low j h)) refl
+        compared-before key table width count j k l
+        (first-less table key f g (j * width) 0 (length key) (fromBe (take 8 (drop (j * width) table))) word w (inside j k) (omega arith) refl ew
+        (n .low j h)) refl
 
     pub place-end : count ≤ i → Gap i ≡ found key 0 (entries width count table)
     place-end h = sym (found-end key (entries width count table) i (rw length-entries (omega (arith, n .inside))) below)
@@ -100,17 +109,17 @@ module _ {key table : List ℕ} {width count word : ℕ} (s : Searched key table
     module _ (h : i < count) {left right : ℕ} (d : Decides left right (take (length key) (drop (i * width) table)) (take (length key) key)) where
       pub place-at : left ≡ right → At i ≡ found key 0 (entries width count table)
       place-at e = sym (found-at key (entries width count table) i (rw length-entries h) below
-          (compared-before key table width count i h l false (ltb left right) (d .order) (le-ltb left right (omega arith)))
-          (compared-same key table width count i h l true (eqb left right) (d .equality) (eq-eqb left right e)))
+          (compared-before key table width count i h l (d .order) (le-ltb left right (omega arith)))
+          (compared-same key table width count i h l (d .equality) (eq-eqb left right e)))
 
       pub place-gap : right < left → Gap i ≡ found key 0 (entries width count table)
       place-gap e = sym (found-gap key (entries width count table) i (rw length-entries h) below
-          (compared-before key table width count i h l false (ltb left right) (d .order) (le-ltb left right (omega arith)))
-          (compared-same key table width count i h l false (eqb left right) (d .equality) (ne-eqb left right (λ q. lt-irrefl left (omega arith)))))
+          (compared-before key table width count i h l (d .order) (le-ltb left right (omega arith)))
+          (compared-same key table width count i h l (d .equality) (ne-eqb left right (λ q. lt-irrefl left (omega arith)))))
 
       pub place-passed : left < right → Passed key (entries width count table) count (i + 1)
       place-passed e = record {
         inside = omega arith;
         below = below-falls key (entries width count table) r i (rw length-entries h)
-            (compared-before key table width count i h l true (ltb left right) (d .order) (lt-ltb left right e));
+            (compared-before key table width count i h l (d .order) (lt-ltb left right e));
       }

@@ -10,7 +10,8 @@ use borrow.Author.Tests.{ltb-true, ltb-false}
 use Rattle.keys.specs.Within.{Within}
 
 -- a step over `size` entries
-module _ (w : ℕ → ℕ) (count x from room size : ℕ) (n : Within w count x from (from + (room - 1))) (p : 0 < size) (q : size + size ≤ room) (less : Bool) (asked : less ≡ ltb (w (from + size - 1)) x) where
+module _ {w : ℕ → ℕ} {count x from : ℕ} (room size : ℕ) (n : Within w count x from (from + (room - 1))) (p : 0 < size) (q : size + size ≤ room)
+    {less : Bool} (asked : less ≡ ltb (w (from + size - 1)) x) where
   pub past-less : less ≡ true → Within w count x (from + size) (from + size + (room - size - 1))
   past-less t =
       let i : from + (room - 1) ≤ count = n .inside in
@@ -36,7 +37,7 @@ module _ (w : ℕ → ℕ) (count x from room size : ℕ) (n : Within w count x 
       }
 
 -- three probes, `size` entries apart
-module _ (w : ℕ → ℕ) (count x from room size : ℕ) (n : Within w count x from (from + (room - 1))) (p : 0 < size) (q : 4 * size ≤ room) where
+module _ {w : ℕ → ℕ} {count x from : ℕ} (room size : ℕ) (n : Within w count x from (from + (room - 1))) (p : 0 < size) (q : 4 * size ≤ room) where
   up-to : (i : ℕ) → i < count → ltb (w i) x ≡ true → (j : ℕ) → j ≤ i → w j < x
   up-to i h t j l =
       let a : w i < x = ltb-true (w i) x t in
@@ -60,16 +61,40 @@ module _ (w : ℕ → ℕ) (count x from room size : ℕ) (n : Within w count x 
       → Within w count x (from + (cond b 1 0 + cond c 1 0 + cond d 1 0) * size) (from + (cond b 1 0 + cond c 1 0 + cond d 1 0) * size + (room - 3 * size - 1))
   quarters true true true e f g =
       let i : from + (room - 1) ≤ count = n .inside in
-      record { steady = n .steady; order = omega arith; inside = omega arith; low = λ j h. up-to (from + 3 * size - 1) (omega arith) g j (omega arith); high = λ j h k. n .high j (omega arith) k }
+      record {
+        steady = n .steady;
+        order = omega arith;
+        inside = omega arith;
+        low = λ j h. up-to (from + 3 * size - 1) (omega arith) g j (omega arith);
+        high = λ j h k. n .high j (omega arith) k;
+      }
   quarters true true false e f g =
       let i : from + (room - 1) ≤ count = n .inside in
-      record { steady = n .steady; order = omega arith; inside = omega arith; low = λ j h. up-to (from + 2 * size - 1) (omega arith) f j (omega arith); high = λ j h k. from-on (from + 3 * size - 1) g j (omega arith) k }
+      record {
+        steady = n .steady;
+        order = omega arith;
+        inside = omega arith;
+        low = λ j h. up-to (from + 2 * size - 1) (omega arith) f j (omega arith);
+        high = λ j h k. from-on (from + 3 * size - 1) g j (omega arith) k;
+      }
   quarters true false false e f g =
       let i : from + (room - 1) ≤ count = n .inside in
-      record { steady = n .steady; order = omega arith; inside = omega arith; low = λ j h. up-to (from + size - 1) (omega arith) e j (omega arith); high = λ j h k. from-on (from + 2 * size - 1) f j (omega arith) k }
+      record {
+        steady = n .steady;
+        order = omega arith;
+        inside = omega arith;
+        low = λ j h. up-to (from + size - 1) (omega arith) e j (omega arith);
+        high = λ j h k. from-on (from + 2 * size - 1) f j (omega arith) k;
+      }
   quarters false false false e f g =
       let i : from + (room - 1) ≤ count = n .inside in
-      record { steady = n .steady; order = omega arith; inside = omega arith; low = λ j h. n .low j (omega arith); high = λ j h k. from-on (from + size - 1) e j (omega arith) k }
+      record {
+        steady = n .steady;
+        order = omega arith;
+        inside = omega arith;
+        low = λ j h. n .low j (omega arith);
+        high = λ j h k. from-on (from + size - 1) e j (omega arith) k;
+      }
   quarters true false true e f g =
       let i : from + (room - 1) ≤ count = n .inside in
       absurd (falls (from + 2 * size - 1) (from + 3 * size - 1) (omega arith) (omega arith) f g)
@@ -80,13 +105,13 @@ module _ (w : ℕ → ℕ) (count x from room size : ℕ) (n : Within w count x 
       let i : from + (room - 1) ≤ count = n .inside in
       absurd (falls (from + 2 * size - 1) (from + 3 * size - 1) (omega arith) (omega arith) f g)
 
-  pub past-quarters : (b c d : Bool) (first second third : ℕ) → b ≡ ltb (w (from + size - 1)) x → c ≡ ltb (w (from + 2 * size - 1)) x → d ≡ ltb (w (from + 3 * size - 1)) x
-      → first ≡ cond b 1 0 → second ≡ cond c 1 0 → third ≡ cond d 1 0
+  pub past-quarters : {b c d : Bool} → b ≡ ltb (w (from + size - 1)) x → c ≡ ltb (w (from + 2 * size - 1)) x → d ≡ ltb (w (from + 3 * size - 1)) x
+      → {first second third : ℕ} → first ≡ cond b 1 0 → second ≡ cond c 1 0 → third ≡ cond d 1 0
       → Within w count x (from + (first + second + third) * size) (from + (first + second + third) * size + (room - 3 * size - 1))
-  past-quarters b c d first second third e f g u v z = rw (u, v, z) (quarters b c d (sym e) (sym f) (sym g))
+  past-quarters {b} {c} {d} e f g u v z = rw (u, v, z) (quarters b c d (sym e) (sym f) (sym g))
 
 -- a probe of all entries
-module _ (w : ℕ → ℕ) (count x i : ℕ) (n : Within w count x 0 count) (h : i < count) (less : Bool) (asked : less ≡ ltb (w i) x) where
+module _ {w : ℕ → ℕ} {count x : ℕ} (n : Within w count x 0 count) (i : ℕ) (h : i < count) {less : Bool} (asked : less ≡ ltb (w i) x) where
   pub below-probe : less ≡ false → Within w count x 0 i
   below-probe t =
       let l : x ≤ w i = ltb-false (w i) x (sym asked ∙ t) in
@@ -110,10 +135,9 @@ module _ (w : ℕ → ℕ) (count x i : ℕ) (n : Within w count x 0 count) (h :
       }
 
 -- both bounds at once
-pub between : (w : ℕ → ℕ) (count x lo hi : ℕ) → lo ≤ hi → Within w count x lo count → Within w count x 0 hi → Within w count x lo hi
-between w count x lo hi o a b = record { steady = a .steady; order = o; inside = b .inside; low = a .low; high = b .high }
+pub between : {w : ℕ → ℕ} {count x lo hi : ℕ} → lo ≤ hi → Within w count x lo count → Within w count x 0 hi → Within w count x lo hi
+between o a b = record { steady = a .steady; order = o; inside = b .inside; low = a .low; high = b .high }
 
-module _ (w : ℕ → ℕ) (count x : ℕ) where
-  -- by other names of the same bounds
-  pub within-as : (lo hi lo′ hi′ : ℕ) → lo ≡ lo′ → hi ≡ hi′ → Within w count x lo hi → Within w count x lo′ hi′
-  within-as lo hi lo′ hi′ e d n = rw (sym e, sym d) n
+-- by other names of the same bounds
+pub within-as : {w : ℕ → ℕ} {count x lo hi lo′ hi′ : ℕ} → lo ≡ lo′ → hi ≡ hi′ → Within w count x lo hi → Within w count x lo′ hi′
+within-as e d n = rw (sym e, sym d) n

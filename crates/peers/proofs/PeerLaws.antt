@@ -27,7 +27,8 @@ peers-first bytes h =
     ap (λ (n : ℕ). map fromBe (entries 8 n bytes)) e
 
 -- those from index i on
-pub peers-next : (bytes : List ℕ) (i : ℕ) → i < length bytes / 8 → peersIn (drop (i * 8) bytes) ≡ fromBe (take 8 (drop (i * 8) bytes)) ∷ peersIn (drop ((i + 1) * 8) bytes)
+pub peers-next : (bytes : List ℕ) (i : ℕ) → i < length bytes / 8
+    → peersIn (drop (i * 8) bytes) ≡ fromBe (take 8 (drop (i * 8) bytes)) ∷ peersIn (drop ((i + 1) * 8) bytes)
 peers-next bytes i h =
     let e : i * 8 + 8 ≡ (i + 1) * 8 = omega arith in
     peers-first (drop (i * 8) bytes) (rw length-drop (omega arith)) ∙ rw (drop-drop 8 (i * 8) bytes, e)
@@ -37,7 +38,7 @@ peers-end bytes i h = peers-none (drop (i * 8) bytes) (rw length-drop (omega ari
 
 -- ---- searches, peer by peer
 
-module _ (bytes : List ℕ) (i peer : ℕ) (h : i < length bytes / 8) (e : peer ≡ fromBe (take 8 (drop (i * 8) bytes))) where
+module _ (bytes : List ℕ) (i : ℕ) {peer : ℕ} (h : i < length bytes / 8) (e : peer ≡ fromBe (take 8 (drop (i * 8) bytes))) where
   pub here : peersIn (drop (i * 8) bytes) ≡ peer ∷ peersIn (drop ((i + 1) * 8) bytes)
   here = peers-next bytes i h ∙ rw e
 
@@ -53,7 +54,8 @@ module _ (bytes : List ℕ) (i peer : ℕ) (h : i < length bytes / 8) (e : peer 
   unfolding firstUnstalled
   unstalled-here stalled n = rw (here, n)
 
-  pub unstalled-later : (stalled : List ℕ) → isListed peer stalled ≡ true → firstUnstalled stalled (peersIn (drop (i * 8) bytes)) ≡ firstUnstalled stalled (peersIn (drop ((i + 1) * 8) bytes))
+  pub unstalled-later : (stalled : List ℕ) → isListed peer stalled ≡ true
+      → firstUnstalled stalled (peersIn (drop (i * 8) bytes)) ≡ firstUnstalled stalled (peersIn (drop ((i + 1) * 8) bytes))
   unfolding firstUnstalled
   unstalled-later stalled s = rw (here, s)
 

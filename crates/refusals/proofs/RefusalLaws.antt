@@ -167,10 +167,10 @@ module _ (state : List ℕ) (room : ℕ) (call : Call) where
       given-3 enough = rw (size, image, enough)
 
       -- 4 to 8 by the header that was read
-      pub given-lent : (head : Head) (number : ℕ) → leb 65536 room ≡ true → head ≡ headIn state
+      pub given-lent : {head : Head} {number : ℕ} → leb 65536 room ≡ true → head ≡ headIn state
           → ((st : State) → headOf st ≡ head → number ≡ lentRefusal st call) → number ≡ givenRefusal state room call
       unfolding givenRefusal
-      given-lent head number enough e lent = rw (size, image, enough) (lent (decode state) (head-decode state image ∙ sym e))
+      given-lent enough e lent = rw (size, image, enough) (lent (decode state) (head-decode state image ∙ sym e))
 
 module _ (state area : List ℕ) (flag : ℕ) where
   pub asked-1 : eqb (length state) 65536 ≡ false → 1 ≡ questionRefusal state area flag

@@ -65,22 +65,27 @@ all-places used bytes h =
     let s : 3 ≡ used + (3 - used) = omega arith in
     let rest : List ℕ = drop (used * placeSize) bytes in
     let e : flagsFit (entries placeSize 3 bytes) ≡ flagsFit (entries placeSize used bytes) && flagsFit (entries placeSize (3 - used) rest) =
-    ap (λ (n : ℕ). flagsFit (entries placeSize n bytes)) s ∙ ap flagsFit (entries-add placeSize used (3 - used) bytes) ∙ flags-append (entries placeSize used bytes) (entries placeSize (3 - used) rest) in
-    ap (λ (t : Bool). t && allZero rest) e ∙ spare (flagsFit (entries placeSize used bytes)) (flagsFit (entries placeSize (3 - used) rest)) (allZero rest) (flags-zero (3 - used) rest)
+    ap (λ (n : ℕ). flagsFit (entries placeSize n bytes)) s ∙ ap flagsFit (entries-add placeSize used (3 - used) bytes)
+    ∙ flags-append (entries placeSize used bytes) (entries placeSize (3 - used) rest) in
+    ap (λ (t : Bool). t && allZero rest) e
+    ∙ spare (flagsFit (entries placeSize used bytes)) (flagsFit (entries placeSize (3 - used) rest)) (allZero rest) (flags-zero (3 - used) rest)
 
 -- where a row's stored bytes stand
 three-flags : (row : List ℕ) → flagsFit (entries placeSize 3 (drop 1 row)) ≡ leb (getD row placeSize 0) 1 && (leb (getD row 68 0) 1 && leb (getD row 102 0) 1)
 three-flags row =
     let places : List ℕ = drop 1 row in
     let a : getD (take placeSize places) pairSize 0 ≡ getD row placeSize 0 = getD-take placeSize places pairSize 0 (omega arith) ∙ getD-drop 1 row pairSize 0 in
-    let b : getD (take placeSize (drop placeSize places)) pairSize 0 ≡ getD row 68 0 = getD-take placeSize (drop placeSize places) pairSize 0 (omega arith) ∙ getD-drop placeSize places pairSize 0 ∙ getD-drop 1 row 67 0 in
-    let c : getD (take placeSize (drop placeSize (drop placeSize places))) pairSize 0 ≡ getD row 102 0 =
-    getD-take placeSize (drop placeSize (drop placeSize places)) pairSize 0 (omega arith) ∙ getD-drop placeSize (drop placeSize places) pairSize 0 ∙ getD-drop placeSize places 67 0 ∙ getD-drop 1 row 101 0 in
+    let second : List ℕ = drop placeSize places in
+    let third : List ℕ = drop placeSize second in
+    let b : getD (take placeSize second) pairSize 0 ≡ getD row 68 0 =
+    getD-take placeSize second pairSize 0 (omega arith) ∙ getD-drop placeSize places pairSize 0 ∙ getD-drop 1 row 67 0 in
+    let c : getD (take placeSize third) pairSize 0 ≡ getD row 102 0 =
+    getD-take placeSize third pairSize 0 (omega arith) ∙ getD-drop placeSize second pairSize 0 ∙ getD-drop placeSize places 67 0 ∙ getD-drop 1 row 101 0 in
     rw (a, b, c, and-true (leb (getD row 102 0) 1))
 
 -- ---- a row
 
-module _ (i : ℕ) (rows : List ℕ) (used : ℕ) (counted : used ≡ cond (eqb (getD rows (i * rowSize) 0) 255) 0 (getD rows (i * rowSize) 0)) where
+module _ (i : ℕ) (rows : List ℕ) {used : ℕ} (counted : used ≡ cond (eqb (getD rows (i * rowSize) 0) 255) 0 (getD rows (i * rowSize) 0)) where
   used-row : usedPlaces (entry rowSize i rows) ≡ used
   unfolding usedPlaces
   used-row =
@@ -91,28 +96,33 @@ module _ (i : ℕ) (rows : List ℕ) (used : ℕ) (counted : used ≡ cond (eqb 
   unfolding rowFits
   row-refused h = rw (used-row, lt-leb used 3 h)
 
-  pub row-read : (unused : Bool) → used ≤ 3
+  pub row-read : {unused : Bool} → used ≤ 3
       → unused ≡ allZero (take (i * rowSize + rowSize - (i * rowSize + (1 + used * placeSize))) (drop (i * rowSize + (1 + used * placeSize)) rows))
-      → (leb (getD rows (i * rowSize + placeSize) 0) 1 && (leb (getD rows (i * rowSize + 68) 0) 1 && leb (getD rows (i * rowSize + 102) 0) 1)) && unused ≡ rowFits (entry rowSize i rows)
+      → (leb (getD rows (i * rowSize + placeSize) 0) 1 && (leb (getD rows (i * rowSize + 68) 0) 1 && leb (getD rows (i * rowSize + 102) 0) 1)) && unused
+      ≡ rowFits (entry rowSize i rows)
   unfolding rowFits
-  row-read unused h z =
+  row-read {unused} h z =
       let row : List ℕ = entry rowSize i rows in
       let size : i * rowSize + rowSize - (i * rowSize + (1 + used * placeSize)) ≡ rowSize - (1 + used * placeSize) = omega arith in
-      let tail : unused ≡ allZero (drop (used * placeSize) (drop 1 row)) = z ∙ rw (size, drop-drop (used * placeSize) 1 row, entry-drop rowSize i (1 + used * placeSize) rows (omega arith)) in
-      let flags : leb (getD rows (i * rowSize + placeSize) 0) 1 && (leb (getD rows (i * rowSize + 68) 0) 1 && leb (getD rows (i * rowSize + 102) 0) 1) ≡ flagsFit (entries placeSize 3 (drop 1 row)) =
-      sym (three-flags row ∙ rw (entry-byte rowSize i placeSize rows (omega arith), entry-byte rowSize i 68 rows (omega arith), entry-byte rowSize i 102 rows (omega arith))) in
+      let tail : unused ≡ allZero (drop (used * placeSize) (drop 1 row)) =
+      z ∙ rw (size, drop-drop (used * placeSize) 1 row, entry-drop rowSize i (1 + used * placeSize) rows (omega arith)) in
+      let flags : leb (getD rows (i * rowSize + placeSize) 0) 1 && (leb (getD rows (i * rowSize + 68) 0) 1 && leb (getD rows (i * rowSize + 102) 0) 1)
+      ≡ flagsFit (entries placeSize 3 (drop 1 row)) =
+      sym (three-flags row
+      ∙ rw (entry-byte rowSize i placeSize rows (omega arith), entry-byte rowSize i 68 rows (omega arith), entry-byte rowSize i 102 rows (omega arith))) in
       rw (tail, flags, used-row, le-leb used 3 h, ← drop-drop (used * placeSize) 1 row) (all-places used (drop 1 row) h)
 
 -- ---- all rows
 
-module _ (count i : ℕ) (rows : List ℕ) (h : i < count) (answer : Bool) (asked : answer ≡ rowFits (entry rowSize i rows)) where
+module _ (count i : ℕ) (rows : List ℕ) (h : i < count) {answer : Bool} (asked : answer ≡ rowFits (entry rowSize i rows)) where
   rows-next : rowsFit (drop i (entries rowSize count rows)) ≡ answer && rowsFit (drop (i + 1) (entries rowSize count rows))
   rows-next =
       let es : List (List ℕ) = entries rowSize count rows in
       let l : i < length es = rw (length-entries rowSize count rows) h in
       rw (add-one, drop-cons es i [] l, entries-at rowSize count i rows h, asked)
 
-  pub rows-break : rowsFit (entries rowSize count rows) ≡ rowsFit (drop i (entries rowSize count rows)) → not answer ≡ true → false ≡ rowsFit (entries rowSize count rows)
+  pub rows-break : rowsFit (entries rowSize count rows) ≡ rowsFit (drop i (entries rowSize count rows)) → not answer ≡ true
+      → false ≡ rowsFit (entries rowSize count rows)
   rows-break so-far t = sym (so-far ∙ rows-next ∙ rw (not-true answer t))
 
   pub rows-go-on : rowsFit (entries rowSize count rows) ≡ rowsFit (drop i (entries rowSize count rows)) → not answer ≡ false

@@ -1,21 +1,28 @@
--- First words that differ decide (`first-decides`), else the whole runs.
+-- First words that differ decide (`differ-decides`), else the whole runs.
 use borrow.Author.Needs.{needs}
 use native.Mathlib.Omega.{arith}
-use Rattle.fields.specs.Facts.{Bytes}
-use Rattle.keys.proofs.UnlikeLaws.{first-decides}
+use Rattle.keys.proofs.UnlikeLaws.{Behind, first-words, differ-decides}
 use Rattle.keys.proofs.key_unlike.Statement.{statement}
 use Rattle.keys.proofs.key_unlike.Tie as tie
+
+module _ (c : tie.After-words-at) where
+  abbrev a : tie.Start
+  a = search
+
+  words : Behind (a .args .s .now) (a .args .t .now) (a .args .p) (a .args .q) (a .args .size) 0 8 (c .words-at .result .left) (c .words-at .result .right)
+  words =
+      let left : tie.After-shared-slice-known = search in
+      let right : tie.After-shared-slice-known2 = search in
+      first-words (a .args .s .now) (a .args .t .now)
+      (λ i. omega (arith, left .shared-slice-known .given i)) (λ i. omega (arith, right .shared-slice-known2 .given i))
+      (a .args .p) (a .args .q) (a .args .size) (c .words-at .result .left) (c .words-at .result .right)
+      (a .pre .0) (a .pre .1 .0) (a .pre .1 .1) (c .words-at .ensures .0) (c .words-at .ensures .1)
 
 words-at-requires : tie.Need-words-at-requires
 words-at-requires c κs = search needs
 
 returns : tie.Need-returns
-returns c =
-    let s = c .before .before .before .before .before in
-    let f : Bytes (s .args .s .now) = λ i. omega (arith, c .before .before .before .before .shared-slice-known .given i) in
-    let g : Bytes (s .args .t .now) = λ i. omega (arith, c .before .before .before .shared-slice-known2 .given i) in
-    let w = c .before .before .words-at in
-    first-decides (s .args .s .now) (s .args .t .now) f g (s .args .p) (s .args .q) (s .args .size) (w .result .left) (w .result .right) (s .pre .0) (s .pre .1 .0) (s .pre .1 .1) (w .ensures .0) (w .ensures .1) (c .if1 .taken)
+returns c = let first : tie.After-words-at = search in differ-decides (words first) (c .if1 .taken)
 
 run-unlike-requires : tie.Need-run-unlike-requires
 run-unlike-requires c κs = search needs

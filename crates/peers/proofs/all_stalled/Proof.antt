@@ -15,10 +15,14 @@ enum-told-2 : tie.Need-enum-told-2
 enum-told-2 c = search needs
 
 returns : tie.Need-returns
-returns c = rw (sym (c .before .before .first-unstalled .ensures) ∙ ap listedPeer (c .enum-told2 .given .1))
+returns c =
+    let first-unstalled : tie.After-first-unstalled = search in
+    rw (sym (first-unstalled .first-unstalled .ensures) ∙ ap listedPeer (c .enum-told2 .given .1))
 
 returns-2 : tie.Need-returns-2
-returns-2 c = rw (sym (c .before .before .first-unstalled .ensures) ∙ ap listedPeer (c .enum-told .given .1))
+returns-2 c =
+    let first-unstalled : tie.After-first-unstalled = search in
+    rw (sym (first-unstalled .first-unstalled .ensures) ∙ ap listedPeer (c .enum-told .given .1))
 
 pub all-stalled-spec : {M : Type 1} → statement M
 all-stalled-spec =

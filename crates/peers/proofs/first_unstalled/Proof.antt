@@ -13,7 +13,9 @@ use Rattle.peers.proofs.first_unstalled.Statement.{statement}
 use Rattle.peers.proofs.first_unstalled.Tie as tie
 
 abbrev Inv-loop : tie.InvT-loop
-Inv-loop stalled peers count i₀ i = (stalled .count ≤ 256) × (firstUnstalled (stalledPeers stalled) (peersIn (drop (i * 8) peers)) ≡ firstUnstalled (stalledPeers stalled) (peersIn peers))
+Inv-loop stalled peers count i₀ i =
+    (stalled .count ≤ 256)
+    × (firstUnstalled (stalledPeers stalled) (peersIn (drop (i * 8) peers)) ≡ firstUnstalled (stalledPeers stalled) (peersIn peers))
 
 abbrev μ-loop : tie.MeasureT-loop
 μ-loop stalled peers count i₀ i = count - i
@@ -32,11 +34,14 @@ contains-requires c κs = search needs
 
 returns : tie.Need-returns Inv-loop μ-loop
 returns c =
-    let l = c .before .before .before .before .loop in
-    let s = c .before .before .before .before .before .before .args in
-    let read = c .before .before .read-u64 in
-    let outside : isListed (read .result) (stalledPeers (s .stalled)) ≡ false = sym (c .before .contains .ensures) ∙ not-true (c .before .contains .result) (c .if1 .taken) in
-    sym (unstalled-here (s .peers .now) (l .i) (read .result) (c .before .before .before .loop-test .taken) (read .ensures) (stalledPeers (s .stalled)) outside) ∙ l .inv .1
+    let s : tie.Start Inv-loop μ-loop = search in
+    let l : tie.At-loop Inv-loop μ-loop = search in
+    let turn : tie.In-loop Inv-loop μ-loop = search in
+    let read : tie.After-read-u64 Inv-loop μ-loop = search in
+    let stalled = stalledPeers (s .args .stalled) in
+    let outside : isListed (read .read-u64 .result) stalled ≡ false =
+    sym (c .before .contains .ensures) ∙ not-true (c .before .contains .result) (c .if1 .taken) in
+    sym (unstalled-here (s .args .peers .now) (l .loop .i) (turn .loop-test .taken) (read .read-u64 .ensures) stalled outside) ∙ l .loop .inv .1
 
 add-i : tie.Need-add-i Inv-loop μ-loop
 add-i c = search needs
@@ -46,16 +51,21 @@ loop-less c = search needs
 
 loop-again : tie.Need-loop-again Inv-loop μ-loop
 loop-again c =
-    let l = c .before .before .before .before .loop in
-    let s = c .before .before .before .before .before .before .args in
-    let read = c .before .before .read-u64 in
-    let inside : isListed (read .result) (stalledPeers (s .stalled)) ≡ true = sym (c .before .contains .ensures) ∙ not-false (c .before .contains .result) (c .if1 .left) in
-    (search needs, sym (unstalled-later (s .peers .now) (l .i) (read .result) (c .before .before .before .loop-test .taken) (read .ensures) (stalledPeers (s .stalled)) inside) ∙ l .inv .1)
+    let s : tie.Start Inv-loop μ-loop = search in
+    let l : tie.At-loop Inv-loop μ-loop = search in
+    let turn : tie.In-loop Inv-loop μ-loop = search in
+    let read : tie.After-read-u64 Inv-loop μ-loop = search in
+    let stalled = stalledPeers (s .args .stalled) in
+    let inside : isListed (read .read-u64 .result) stalled ≡ true =
+    sym (c .before .contains .ensures) ∙ not-false (c .before .contains .result) (c .if1 .left) in
+    let later = unstalled-later (s .args .peers .now) (l .loop .i) (turn .loop-test .taken) (read .read-u64 .ensures) stalled inside in
+    (search needs, sym later ∙ l .loop .inv .1)
 
 returns-2 : tie.Need-returns-2 Inv-loop μ-loop
 returns-2 c =
+    let start : tie.Start Inv-loop μ-loop = search in
     let l = c .before .loop in
-    let s = c .before .before .before .args in
+    let s = start .args in
     sym (unstalled-end (s .peers .now) (l .i) (c .loop-test .left) (stalledPeers (s .stalled))) ∙ l .inv .1
 
 pub first-unstalled-spec : {M : Type 1} → statement M

@@ -26,10 +26,13 @@ read-u64-requires c κs = search needs
 
 returns : tie.Need-returns Inv-loop μ-loop
 returns c =
-    let l = c .before .before .before .loop in
-    let s = c .before .before .before .before .before .args in
+    let start : tie.Start Inv-loop μ-loop = search in
+    let head : tie.At-loop Inv-loop μ-loop = search in
+    let turn : tie.In-loop Inv-loop μ-loop = search in
+    let l = head .loop in
+    let s = start .args in
     let read = c .before .read-u64 in
-    sym (target-here (s .peers .now) (l .i) (read .result) (c .before .before .loop-test .taken) (read .ensures) (s .failed) (c .if1 .taken)) ∙ l .inv
+    sym (target-here (s .peers .now) (l .i) (turn .loop-test .taken) (read .ensures) (s .failed) (c .if1 .taken)) ∙ l .inv
 
 add-i : tie.Need-add-i Inv-loop μ-loop
 add-i c = search needs
@@ -39,15 +42,19 @@ loop-less c = search needs
 
 loop-again : tie.Need-loop-again Inv-loop μ-loop
 loop-again c =
-    let l = c .before .before .before .loop in
-    let s = c .before .before .before .before .before .args in
+    let start : tie.Start Inv-loop μ-loop = search in
+    let head : tie.At-loop Inv-loop μ-loop = search in
+    let turn : tie.In-loop Inv-loop μ-loop = search in
+    let l = head .loop in
+    let s = start .args in
     let read = c .before .read-u64 in
-    sym (target-later (s .peers .now) (l .i) (read .result) (c .before .before .loop-test .taken) (read .ensures) (s .failed) (c .if1 .left)) ∙ l .inv
+    sym (target-later (s .peers .now) (l .i) (turn .loop-test .taken) (read .ensures) (s .failed) (c .if1 .left)) ∙ l .inv
 
 returns-2 : tie.Need-returns-2 Inv-loop μ-loop
 returns-2 c =
+    let start : tie.Start Inv-loop μ-loop = search in
     let l = c .before .loop in
-    let s = c .before .before .before .args in
+    let s = start .args in
     sym (target-end (s .peers .now) (l .i) (c .loop-test .left) (s .failed)) ∙ l .inv
 
 pub retry-target-spec : {M : Type 1} → statement M

@@ -20,11 +20,15 @@ first-listed-requires c κs = search needs
 
 returns : tie.Need-returns
 unfolding selectPeer
-returns c = rw (sym (c .before .before .before .first-unstalled .ensures) ∙ ap listedPeer (c .before .enum-told .given .1)) (c .first-listed .ensures)
+returns c =
+    let first-unstalled : tie.After-first-unstalled = search in
+    rw (sym (first-unstalled .first-unstalled .ensures) ∙ ap listedPeer (c .before .enum-told .given .1)) (c .first-listed .ensures)
 
 returns-2 : tie.Need-returns-2
 unfolding selectPeer
-returns-2 c = rw (sym (c .before .before .before .first-unstalled .ensures) ∙ ap listedPeer (c .before .peer .given .1))
+returns-2 c =
+    let first-unstalled : tie.After-first-unstalled = search in
+    rw (sym (first-unstalled .first-unstalled .ensures) ∙ ap listedPeer (c .before .peer .given .1))
 
 pub select-peer-spec : {M : Type 1} → statement M
 select-peer-spec =

@@ -24,15 +24,20 @@ returns-4 c = λ st d m s k. rw (← m, ← s, k, c .match .keys4)
 
 returns-5 : tie.Need-returns-5
 unfolding allowed
-returns-5 c = λ st d m s k.
-    let n = c .before .before .match .rest in
-    rw (← m) (middle-kinds st d (c .before .before .before .args .kind) k (c .before .if1 .left) (c .if2 .taken) (n .0 .0 .0 .1) (n .0 .0 .1))
+returns-5 c =
+    let start : tie.Start = search in
+    let at-match-rest : tie.At-match-rest = search in
+    λ st d m s k.
+    let n = at-match-rest .match .rest in
+    rw (← m) (middle-kinds st d (start .args .kind) k (c .before .if1 .left) (c .if2 .taken) (n .0 .0 .0 .1) (n .0 .0 .1))
 
 returns-6 : tie.Need-returns-6
 unfolding allowed
-returns-6 c = λ st d m s k.
+returns-6 c =
+    let start : tie.Start = search in
+    λ st d m s k.
     let n = c .before .match .rest in
-    rw (← m) (end-kinds st d (c .before .before .args .kind) k (⊎-elim (λ l. inl (l .taken)) (λ l. inr (l .1 .left)) (c .if1 .came)) (n .0 .1) (n .1))
+    rw (← m) (end-kinds st d (start .args .kind) k (⊎-elim (λ l. inl (l .taken)) (λ l. inr (l .1 .left)) (c .if1 .came)) (n .0 .1) (n .1))
 
 pub of-mode-spec : {M : Type 1} → statement M
 of-mode-spec = tie.close (tie.spec returns returns-2 returns-3 returns-4 returns-5 returns-6)

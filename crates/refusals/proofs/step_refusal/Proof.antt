@@ -13,10 +13,16 @@ is-well-formed-requires : tie.Need-is-well-formed-requires
 is-well-formed-requires c κs = search needs
 
 returns-2 : tie.Need-returns-2
-returns-2 c = given-2 _ _ _ (eq-eqb _ _ (c .before .before .if1 .left)) (sym (c .before .is-well-formed .ensures) ∙ not-true _ (c .if2 .taken))
+returns-2 c =
+    let past-1 : tie.Else1 = search in
+    given-2 _ _ _ (eq-eqb _ _ (past-1 .if1 .left)) (sym (c .before .is-well-formed .ensures) ∙ not-true _ (c .if2 .taken))
 
 returns-3 : tie.Need-returns-3
-returns-3 c = given-3 _ _ _ (eq-eqb _ _ (c .before .before .before .if1 .left)) (sym (c .before .before .is-well-formed .ensures) ∙ not-false _ (c .before .if2 .left)) (lt-leb _ _ (c .if3 .taken))
+returns-3 c =
+    let past-1 : tie.Else1 = search in
+    let image : tie.After-is-well-formed = search in
+    let well = sym (image .is-well-formed .ensures) ∙ not-false _ (c .before .if2 .left) in
+    given-3 _ _ _ (eq-eqb _ _ (past-1 .if1 .left)) well (lt-leb _ _ (c .if3 .taken))
 
 read-head-requires : tie.Need-read-head-requires
 read-head-requires c κs = search needs
@@ -25,7 +31,13 @@ lent-refusal-requires : tie.Need-lent-refusal-requires
 lent-refusal-requires c κs = search needs
 
 returns-4 : tie.Need-returns-4
-returns-4 c = given-lent _ _ _ (eq-eqb _ _ (c .before .before .before .before .before .if1 .left)) (sym (c .before .before .before .before .is-well-formed .ensures) ∙ not-false _ (c .before .before .before .if2 .left)) _ _ (le-leb _ _ (c .before .before .if3 .left)) (c .before .read-head .ensures) (c .lent-refusal .ensures)
+returns-4 c =
+    let past-1 : tie.Else1 = search in
+    let image : tie.After-is-well-formed = search in
+    let past-2 : tie.Else2 = search in
+    let past-3 : tie.Else3 = search in
+    let well = sym (image .is-well-formed .ensures) ∙ not-false _ (past-2 .if2 .left) in
+    given-lent _ _ _ (eq-eqb _ _ (past-1 .if1 .left)) well (le-leb _ _ (past-3 .if3 .left)) (c .before .read-head .ensures) (c .lent-refusal .ensures)
 
 pub step-refusal-spec : {M : Type 1} → statement M
 step-refusal-spec =

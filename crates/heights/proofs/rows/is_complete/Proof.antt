@@ -39,10 +39,12 @@ shared-slice-read-third c = search needs
 
 returns : tie.Need-returns
 returns c =
-    let s = c .before .before .before .before in
+    let s : tie.Start = search in
     let i = s .args .i in
     let view = s .args .view .now in
-    complete-row (rowAt i view) (length-row i view (s .pre)) (getD view (i * rowSize + 4) 0) (getD view (i * rowSize + 4 + placeSize) 0) (getD view (i * rowSize + 4 + 68) 0) (getD view (i * rowSize + 4 + 102) 0)
+    let at = i * rowSize + 4 in
+    complete-row (rowAt i view) (length-row i view (s .pre))
+    (getD view at 0) (getD view (at + placeSize) 0) (getD view (at + 68) 0) (getD view (at + 102) 0)
     (sym (row-first i view)) (sym (row-byte i view placeSize (omega arith))) (sym (row-byte i view 68 (omega arith))) (sym (row-byte i view 102 (omega arith)))
 
 pub is-complete-spec : {M : Type 1} → statement M

@@ -11,7 +11,8 @@ shared-slice-read-if1 : tie.Need-shared-slice-read-if1
 shared-slice-read-if1 c = search needs
 
 returns : tie.Need-returns
-returns c = let s = c .before .before .before .before in
+returns c =
+    let s : tie.Start = search in
     place-stored (s .args .view .now) (s .args .at) (s .pre .0) (s .args .to) (s .args .pairs .now) (c .if1 .taken)
 
 mul-overwrite : tie.Need-mul-overwrite
@@ -27,8 +28,10 @@ part-overwrite-end : tie.Need-part-overwrite-end
 part-overwrite-end c = search needs
 
 overwrite-requires : tie.Need-overwrite-requires
-overwrite-requires c κs = let s = c .before .before .before .before .before .before in
-    place-room (s .args .view .now) (s .args .at) (s .pre .0) (s .args .to) (s .args .pairs .now) (c .before .before .if1 .left) (s .pre .1)
+overwrite-requires c κs =
+    let s : tie.Start = search in
+    let past : tie.Else1 = search in
+    place-room (s .args .view .now) (s .args .at) (s .pre .0) (s .args .to) (s .args .pairs .now) (past .if1 .left) (s .pre .1)
 
 add-result : tie.Need-add-result
 add-result c = search needs
@@ -37,8 +40,11 @@ same-length : tie.Need-same-length
 same-length c = search needs
 
 returns-2 : tie.Need-returns-2
-returns-2 c = let s = c .before .before .before .before .before .before .before .before .before in
-    place-written (s .args .view .now) (s .args .at) (s .pre .0) (s .args .to) (s .args .pairs .now) (c .before .before .before .before .before .if1 .left) (c .before .before .overwrite .last .0) (c .before .before .overwrite .ensures)
+returns-2 c =
+    let s : tie.Start = search in
+    let past : tie.Else1 = search in
+    let pair : tie.After-overwrite = search in
+    place-written (s .args .view .now) (s .args .at) (s .pre .0) (s .args .to) (s .args .pairs .now) (past .if1 .left) (pair .overwrite .ensures)
 
 pub put-place-spec : {M : Type 1} → statement M
 put-place-spec =

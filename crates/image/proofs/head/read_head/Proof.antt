@@ -45,7 +45,27 @@ count-at-requires-3 c κs = search needs
 
 returns : tie.Need-returns
 unfolding headIn
-returns c = rw (c .count-at3 .ensures, c .before .count-at2 .ensures, c .before .before .count-at .ensures, c .before .before .before .read-u322 .ensures, c .before .before .before .before .read-u32 .ensures, c .before .before .before .before .before .read-u643 .ensures, c .before .before .before .before .before .before .read-send-clock .ensures, c .before .before .before .before .before .before .before .read-u642 .ensures, c .before .before .before .before .before .before .before .before .read-settings .ensures, c .before .before .before .before .before .before .before .before .before .read-u64 .ensures)
+returns c =
+    let clock : tie.After-read-u64 = search in
+    let settings : tie.After-read-settings = search in
+    let progress : tie.After-read-u642 = search in
+    let send : tie.After-read-send-clock = search in
+    let peer : tie.After-read-u643 = search in
+    let downloaded : tie.After-read-u32 = search in
+    let tip : tie.After-read-u322 = search in
+    let stalled : tie.After-count-at = search in
+    rw (
+      c .count-at3 .ensures,
+      c .before .count-at2 .ensures,
+      stalled .count-at .ensures,
+      tip .read-u322 .ensures,
+      downloaded .read-u32 .ensures,
+      peer .read-u643 .ensures,
+      send .read-send-clock .ensures,
+      progress .read-u642 .ensures,
+      settings .read-settings .ensures,
+      clock .read-u64 .ensures,
+    )
 
 pub read-head-spec : {M : Type 1} → statement M
 read-head-spec =

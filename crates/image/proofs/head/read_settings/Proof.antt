@@ -18,7 +18,10 @@ read-u32-requires-4 c κs = search needs
 
 returns : tie.Need-returns
 unfolding headIn
-returns c = rw (c .read-u324 .ensures, c .before .read-u323 .ensures, c .before .before .read-u322 .ensures, c .before .before .before .read-u32 .ensures)
+returns c =
+    let read-u32 : tie.After-read-u32 = search in
+    let read-u322 : tie.After-read-u322 = search in
+    rw (c .read-u324 .ensures, c .before .read-u323 .ensures, read-u322 .read-u322 .ensures, read-u32 .read-u32 .ensures)
 
 pub read-settings-spec : {M : Type 1} → statement M
 read-settings-spec =

@@ -22,9 +22,13 @@ same-length c = search needs
 returns : tie.Need-returns
 unfolding headOf opened settingsOf
 returns c =
-    let s = c .before .before .before .before .before .before .before .before .before .args in
-    let st : State = opened (settingsOf (s .settings)) (s .clock) (s .height) in
-    c .before .before .write-head .ensures ∙ ap (overwritten 0 (headBytes (headOf st))) (c .before .before .before .before .before .before .fill-zero .ensures) ∙ opened-written (settingsOf (s .settings)) (s .clock) (s .height) (length (s .area .now)) (c .before .before .before .before .before .before .before .before .before .pre)
+    let start : tie.Start = search in
+    let zeros : tie.After-fill-zero = search in
+    let head : tie.After-write-head = search in
+    let a = start .args in
+    let st : State = opened (settingsOf (a .settings)) (a .clock) (a .height) in
+    head .write-head .ensures ∙ ap (overwritten 0 (headBytes (headOf st))) (zeros .fill-zero .ensures)
+    ∙ opened-written (settingsOf (a .settings)) (a .clock) (a .height) (length (a .area .now)) (start .pre)
 
 pub open-spec : {M : Type 1} → statement M
 open-spec = tie.close (tie.spec fill-zero-requires write-head-requires same-length returns)

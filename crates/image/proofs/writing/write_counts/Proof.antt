@@ -1,4 +1,4 @@
--- Writes side by side are one.
+-- Three writes side by side are one: `three-written`.
 use mathlib.Core.Path.{refl}
 use native.Mathlib.Omega.{arith}
 use borrow.Author.Needs.{needs}
@@ -21,10 +21,13 @@ same-length c = search needs
 
 returns : tie.Need-returns
 returns c =
-    let s = c .before .before .before .before .before .before .before .before .before .before .before .before .before .args in
-    let one = c .before .before .before .before .before .before .before .before .before .before .write in
-    let two = c .before .before .before .before .before .before .write2 in
-    three-written 68 70 72 (toBe 2 (s .stalled)) (toBe 2 (s .pending)) (toBe 2 (s .evicted)) (s .area .now) (one .last .0) (two .last .0) (c .before .before .write3 .last .0) (one .ensures) (two .ensures) (c .before .before .write3 .ensures) refl refl (omega arith)
+    let start : tie.Start = search in
+    let one : tie.After-write = search in
+    let two : tie.After-write2 = search in
+    let three : tie.After-write3 = search in
+    let s = start .args in
+    three-written 68 70 72 (toBe 2 (s .stalled)) (toBe 2 (s .pending)) (toBe 2 (s .evicted)) (s .area .now)
+    (one .write .ensures) (two .write2 .ensures) (three .write3 .ensures) refl refl (omega arith)
 
 pub write-counts-spec : {M : Type 1} → statement M
 write-counts-spec =

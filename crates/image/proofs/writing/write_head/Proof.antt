@@ -1,9 +1,20 @@
--- The six runs side by side are the header.
+-- The six runs side by side are the header: `head-written`.
 use mathlib.Core.Path.{_∙_}
 use borrow.Author.Needs.{needs}
 use Rattle.image.proofs.WrittenLaws.{head-written}
 use Rattle.image.proofs.writing.write_head.Statement.{statement}
 use Rattle.image.proofs.writing.write_head.Tie as tie
+
+-- the first three runs
+module _ (c : tie.After-write-settings) where
+  abbrev start : tie.Start
+  start = search
+
+  abbrev one : tie.After-write-start
+  one = search
+
+  abbrev two : tie.After-write-u64
+  two = search
 
 write-start-requires : tie.Need-write-start-requires
 write-start-requires c κs = search needs
@@ -28,15 +39,14 @@ same-length c = search needs
 
 returns : tie.Need-returns
 returns c =
-    let s = c .before .before .before .before .before .before .before .before .before .before .before .before .before .before .before .before .before .before .before .before .before .before .before .before .before .before .before .args in
-    let one = c .before .before .before .before .before .before .before .before .before .before .before .before .before .before .before .before .before .before .before .before .before .before .write-start in
-    let two = c .before .before .before .before .before .before .before .before .before .before .before .before .before .before .before .before .before .before .write-u64 in
-    let three = c .before .before .before .before .before .before .before .before .before .before .before .before .before .before .write-settings in
-    let four = c .before .before .before .before .before .before .before .before .before .before .write-syncing in
-    let five = c .before .before .before .before .before .before .write-heights in
-    let six = c .before .before .write-counts in
-    head-written (s .head) (s .area .now) (one .last .0) (two .last .0) (three .last .0) (four .last .0) (five .last .0) (six .last .0) (c .before .before .before .before .before .before .before .before .before .before .before .before .before .before .before .before .before .before .before .before .before .before .before .before .before .before .before .pre)
-    (one .ensures) (two .ensures) (three .ensures) (four .ensures) (five .ensures) (six .ensures) (three .kept .0 ∙ two .kept .0 ∙ one .kept .0)
+    let three : tie.After-write-settings = search in
+    let four : tie.After-write-syncing = search in
+    let five : tie.After-write-heights = search in
+    let six : tie.After-write-counts = search in
+    head-written (start three .args .head) (start three .args .area .now) (start three .pre)
+    (one three .write-start .ensures) (two three .write-u64 .ensures) (three .write-settings .ensures)
+    (four .write-syncing .ensures) (five .write-heights .ensures) (six .write-counts .ensures)
+    (three .write-settings .kept .0 ∙ two three .write-u64 .kept .0 ∙ one three .write-start .kept .0)
 
 pub write-head-spec : {M : Type 1} → statement M
 write-head-spec =

@@ -1,4 +1,4 @@
--- Writes side by side are one.
+-- Three writes side by side are one: `three-written`.
 use mathlib.Core.Path.{refl}
 use native.Mathlib.Omega.{arith}
 use borrow.Author.Needs.{needs}
@@ -21,10 +21,13 @@ same-length c = search needs
 
 returns : tie.Need-returns
 returns c =
-    let s = c .before .before .before .before .before .before .before .before .before .before .before .before .before .args in
-    let one = c .before .before .before .before .before .before .before .before .before .before .write-u32 in
-    let two = c .before .before .before .before .before .before .write-u322 in
-    three-written 56 60 64 (toBe 4 (s .sends)) (toBe 4 (s .downloaded)) (toBe 4 (s .tip)) (s .area .now) (one .last .0) (two .last .0) (c .before .before .write-u323 .last .0) (one .ensures) (two .ensures) (c .before .before .write-u323 .ensures) refl refl (omega arith)
+    let start : tie.Start = search in
+    let one : tie.After-write-u32 = search in
+    let two : tie.After-write-u322 = search in
+    let three : tie.After-write-u323 = search in
+    let s = start .args in
+    three-written 56 60 64 (toBe 4 (s .sends)) (toBe 4 (s .downloaded)) (toBe 4 (s .tip)) (s .area .now)
+    (one .write-u32 .ensures) (two .write-u322 .ensures) (three .write-u323 .ensures) refl refl (omega arith)
 
 pub write-heights-spec : {M : Type 1} → statement M
 write-heights-spec =

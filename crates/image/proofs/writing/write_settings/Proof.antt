@@ -25,14 +25,18 @@ same-length c = search needs
 
 returns : tie.Need-returns
 returns c =
-    let s = c .before .before .before .before .before .before .before .before .before .before .before .before .before .before .before .before .before .args in
-    let v = s .settings in
-    let one = c .before .before .before .before .before .before .before .before .before .before .before .before .before .before .write-u32 in
-    let two = c .before .before .before .before .before .before .before .before .before .before .write-u322 in
-    let three = c .before .before .before .before .before .before .write-u323 in
-    let four = c .before .before .write-u324 in
-    let first = three-written 16 20 24 (toBe 4 (v .timeout)) (toBe 4 (v .checks)) (toBe 4 (v .interval)) (s .area .now) (one .last .0) (two .last .0) (three .last .0) (one .ensures) (two .ensures) (three .ensures) refl refl (omega arith) in
-    written-behind 16 28 (toBe 4 (v .timeout) ++ (toBe 4 (v .checks) ++ toBe 4 (v .interval))) (toBe 4 (v .stall)) (s .area .now) (three .last .0) (four .last .0) first (four .ensures) refl (omega arith)
+    let start : tie.Start = search in
+    let one : tie.After-write-u32 = search in
+    let two : tie.After-write-u322 = search in
+    let three : tie.After-write-u323 = search in
+    let four : tie.After-write-u324 = search in
+    let area = start .args .area .now in
+    let v = start .args .settings in
+    let first =
+    three-written 16 20 24 (toBe 4 (v .timeout)) (toBe 4 (v .checks)) (toBe 4 (v .interval)) area
+    (one .write-u32 .ensures) (two .write-u322 .ensures) (three .write-u323 .ensures) refl refl (omega arith) in
+    written-behind 16 28 (toBe 4 (v .timeout) ++ (toBe 4 (v .checks) ++ toBe 4 (v .interval))) (toBe 4 (v .stall)) area
+    first (four .write-u324 .ensures) refl (omega arith)
 
 pub write-settings-spec : {M : Type 1} → statement M
 write-settings-spec =

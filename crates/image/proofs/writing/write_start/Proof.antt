@@ -41,7 +41,10 @@ same-length : tie.Need-same-length
 same-length c = simp length-set
 
 returns : tie.Need-returns
-returns c = rw (c .mark2 .ensures, c .before .mark .ensures) (eight-set 69 68 84 0 1 (c .before .before .before .args .mode) (bit (c .before .before .before .args .used)) (bit (c .before .before .before .args .sent)) (c .before .before .before .args .area .now) (omega arith))
+returns c =
+    let start : tie.Start = search in
+    let a = start .args in
+    rw (c .mark2 .ensures, c .before .mark .ensures) (eight-set 69 68 84 0 1 (a .mode) (bit (a .used)) (bit (a .sent)) (a .area .now) (omega arith))
 
 pub write-start-spec : {M : Type 1} → statement M
 write-start-spec =

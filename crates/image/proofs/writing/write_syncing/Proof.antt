@@ -1,4 +1,4 @@
--- Writes side by side are one.
+-- Three writes side by side are one: `three-written`.
 use mathlib.Core.Path.{refl}
 use native.Mathlib.Omega.{arith}
 use borrow.Author.Needs.{needs}
@@ -21,10 +21,13 @@ same-length c = search needs
 
 returns : tie.Need-returns
 returns c =
-    let s = c .before .before .before .before .before .before .before .before .before .before .before .before .before .args in
-    let one = c .before .before .before .before .before .before .before .before .before .before .write-u64 in
-    let two = c .before .before .before .before .before .before .write-u642 in
-    three-written 32 40 48 (toBe 8 (s .progress)) (toBe 8 (s .send)) (toBe 8 (s .peer)) (s .area .now) (one .last .0) (two .last .0) (c .before .before .write-u643 .last .0) (one .ensures) (two .ensures) (c .before .before .write-u643 .ensures) refl refl (omega arith)
+    let start : tie.Start = search in
+    let one : tie.After-write-u64 = search in
+    let two : tie.After-write-u642 = search in
+    let three : tie.After-write-u643 = search in
+    let s = start .args in
+    three-written 32 40 48 (toBe 8 (s .progress)) (toBe 8 (s .send)) (toBe 8 (s .peer)) (s .area .now)
+    (one .write-u64 .ensures) (two .write-u642 .ensures) (three .write-u643 .ensures) refl refl (omega arith)
 
 pub write-syncing-spec : {M : Type 1} → statement M
 write-syncing-spec =

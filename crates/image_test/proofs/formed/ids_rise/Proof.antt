@@ -26,8 +26,11 @@ is-rising-requires c κs = search needs
 
 returns : tie.Need-returns
 returns c =
-    let area = c .before .before .before .before .args .area .now in
-    c .is-rising .ensures ∙ rw (c .before .before .count-at .ensures, take-all (length area - regionAt) (drop regionAt area) (rw (length-drop regionAt area) (omega arith)))
+    let start : tie.Start = search in
+    let count : tie.After-count-at = search in
+    let area = start .args .area .now in
+    c .is-rising .ensures
+    ∙ rw (count .count-at .ensures, take-all (length area - regionAt) (drop regionAt area) (rw (length-drop regionAt area) (omega arith)))
 
 pub ids-rise-spec : {M : Type 1} → statement M
 ids-rise-spec =

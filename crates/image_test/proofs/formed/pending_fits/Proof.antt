@@ -33,12 +33,14 @@ records-fit-requires c κs = search needs
 
 returns : tie.Need-returns
 returns c =
-    let area = c .before .before .before .before .before .before .args .area .now in
-    let settings = c .before .before .read-settings in
-    let count = c .before .before .before .count-at in
-    let clock = c .before .before .before .before .read-u64 in
-    let rest : take (length area - regionAt) (drop regionAt area) ≡ drop regionAt area = take-all (length area - regionAt) (drop regionAt area) (rw (length-drop regionAt area) (omega arith)) in
-    pending-read area (take (length area - regionAt) (drop regionAt area)) (settings .result) (clock .result) (count .result) (settings .ensures) (clock .ensures) (count .ensures) rest (c .records-fit .result) (c .records-fit .ensures)
+    let start : tie.Start = search in
+    let clock : tie.After-read-u64 = search in
+    let count : tie.After-count-at = search in
+    let settings : tie.After-read-settings = search in
+    let area = start .args .area .now in
+    let rest : take (length area - regionAt) (drop regionAt area) ≡ drop regionAt area =
+    take-all (length area - regionAt) (drop regionAt area) (rw (length-drop regionAt area) (omega arith)) in
+    pending-read area (settings .read-settings .ensures) (clock .read-u64 .ensures) (count .count-at .ensures) rest (c .records-fit .ensures)
 
 pub pending-fits-spec : {M : Type 1} → statement M
 pending-fits-spec =

@@ -21,9 +21,10 @@ shared-slice-read-if1 c = search needs
 
 returns : tie.Need-returns
 returns c =
-    let s = c .before .before .before .args in
+    let start : tie.Start = search in
+    let s = start .args in
     let wide : getD (s .region .now) (s .i * recordSize + 40) 0 ≡ 0 → ⊥ = c .if1 .taken in
-    sym (record-wide (settingsOf (s .settings)) (s .clock) (s .i) (s .region .now) (c .before .before .before .pre) wide)
+    sym (record-wide (settingsOf (s .settings)) (s .clock) (s .i) (s .region .now) (start .pre) wide)
 
 add-read-u64 : tie.Need-add-read-u64
 add-read-u64 c = search needs
@@ -33,10 +34,11 @@ read-u64-requires c κs = search needs
 
 returns-2 : tie.Need-returns-2
 returns-2 c =
-    let s = c .before .before .before .before .before .args in
+    let start : tie.Start = search in
+    let s = start .args in
     let stamp = c .before .read-u64 in
     let late : s .clock < stamp .result = c .if2 .taken in
-    sym (record-late (settingsOf (s .settings)) (s .clock) (s .i) (s .region .now) (c .before .before .before .before .before .pre) (rw (stamp .ensures) at late))
+    sym (record-late (settingsOf (s .settings)) (s .clock) (s .i) (s .region .now) (start .pre) (rw (stamp .ensures) at late))
 
 add-read-u32 : tie.Need-add-read-u32
 add-read-u32 c = search needs
@@ -51,18 +53,25 @@ shared-slice-read-most-requests : tie.Need-shared-slice-read-most-requests
 shared-slice-read-most-requests c = search needs
 
 cast-most-requests : tie.Need-cast-most-requests
-cast-most-requests c = omega (arith, c .shared-slice-known3 .given (c .before .before .before .before .before .before .before .args .i * recordSize + 41))
+cast-most-requests c =
+    let start : tie.Start = search in
+    omega (arith, c .shared-slice-known3 .given (start .args .i * recordSize + 41))
 
 most-requests-requires : tie.Need-most-requests-requires
 most-requests-requires c κs = search needs
 
 returns-3 : tie.Need-returns-3
 returns-3 c =
-    let s = c .before .before .before .before .before .before .before .before .args in
-    let stamp = c .before .before .before .before .read-u64 in
-    let zero : getD (s .region .now) (s .i * recordSize + 40) 0 ≡ 0 = c .before .before .before .before .before .if1 .left in
-    let past : stamp .result ≤ s .clock = c .before .before .before .if2 .left in
-    rw (c .before .before .read-u32 .ensures, c .most-requests .ensures) (record-checks (settingsOf (s .settings)) (s .clock) (s .i) (s .region .now) (c .before .before .before .before .before .before .before .before .pre) zero (rw (stamp .ensures) at past))
+    let start : tie.Start = search in
+    let narrow : tie.Else1 = search in
+    let stamp : tie.After-read-u64 = search in
+    let timely : tie.Else2 = search in
+    let checks : tie.After-read-u32 = search in
+    let s = start .args in
+    let zero : getD (s .region .now) (s .i * recordSize + 40) 0 ≡ 0 = narrow .if1 .left in
+    let past : stamp .read-u64 .result ≤ s .clock = timely .if2 .left in
+    rw (checks .read-u32 .ensures, c .most-requests .ensures)
+    (record-checks (settingsOf (s .settings)) (s .clock) (s .i) (s .region .now) (start .pre) zero (rw (stamp .read-u64 .ensures) at past))
 
 pub record-fits-spec : {M : Type 1} → statement M
 record-fits-spec =

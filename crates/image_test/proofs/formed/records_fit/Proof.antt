@@ -13,7 +13,9 @@ use Rattle.image_test.proofs.formed.records_fit.Tie as tie
 use Rattle.model.specs.Layout.{recordSize}
 
 abbrev Inv-loop : tie.InvT-loop
-Inv-loop region count settings clock i₀ i = (i ≤ count) × (recordsFit (settingsOf settings) clock (drop i (entries recordSize count region)) ≡ recordsFit (settingsOf settings) clock (entries recordSize count region))
+Inv-loop region count settings clock i₀ i =
+    (i ≤ count)
+    × (recordsFit (settingsOf settings) clock (drop i (entries recordSize count region)) ≡ recordsFit (settingsOf settings) clock (entries recordSize count region))
 
 abbrev μ-loop : tie.MeasureT-loop
 μ-loop region count settings clock i₀ i = count - i
@@ -26,10 +28,14 @@ record-fits-requires c κs = search needs
 
 returns : tie.Need-returns Inv-loop μ-loop
 returns c =
-    let l = c .before .before .before .loop in
-    let s = c .before .before .before .before .before .args in
+    let start : tie.Start Inv-loop μ-loop = search in
+    let l : tie.At-loop Inv-loop μ-loop = search in
+    let turn : tie.In-loop Inv-loop μ-loop = search in
+    let s = start .args in
     let fits = c .before .record-fits in
-    sym (fits-not (settingsOf (s .settings)) (s .clock) (s .count) (l .i) (s .region .now) (fits .result) (fits .ensures) (not-true (fits .result) (c .if1 .taken)) (c .before .before .loop-test .taken)) ∙ l .inv .1
+    sym (fits-not (settingsOf (s .settings)) (s .clock) (s .count) (l .loop .i) (s .region .now)
+    (fits .ensures) (not-true (fits .result) (c .if1 .taken)) (turn .loop-test .taken))
+    ∙ l .loop .inv .1
 
 add-i : tie.Need-add-i Inv-loop μ-loop
 add-i c = search needs
@@ -39,15 +45,21 @@ loop-less c = search needs
 
 loop-again : tie.Need-loop-again Inv-loop μ-loop
 loop-again c =
-    let l = c .before .before .before .loop in
-    let s = c .before .before .before .before .before .args in
+    let start : tie.Start Inv-loop μ-loop = search in
+    let l : tie.At-loop Inv-loop μ-loop = search in
+    let turn : tie.In-loop Inv-loop μ-loop = search in
+    let s = start .args in
     let fits = c .before .record-fits in
-    (omega arith, fits-next (settingsOf (s .settings)) (s .clock) (s .count) (l .i) (s .region .now) (fits .result) (fits .ensures) (not-false (fits .result) (c .if1 .left)) (c .before .before .loop-test .taken) ∙ l .inv .1)
+    let rest =
+    fits-next (settingsOf (s .settings)) (s .clock) (s .count) (l .loop .i) (s .region .now)
+    (fits .ensures) (not-false (fits .result) (c .if1 .left)) (turn .loop-test .taken) in
+    (omega arith, rest ∙ l .loop .inv .1)
 
 returns-2 : tie.Need-returns-2 Inv-loop μ-loop
 returns-2 c =
+    let start : tie.Start Inv-loop μ-loop = search in
     let l = c .before .loop in
-    let s = c .before .before .before .args in
+    let s = start .args in
     sym (fits-end (settingsOf (s .settings)) (s .clock) (s .count) (l .i) (s .region .now) (c .loop-test .left)) ∙ l .inv .1
 
 pub records-fit-spec : {M : Type 1} → statement M

@@ -70,12 +70,14 @@ is-zero-requires-3 c κs = search needs
 
 returns : tie.Need-returns
 returns c =
-    let s = c .before .before .before .before .before .before .before .before .before .before in
-    let n = c .before .before .before .before .before .before .before .before .count-at in
-    let p = c .before .before .before .before .before .before .before .count-at2 in
-    let e = c .before .before .before .before .before .before .count-at3 in
-    room (s .args .area .now) (n .result) (p .result) (e .result) (c .before .before .before .before .is-zero .result) (c .before .before .is-zero2 .result) (c .is-zero3 .result) (n .ensures) (p .ensures) (e .ensures) (omega arith) (omega arith)
-    (c .before .before .before .before .is-zero .ensures) (c .before .before .is-zero2 .ensures) (c .is-zero3 .ensures)
+    let s : tie.Start = search in
+    let stalled : tie.After-count-at = search in
+    let pending : tie.After-count-at2 = search in
+    let evicted : tie.After-count-at3 = search in
+    let header : tie.After-is-zero = search in
+    let places : tie.After-is-zero2 = search in
+    room (s .args .area .now) (stalled .count-at .ensures) (pending .count-at2 .ensures) (evicted .count-at3 .ensures) (omega arith) (omega arith)
+    (header .is-zero .ensures) (places .is-zero2 .ensures) (c .is-zero3 .ensures)
 
 pub room-is-zero-spec : {M : Type 1} → statement M
 room-is-zero-spec =

@@ -15,7 +15,9 @@ read-u64-requires-3 c κs = search needs
 
 returns : tie.Need-returns
 unfolding clocksFit
-returns c = rw (c .read-u643 .ensures, c .before .read-u642 .ensures, c .before .before .read-u64 .ensures)
+returns c =
+    let read-u64 : tie.After-read-u64 = search in
+    rw (c .read-u643 .ensures, c .before .read-u642 .ensures, read-u64 .read-u64 .ensures)
 
 pub clocks-fit-spec : {M : Type 1} → statement M
 clocks-fit-spec =

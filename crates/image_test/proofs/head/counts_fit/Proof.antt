@@ -24,7 +24,9 @@ add-result c = search needs
 
 returns : tie.Need-returns
 unfolding countsFit
-returns c = rw (c .read-u163 .ensures, c .before .read-u162 .ensures, c .before .before .read-u16 .ensures)
+returns c =
+    let read-u16 : tie.After-read-u16 = search in
+    rw (c .read-u163 .ensures, c .before .read-u162 .ensures, read-u16 .read-u16 .ensures)
 
 pub counts-fit-spec : {M : Type 1} → statement M
 counts-fit-spec =

@@ -21,13 +21,12 @@ peer-fits-requires c κs = search needs
 
 returns : tie.Need-returns
 returns c =
-    let area = c .before .before .before .before .before .before .args .area .now in
-    let starts = c .before .before .before .before .starts-well in
-    let marks = c .before .before .before .marks-fit in
-    let counts = c .before .before .counts-fit in
-    let clocks = c .before .clocks-fit in
-    let peer = c .peer-fits in
-    parts-fit area (starts .result) (marks .result) (counts .result) (clocks .result) (peer .result) (starts .ensures) (marks .ensures) (counts .ensures) (clocks .ensures) (peer .ensures)
+    let start : tie.Start = search in
+    let starts : tie.After-starts-well = search in
+    let marks : tie.After-marks-fit = search in
+    let counts : tie.After-counts-fit = search in
+    parts-fit (start .args .area .now) (starts .starts-well .ensures) (marks .marks-fit .ensures) (counts .counts-fit .ensures)
+    (c .before .clocks-fit .ensures) (c .peer-fits .ensures)
 
 pub head-fits-spec : {M : Type 1} → statement M
 head-fits-spec =

@@ -18,7 +18,7 @@ shared-slice-read-result-2 c = search needs
 
 returns : tie.Need-returns
 unfolding marksFit
-returns c = rw (c .before .before .most-mark .ensures)
+returns c = let most-mark : tie.After-most-mark = search in rw (most-mark .most-mark .ensures)
 
 pub marks-fit-spec : {M : Type 1} → statement M
 marks-fit-spec =

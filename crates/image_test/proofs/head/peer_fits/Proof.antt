@@ -15,7 +15,10 @@ shared-slice-read-result-2 : tie.Need-shared-slice-read-result-2
 shared-slice-read-result-2 c = search needs
 
 returns : tie.Need-returns
-returns c = rw (c .before .before .read-u64 .ensures, peer-byte (getD (c .before .before .before .before .args .area .now) 5 0))
+returns c =
+    let start : tie.Start = search in
+    let peer : tie.After-read-u64 = search in
+    rw (peer .read-u64 .ensures, peer-byte (getD (start .args .area .now) 5 0))
 
 pub peer-fits-spec : {M : Type 1} → statement M
 peer-fits-spec =

@@ -21,7 +21,10 @@ shared-slice-read-result-4 : tie.Need-shared-slice-read-result-4
 shared-slice-read-result-4 c = search needs
 
 returns : tie.Need-returns
-returns c = rw (c .before .before .before .before .read-u16 .ensures, same-three (c .before .before .before .before .before .before .args .area .now) 69 68 84 (omega arith))
+returns c =
+    let start : tie.Start = search in
+    let version : tie.After-read-u16 = search in
+    rw (version .read-u16 .ensures, same-three (start .args .area .now) 69 68 84 (omega arith))
 
 pub starts-well-spec : {M : Type 1} → statement M
 starts-well-spec =

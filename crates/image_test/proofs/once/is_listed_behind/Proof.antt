@@ -19,9 +19,10 @@ element-copy-out-if1 c = search needs
 
 returns : tie.Need-returns
 returns c =
-    let s = c .before .before .before in
+    let s : tie.Start = search in
     let i = s .args .i in
-    sym (unflagged (s .args .flags .now) (elements (s .args .count - (i + 1)) (i + 1) (s .args .peers .now)) (getD (s .args .peers .now) i 0) (s .pre .1) (c .if1 .taken))
+    let peers = s .args .peers .now in
+    sym (unflagged (s .args .flags .now) (elements (s .args .count - (i + 1)) (i + 1) peers) (getD peers i 0) (s .pre .1) (c .if1 .taken))
 
 add-is-listed-from : tie.Need-add-is-listed-from
 add-is-listed-from c = search needs

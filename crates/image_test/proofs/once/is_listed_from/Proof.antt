@@ -11,7 +11,8 @@ use Rattle.image_test.proofs.once.is_listed_from.Statement.{statement}
 use Rattle.image_test.proofs.once.is_listed_from.Tie as tie
 
 abbrev Inv-loop : tie.InvT-loop
-Inv-loop peers from count peer found₀ i₀ found i = (count ≤ 256) × (found || isListed peer (elements (count - i) i peers) ≡ isListed peer (elements (count - from) from peers))
+Inv-loop peers from count peer found₀ i₀ found i =
+    (count ≤ 256) × (found || isListed peer (elements (count - i) i peers) ≡ isListed peer (elements (count - from) from peers))
 
 abbrev μ-loop : tie.MeasureT-loop
 μ-loop peers from count peer found₀ i₀ found i = count - i
@@ -33,14 +34,17 @@ loop-less c = search needs
 
 loop-again : tie.Need-loop-again Inv-loop μ-loop
 loop-again c =
-    let l = c .before .before .loop in
-    let s = c .before .before .before .args in
+    let start : tie.Start Inv-loop μ-loop = search in
+    let head : tie.At-loop Inv-loop μ-loop = search in
+    let l = head .loop in
+    let s = start .args in
     (l .inv .0, sym (listed-turn (s .peers .now) (s .count) (l .i) (l .found) (s .peer) (c .before .loop-test .taken)) ∙ l .inv .1)
 
 returns : tie.Need-returns Inv-loop μ-loop
 returns c =
+    let start : tie.Start Inv-loop μ-loop = search in
     let l = c .before .loop in
-    let s = c .before .before .args in
+    let s = start .args in
     sym (listed-end (s .peers .now) (s .count) (l .i) (l .found) (s .peer) (c .loop-test .left)) ∙ l .inv .1
 
 pub is-listed-from-spec : {M : Type 1} → statement M

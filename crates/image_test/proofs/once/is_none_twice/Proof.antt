@@ -22,8 +22,10 @@ sub-i c = search needs
 
 is-listed-behind-requires : tie.Need-is-listed-behind-requires Inv-loop μ-loop
 is-listed-behind-requires c κs =
-    let l = c .before .before .loop in
-    let s = c .before .before .before .args in
+    let start : tie.Start Inv-loop μ-loop = search in
+    let head : tie.At-loop Inv-loop μ-loop = search in
+    let l = head .loop in
+    let s = start .args in
     ((omega arith, omega arith), flagged-behind (s .peers .now) (s .count) (l .flags) (l .ok) (l .i) (l .i - 1) (omega arith) (l .inv .1 .1 .1))
 
 mul-flags : tie.Need-mul-flags Inv-loop μ-loop
@@ -40,17 +42,21 @@ loop-less c = search needs
 
 loop-again : tie.Need-loop-again Inv-loop μ-loop
 loop-again c =
-    let l = c .before .before .before .before .loop in
-    let s = c .before .before .before .before .before .args in
-    let listed = c .before .is-listed-behind in (
-      omega arith,
-      (omega arith, (rw length-set (l .inv .1 .1 .0), passed-next (s .peers .now) (s .count) (l .flags) (l .ok) (listed .result) (l .i) (l .i - 1) (omega arith) (omega arith) (l .inv .1 .1 .0) (l .inv .1 .1 .1) (listed .ensures))),
-    )
+    let start : tie.Start Inv-loop μ-loop = search in
+    let head : tie.At-loop Inv-loop μ-loop = search in
+    let l = head .loop in
+    let s = start .args in
+    let listed = c .before .is-listed-behind in
+    let next =
+    passed-next (s .peers .now) (s .count) (l .flags) (l .ok) (listed .result) (l .i) (l .i - 1) (omega arith) (omega arith)
+    (l .inv .1 .1 .0) (l .inv .1 .1 .1) (listed .ensures) in
+    (omega arith, (omega arith, (rw length-set (l .inv .1 .1 .0), next)))
 
 returns : tie.Need-returns Inv-loop μ-loop
 returns c =
+    let start : tie.Start Inv-loop μ-loop = search in
     let l = c .before .loop in
-    let s = c .before .before .args in
+    let s = start .args in
     passed-all (s .peers .now) (s .count) (l .flags) (l .ok) (l .i) (omega arith) (l .inv .1 .1 .1)
 
 pub is-none-twice-spec : {M : Type 1} → statement M

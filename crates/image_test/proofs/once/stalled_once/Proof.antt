@@ -11,8 +11,9 @@ count-at-requires c κs = search needs
 
 returns : tie.Need-returns
 returns c =
+    let start : tie.Start = search in
     let count = c .before .count-at in
-    few-once (c .before .before .before .args .area .now) (count .result) (count .ensures) (c .if1 .taken)
+    few-once (start .args .area .now) (count .result) (count .ensures) (c .if1 .taken)
 
 sub-read-stalled : tie.Need-sub-read-stalled
 sub-read-stalled c = search needs
@@ -31,10 +32,12 @@ is-none-twice-requires c κs = search needs
 
 returns-2 : tie.Need-returns-2
 returns-2 c =
-    let s = c .before .before .before .before .before .before .before .before in
-    let count = c .before .before .before .before .before .before .count-at in
-    let read = c .before .before .before .read-stalled in
-    c .is-none-twice .ensures ∙ stalled-read (s .args .area .now) (count .result) (count .ensures) (read .result) (omega arith) (omega arith) (read .ensures .0) (read .ensures .1)
+    let s : tie.Start = search in
+    let count : tie.After-count-at = search in
+    let read : tie.After-read-stalled = search in
+    let stalled = read .read-stalled in
+    c .is-none-twice .ensures
+    ∙ stalled-read (s .args .area .now) (count .count-at .result) (count .count-at .ensures) (stalled .result) (omega arith) (omega arith) (stalled .ensures .0) (stalled .ensures .1)
 
 pub stalled-once-spec : {M : Type 1} → statement M
 stalled-once-spec =

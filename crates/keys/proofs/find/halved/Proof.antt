@@ -1,26 +1,80 @@
 -- The loop: the keys below `lo` come before the key, and that of `hi` does not.
 use Prim.Native.Nat.{ℕ, suc, _+_, _-_, _/_, _≤_, _<_}
-use mathlib.Core.Bool.{true, false}
-use mathlib.Core.Path.{_≡_, sym}
+use mathlib.Core.Bool.{Bool, true, false}
+use mathlib.Core.Path.{_≡_, sym, subst}
 use mathlib.Core.List.{List}
 use native.Mathlib.Nat.{mul-le-mul-right, lt-irrefl}
 use native.Mathlib.Omega.{arith}
 use borrow.Author.Needs.{needs}
 use Rattle.fields.specs.Entries.{entries}
 use Rattle.fields.proofs.EntriesLaws.{length-entries}
-use Rattle.keys.proofs.FindLaws.{Below, below-falls, compared-before, compared-same, found-at, found-gap, found-end}
+use Rattle.keys.proofs.FindLaws.{Below, Here, below-falls, compared-before, compared-same, found-at, found-gap, found-end}
 use Rattle.keys.proofs.find.halved.Statement.{statement}
 use Rattle.keys.proofs.find.halved.Tie as tie
 
 abbrev Inv-loop : tie.InvT-loop
 Inv-loop table width count key start size lo₀ hi₀ lo hi =
-    (lo ≤ hi) × ((hi ≤ count) × (((j : ℕ) → j < lo → Below key (entries width count table) j true) × (hi < count → Below key (entries width count table) hi false)))
+    (lo ≤ hi)
+    × ((hi ≤ count)
+    × (((j : ℕ) → j < lo → Below key (entries width count table) j true)
+    × (hi < count → Below key (entries width count table) hi false)))
 
 abbrev μ-loop : tie.MeasureT-loop
 μ-loop table width count key start size lo₀ hi₀ lo hi = hi - lo
 
+module _ (s : tie.Start Inv-loop μ-loop) where
+  abbrev key : List ℕ
+  key = s .args .key .now
+
+  abbrev es : List (List ℕ)
+  es = entries (s .args .width) (s .args .count) (s .args .table .now)
+
+-- ---- the key in the middle, compared
+
+module _ (c : tie.After-comes-before Inv-loop μ-loop) where
+  abbrev start : tie.Start Inv-loop μ-loop
+  start = search
+
+  abbrev l : tie.At-loop Inv-loop μ-loop
+  l = search
+
+  abbrev mid : ℕ
+  mid = l .loop .lo + (l .loop .hi - l .loop .lo) / 2
+
+  compared : {b : Bool} → mid < start .args .count → c .comes-before .result ≡ b → Below (key start) (es start) mid b
+  compared h e =
+      compared-before (key start) (start .args .table .now) (start .args .width) (start .args .count) mid h (start .pre .0 .0) (c .comes-before .ensures) e
+
+-- ---- the key where the bounds have met, compared
+
+module _ (c : tie.After-run-same Inv-loop μ-loop) where
+  abbrev entry : tie.Start Inv-loop μ-loop
+  entry = search
+
+  abbrev met : tie.At-loop Inv-loop μ-loop
+  met = search
+
+  abbrev at : ℕ
+  at = met .loop .lo
+
+  inside : at < entry .args .count
+  inside = omega arith
+
+  not-below : Below (key entry) (es entry) at false
+  not-below =
+      let e : met .loop .hi ≡ at = omega arith in
+      subst (λ (i : ℕ). Below (key entry) (es entry) i false) e (met .loop .inv .1 .1 .1 (omega arith))
+
+  same-here : {b : Bool} → c .run-same .result ≡ b → Here (key entry) (es entry) at b
+  same-here e =
+      compared-same (key entry) (entry .args .table .now) (entry .args .width) (entry .args .count) at inside (entry .pre .0 .0) (c .run-same .ensures) e
+
+-- ---- the needs
+
 loop-holds : tie.Need-loop-holds Inv-loop μ-loop
-loop-holds c = (omega arith, (omega arith, (c .before .before .pre .1 .1 .below, (λ h. absurd (lt-irrefl 0 (omega arith))))))
+loop-holds c =
+    let s : tie.Start Inv-loop μ-loop = search in
+    (omega arith, (omega arith, (s .pre .1 .1 .below, (λ h. absurd (lt-irrefl 0 (omega arith))))))
 
 sub-mid : tie.Need-sub-mid Inv-loop μ-loop
 sub-mid c = search needs
@@ -29,14 +83,16 @@ add-mid : tie.Need-add-mid Inv-loop μ-loop
 add-mid c = search needs
 
 mul-comes-before : tie.Need-mul-comes-before Inv-loop μ-loop
-mul-comes-before c = let l = c .before in
-    let s = c .before .before .before .before in
+mul-comes-before c =
+    let s : tie.Start Inv-loop μ-loop = search in
+    let l : tie.At-loop Inv-loop μ-loop = search in
     let m : suc (l .loop .lo + (l .loop .hi - l .loop .lo) / 2) ≤ s .args .count = omega arith in
     omega (arith, mul-le-mul-right (s .args .width) m)
 
 comes-before-requires : tie.Need-comes-before-requires Inv-loop μ-loop
-comes-before-requires c κs = let l = c .before in
-    let s = c .before .before .before .before in
+comes-before-requires c κs =
+    let s : tie.Start Inv-loop μ-loop = search in
+    let l : tie.At-loop Inv-loop μ-loop = search in
     let m : suc (l .loop .lo + (l .loop .hi - l .loop .lo) / 2) ≤ s .args .count = omega arith in
     omega (arith, mul-le-mul-right (s .args .width) m)
 
@@ -47,61 +103,46 @@ loop-less : tie.Need-loop-less Inv-loop μ-loop
 loop-less c = search needs
 
 loop-again : tie.Need-loop-again Inv-loop μ-loop
-loop-again c = let l = c .before .before .before in
-    let s = c .before .before .before .before .before .before in
-    let a = s .args in
-    let m : ℕ = l .loop .lo + (l .loop .hi - l .loop .lo) / 2 in
-    let h : m < a .count = omega arith in
-    let es : List (List ℕ) = entries (a .width) (a .count) (a .table .now) in
-    let b : Below (a .key .now) es m true = compared-before (a .key .now) (a .table .now) (a .width) (a .count) m h (s .pre .0 .0) true (c .before .comes-before .result) (c .before .comes-before .ensures) (c .if1 .taken) in (
-      omega arith,
-      (omega arith, (below-falls (a .key .now) es (s .pre .1 .0) m (rw length-entries h) b, l .loop .inv .1 .1 .1)),
-    )
+loop-again c =
+    let asked = c .before in
+    let s = start asked in
+    let h : mid asked < s .args .count = omega arith in
+    let below = below-falls (key s) (es s) (s .pre .1 .0) (mid asked) (rw length-entries h) (compared asked h (c .if1 .taken)) in
+    (omega arith, (omega arith, (below, l asked .loop .inv .1 .1 .1)))
 
 loop-less-2 : tie.Need-loop-less-2 Inv-loop μ-loop
 loop-less-2 c = search needs
 
 loop-again-2 : tie.Need-loop-again-2 Inv-loop μ-loop
-loop-again-2 c = let l = c .before .before .before in
-    let s = c .before .before .before .before .before .before in
-    let a = s .args in
-    let m : ℕ = l .loop .lo + (l .loop .hi - l .loop .lo) / 2 in (
-      omega arith,
-      (
-        omega arith,
-        (l .loop .inv .1 .1 .0, (λ h. compared-before (a .key .now) (a .table .now) (a .width) (a .count) m h (s .pre .0 .0) false (c .before .comes-before .result) (c .before .comes-before .ensures) (c .if1 .left))),
-      ),
-    )
+loop-again-2 c =
+    let asked = c .before in
+    (omega arith, (omega arith, (l asked .loop .inv .1 .1 .0, (λ h. compared asked h (c .if1 .left)))))
 
 mul-run-same : tie.Need-mul-run-same Inv-loop μ-loop
-mul-run-same c = let s = c .before .before .before .before .before in omega (arith, mul-le-mul-right (s .args .width) (c .if2 .taken))
+mul-run-same c = let s : tie.Start Inv-loop μ-loop = search in omega (arith, mul-le-mul-right (s .args .width) (c .if2 .taken))
 
 run-same-requires : tie.Need-run-same-requires Inv-loop μ-loop
-run-same-requires c κs = let s = c .before .before .before .before .before in omega (arith, mul-le-mul-right (s .args .width) (c .if2 .taken))
+run-same-requires c κs =
+    let s : tie.Start Inv-loop μ-loop = search in
+    omega (arith, mul-le-mul-right (s .args .width) (c .if2 .taken))
 
 returns : tie.Need-returns Inv-loop μ-loop
-returns c = let l = c .before .before .before .before in
-    let s = c .before .before .before .before .before .before .before in
-    let a = s .args in
-    let e : l .loop .hi ≡ l .loop .lo = omega arith in
-    let h : l .loop .lo < a .count = omega arith in
-    sym (found-at (a .key .now) (entries (a .width) (a .count) (a .table .now)) (l .loop .lo) (rw length-entries h) (l .loop .inv .1 .1 .0) (rw e at (l .loop .inv .1 .1 .1 (omega arith)))
-    (compared-same (a .key .now) (a .table .now) (a .width) (a .count) (l .loop .lo) h (s .pre .0 .0) true (c .before .run-same .result) (c .before .run-same .ensures) (c .if3 .taken)))
+returns c =
+    let here = c .before in
+    let s = entry here in
+    sym (found-at (key s) (es s) (at here) (rw length-entries (inside here)) (met here .loop .inv .1 .1 .0) (not-below here) (same-here here (c .if3 .taken)))
 
 returns-2 : tie.Need-returns-2 Inv-loop μ-loop
-returns-2 c = let l = c .before .before .before .before in
-    let s = c .before .before .before .before .before .before .before in
-    let a = s .args in
-    let e : l .loop .hi ≡ l .loop .lo = omega arith in
-    let h : l .loop .lo < a .count = omega arith in
-    sym (found-gap (a .key .now) (entries (a .width) (a .count) (a .table .now)) (l .loop .lo) (rw length-entries h) (l .loop .inv .1 .1 .0) (rw e at (l .loop .inv .1 .1 .1 (omega arith)))
-    (compared-same (a .key .now) (a .table .now) (a .width) (a .count) (l .loop .lo) h (s .pre .0 .0) false (c .before .run-same .result) (c .before .run-same .ensures) (c .if3 .left)))
+returns-2 c =
+    let here = c .before in
+    let s = entry here in
+    sym (found-gap (key s) (es s) (at here) (rw length-entries (inside here)) (met here .loop .inv .1 .1 .0) (not-below here) (same-here here (c .if3 .left)))
 
 returns-3 : tie.Need-returns-3 Inv-loop μ-loop
-returns-3 c = let l = c .before .before in
-    let s = c .before .before .before .before .before in
-    let a = s .args in
-    sym (found-end (a .key .now) (entries (a .width) (a .count) (a .table .now)) (l .loop .lo) (rw length-entries (omega arith)) (l .loop .inv .1 .1 .0))
+returns-3 c =
+    let s : tie.Start Inv-loop μ-loop = search in
+    let l : tie.At-loop Inv-loop μ-loop = search in
+    sym (found-end (key s) (es s) (l .loop .lo) (rw length-entries (omega arith)) (l .loop .inv .1 .1 .0))
 
 pub halved-spec : {M : Type 1} → statement M
 halved-spec =

@@ -25,24 +25,32 @@ sub-comes-before : tie.Need-sub-comes-before Inv-loop μ-loop
 sub-comes-before c = search needs
 
 mul-comes-before : tie.Need-mul-comes-before Inv-loop μ-loop
-mul-comes-before c = let w = c .before .before .before .args .width in
+mul-comes-before c =
+    let start : tie.Start Inv-loop μ-loop = search in
+    let w = start .args .width in
     let p : c .before .loop .i - 1 ≤ c .before .loop .i = omega arith in
     omega (arith, mul-le-mul-right w (c .loop-test .taken), mul-le-mul-right w p)
 
 mul-comes-before-2 : tie.Need-mul-comes-before-2 Inv-loop μ-loop
-mul-comes-before-2 c = let w = c .before .before .before .args .width in
+mul-comes-before-2 c =
+    let start : tie.Start Inv-loop μ-loop = search in
+    let w = start .args .width in
     omega (arith, mul-le-mul-right w (c .loop-test .taken))
 
 comes-before-requires : tie.Need-comes-before-requires Inv-loop μ-loop
-comes-before-requires c κs = let w = c .before .before .before .args .width in
+comes-before-requires c κs =
+    let start : tie.Start Inv-loop μ-loop = search in
+    let w = start .args .width in
     let p : c .before .loop .i - 1 ≤ c .before .loop .i = omega arith in
     omega (arith, mul-le-mul-right w (c .loop-test .taken), mul-le-mul-right w p)
 
 returns : tie.Need-returns Inv-loop μ-loop
-returns c = let l = c .before .before .before in
-    let s = c .before .before .before .before .before in
+returns c =
+    let s : tie.Start Inv-loop μ-loop = search in
+    let l : tie.At-loop Inv-loop μ-loop = search in
     let a = s .args in
-    rising-breaks (a .width) (a .count) (a .size) (l .loop .i) (a .table .now) (omega arith) (omega arith) (s .pre .0) (l .loop .inv .1) (c .before .comes-before .result) (c .before .comes-before .ensures) (c .if1 .taken)
+    rising-breaks (a .width) (a .count) (a .size) (l .loop .i) (a .table .now) (omega arith) (omega arith) (s .pre .0) (l .loop .inv .1)
+    (c .before .comes-before .ensures) (c .if1 .taken)
 
 add-i : tie.Need-add-i Inv-loop μ-loop
 add-i c = search needs
@@ -51,18 +59,21 @@ loop-less : tie.Need-loop-less Inv-loop μ-loop
 loop-less c = search needs
 
 loop-again : tie.Need-loop-again Inv-loop μ-loop
-loop-again c = let l = c .before .before .before in
-    let s = c .before .before .before .before .before in
+loop-again c =
+    let s : tie.Start Inv-loop μ-loop = search in
+    let l : tie.At-loop Inv-loop μ-loop = search in
     let a = s .args in
-    let e : l .loop .i + 1 - 1 ≡ l .loop .i = omega arith in (
-      omega arith,
-      rw e
-          (rising-goes-on (a .width) (a .count) (a .size) (l .loop .i) (a .table .now) (omega arith) (omega arith) (s .pre .0) (l .loop .inv .1) (c .before .comes-before .result) (c .before .comes-before .ensures) (c .if1 .left)),
-    )
+    let e : l .loop .i + 1 - 1 ≡ l .loop .i = omega arith in
+    let on =
+    rising-goes-on (a .width) (a .count) (a .size) (l .loop .i) (a .table .now) (omega arith) (omega arith) (s .pre .0) (l .loop .inv .1)
+    (c .before .comes-before .ensures) (c .if1 .left) in
+    (omega arith, rw e on)
 
 returns-2 : tie.Need-returns-2 Inv-loop μ-loop
-returns-2 c = let l = c .before in
-    let a = c .before .before .before .args in
+returns-2 c =
+    let start : tie.Start Inv-loop μ-loop = search in
+    let l : tie.At-loop Inv-loop μ-loop = search in
+    let a = start .args in
     sym (l .loop .inv .1 ∙ rising-end (a .size) (entries (a .width) (a .count) (a .table .now)) (l .loop .i - 1) (rw length-entries (omega arith)))
 
 pub is-rising-spec : {M : Type 1} → statement M

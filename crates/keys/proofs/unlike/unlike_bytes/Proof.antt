@@ -4,9 +4,7 @@ use native.Mathlib.Omega.{arith}
 use Prim.Native.Nat.{_+_, _-_, _≤_}
 use mathlib.Core.Path.{_≡_, refl}
 use lib.ListN.{take, drop}
-use Rattle.fields.specs.Facts.{Bytes}
-use Rattle.fields.proofs.OrderLaws.{equal-next}
-use Rattle.keys.proofs.UnlikeLaws.{differ-decides, alike-decides}
+use Rattle.keys.proofs.UnlikeLaws.{Behind, differ-decides, alike-decides, alike-further}
 use Rattle.keys.proofs.unlike.unlike_bytes.Statement.{statement}
 use Rattle.keys.proofs.unlike.unlike_bytes.Tie as tie
 
@@ -15,6 +13,35 @@ Inv-loop s p t q size i₀ i = (i ≤ size) × (take i (drop p s) ≡ take i (dr
 
 abbrev μ-loop : tie.MeasureT-loop
 μ-loop s p t q size i₀ i = size - i
+
+-- ---- the bytes at i
+
+module _ (c : tie.After-read2 Inv-loop μ-loop) where
+  abbrev a : tie.Start Inv-loop μ-loop
+  a = search
+
+  abbrev l : tie.At-loop Inv-loop μ-loop
+  l = search
+
+  abbrev first : tie.After-read Inv-loop μ-loop
+  first = search
+
+  words : Behind (a .args .s .now) (a .args .t .now) (a .args .p) (a .args .q) (a .args .size) (l .loop .i) 1 (first .read .result) (c .read2 .result)
+  words =
+      let left : tie.After-shared-slice-known Inv-loop μ-loop = search in
+      let right : tie.After-shared-slice-known2 Inv-loop μ-loop = search in
+      record {
+        left-bytes = λ i. omega (arith, left .shared-slice-known .given i);
+        right-bytes = λ i. omega (arith, right .shared-slice-known2 .given i);
+        left-inside = omega arith;
+        right-inside = omega arith;
+        within = omega arith;
+        alike = l .loop .inv .1;
+        left = first .read .ensures .0;
+        right = c .read2 .ensures .0;
+      }
+
+-- ---- the needs
 
 loop-holds : tie.Need-loop-holds Inv-loop μ-loop
 loop-holds c = (omega arith, refl)
@@ -32,14 +59,7 @@ read-requires-2 : tie.Need-read-requires-2 Inv-loop μ-loop
 read-requires-2 c κs = search needs
 
 returns : tie.Need-returns Inv-loop μ-loop
-returns c =
-    let s = c .before .before .before .before .before .before .before in
-    let f : Bytes (s .args .s .now) = λ i. omega (arith, c .before .before .before .before .before .before .shared-slice-known .given i) in
-    let g : Bytes (s .args .t .now) = λ i. omega (arith, c .before .before .before .before .before .shared-slice-known2 .given i) in
-    let l = c .before .before .before .before .loop in
-    let a = c .before .before .read in
-    let b = c .before .read2 in
-    differ-decides (s .args .s .now) (s .args .t .now) f g (s .args .p) (s .args .q) (s .args .size) (l .i) 1 (a .result) (b .result) (omega arith) (omega arith) (omega arith) (l .inv .1) (a .ensures .0) (b .ensures .0) (c .if1 .taken)
+returns c = let here : tie.After-read2 Inv-loop μ-loop = search in differ-decides (words here) (c .if1 .taken)
 
 add-i : tie.Need-add-i Inv-loop μ-loop
 add-i c = search needs
@@ -48,19 +68,13 @@ loop-less : tie.Need-loop-less Inv-loop μ-loop
 loop-less c = search needs
 
 loop-again : tie.Need-loop-again Inv-loop μ-loop
-loop-again c =
-    let s = c .before .before .before .before .before .before .before in
-    let f : Bytes (s .args .s .now) = λ i. omega (arith, c .before .before .before .before .before .before .shared-slice-known .given i) in
-    let g : Bytes (s .args .t .now) = λ i. omega (arith, c .before .before .before .before .before .shared-slice-known2 .given i) in
-    let l = c .before .before .before .before .loop in
-    let a = c .before .before .read in
-    let b = c .before .read2 in
-    (omega arith, equal-next (s .args .s .now) (s .args .t .now) f g (s .args .p) (s .args .q) (s .args .size) (l .i) 1 (a .result) (b .result) (omega arith) (omega arith) (omega arith) (l .inv .1) (a .ensures .0) (b .ensures .0) (c .if1 .left))
+loop-again c = let here : tie.After-read2 Inv-loop μ-loop = search in (omega arith, alike-further (words here) (c .if1 .left))
 
 returns-2 : tie.Need-returns-2 Inv-loop μ-loop
 returns-2 c =
+    let start : tie.Start Inv-loop μ-loop = search in
     let l = c .before .loop in
-    let a = c .before .before .before .before .args in
+    let a = start .args in
     let e : l .i ≡ a .size = omega arith in
     alike-decides (take (a .size) (drop (a .p) (a .s .now))) (take (a .size) (drop (a .q) (a .t .now))) (rw e at (l .inv .1))
 

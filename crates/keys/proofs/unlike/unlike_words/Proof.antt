@@ -5,9 +5,7 @@ use Prim.Native.Nat.{_+_, _-_, _<_}
 use mathlib.Core.Path.{_≡_, refl, sym, ap, _∙_}
 use lib.ListN.{take, drop}
 use lib.Seq.{take-take}
-use Rattle.fields.specs.Facts.{Bytes}
-use Rattle.fields.proofs.OrderLaws.{equal-next}
-use Rattle.keys.proofs.UnlikeLaws.{differ-decides, last-decides}
+use Rattle.keys.proofs.UnlikeLaws.{Behind, differ-decides, last-decides, alike-further}
 use Rattle.keys.proofs.unlike.unlike_words.Statement.{statement}
 use Rattle.keys.proofs.unlike.unlike_words.Tie as tie
 
@@ -16,6 +14,33 @@ Inv-loop s p t q size last i₀ i = (i < last + 8) × (take i (drop p s) ≡ tak
 
 abbrev μ-loop : tie.MeasureT-loop
 μ-loop s p t q size last i₀ i = last + 8 - i
+
+-- ---- the words at i
+
+module _ (c : tie.After-words-at Inv-loop μ-loop) where
+  abbrev a : tie.Start Inv-loop μ-loop
+  a = search
+
+  abbrev l : tie.At-loop Inv-loop μ-loop
+  l = search
+
+  words : Behind (a .args .s .now) (a .args .t .now) (a .args .p) (a .args .q) (a .args .size) (l .loop .i) 8 (c .words-at .result .left)
+      (c .words-at .result .right)
+  words =
+      let left : tie.After-shared-slice-known Inv-loop μ-loop = search in
+      let right : tie.After-shared-slice-known2 Inv-loop μ-loop = search in
+      record {
+        left-bytes = λ i. omega (arith, left .shared-slice-known .given i);
+        right-bytes = λ i. omega (arith, right .shared-slice-known2 .given i);
+        left-inside = omega arith;
+        right-inside = omega arith;
+        within = omega arith;
+        alike = l .loop .inv .1;
+        left = c .words-at .ensures .0;
+        right = c .words-at .ensures .1;
+      }
+
+-- ---- the needs
 
 sub-last : tie.Need-sub-last Inv-loop μ-loop
 sub-last c = search needs
@@ -33,13 +58,7 @@ words-at-requires : tie.Need-words-at-requires Inv-loop μ-loop
 words-at-requires c κs = search needs
 
 returns : tie.Need-returns Inv-loop μ-loop
-returns c =
-    let s = c .before .before .before .before .before .before .before in
-    let f : Bytes (s .args .s .now) = λ i. omega (arith, c .before .before .before .before .before .before .shared-slice-known .given i) in
-    let g : Bytes (s .args .t .now) = λ i. omega (arith, c .before .before .before .before .before .shared-slice-known2 .given i) in
-    let l = c .before .before .before .before .loop in
-    let w = c .before .before .words-at in
-    differ-decides (s .args .s .now) (s .args .t .now) f g (s .args .p) (s .args .q) (s .args .size) (l .i) 8 (w .result .left) (w .result .right) (omega arith) (omega arith) (omega arith) (l .inv .1) (w .ensures .0) (w .ensures .1) (c .if1 .taken)
+returns c = let here : tie.After-words-at Inv-loop μ-loop = search in differ-decides (words here) (c .if1 .taken)
 
 add-i : tie.Need-add-i Inv-loop μ-loop
 add-i c = search needs
@@ -48,13 +67,7 @@ loop-less : tie.Need-loop-less Inv-loop μ-loop
 loop-less c = search needs
 
 loop-again : tie.Need-loop-again Inv-loop μ-loop
-loop-again c =
-    let s = c .before .before .before .before .before .before .before in
-    let f : Bytes (s .args .s .now) = λ i. omega (arith, c .before .before .before .before .before .before .shared-slice-known .given i) in
-    let g : Bytes (s .args .t .now) = λ i. omega (arith, c .before .before .before .before .before .shared-slice-known2 .given i) in
-    let l = c .before .before .before .before .loop in
-    let w = c .before .before .words-at in
-    (omega arith, equal-next (s .args .s .now) (s .args .t .now) f g (s .args .p) (s .args .q) (s .args .size) (l .i) 8 (w .result .left) (w .result .right) (omega arith) (omega arith) (omega arith) (l .inv .1) (w .ensures .0) (w .ensures .1) (c .if1 .left))
+loop-again c = let here : tie.After-words-at Inv-loop μ-loop = search in (omega arith, alike-further (words here) (c .if1 .left))
 
 add-words-at-3 : tie.Need-add-words-at-3 Inv-loop μ-loop
 add-words-at-3 c = search needs
@@ -67,16 +80,28 @@ words-at-requires-2 c κs = search needs
 
 returns-2 : tie.Need-returns-2 Inv-loop μ-loop
 returns-2 c =
-    let s = c .before .before .before .before .before in
-    let f : Bytes (s .args .s .now) = λ i. omega (arith, c .before .before .before .before .shared-slice-known .given i) in
-    let g : Bytes (s .args .t .now) = λ i. omega (arith, c .before .before .before .shared-slice-known2 .given i) in
-    let l = c .before .before .loop in
-    let w = c .words-at2 in
-    let last = s .args .size - 8 in
-    let z : take last (drop (s .args .p) (s .args .s .now)) ≡ take last (drop (s .args .q) (s .args .t .now)) =
-    sym (take-take last (l .i) (drop (s .args .p) (s .args .s .now)) (omega arith)) ∙ ap (take last) (l .inv .1)
-    ∙ take-take last (l .i) (drop (s .args .q) (s .args .t .now)) (omega arith) in
-    last-decides (s .args .s .now) (s .args .t .now) f g (s .args .p) (s .args .q) (s .args .size) last 8 (w .result .left) (w .result .right) (omega arith) (omega arith) (omega arith) z (w .ensures .0) (w .ensures .1) (omega arith)
+    let start : tie.Start Inv-loop μ-loop = search in
+    let left : tie.After-shared-slice-known Inv-loop μ-loop = search in
+    let right : tie.After-shared-slice-known2 Inv-loop μ-loop = search in
+    let l : tie.At-loop Inv-loop μ-loop = search in
+    let a = start .args in
+    let pair = c .words-at2 in
+    let last = a .size - 8 in
+    let alike : take last (drop (a .p) (a .s .now)) ≡ take last (drop (a .q) (a .t .now)) =
+    sym (take-take last (l .loop .i) (drop (a .p) (a .s .now)) (omega arith)) ∙ ap (take last) (l .loop .inv .1)
+    ∙ take-take last (l .loop .i) (drop (a .q) (a .t .now)) (omega arith) in
+    let words : Behind (a .s .now) (a .t .now) (a .p) (a .q) (a .size) last 8 (pair .result .left) (pair .result .right) =
+    record {
+      left-bytes = λ i. omega (arith, left .shared-slice-known .given i);
+      right-bytes = λ i. omega (arith, right .shared-slice-known2 .given i);
+      left-inside = omega arith;
+      right-inside = omega arith;
+      within = omega arith;
+      alike = alike;
+      left = pair .ensures .0;
+      right = pair .ensures .1;
+    } in
+    last-decides words (omega arith)
 
 pub unlike-words-spec : {M : Type 1} → statement M
 unlike-words-spec =

@@ -25,14 +25,17 @@ sub-room : tie.Need-sub-room Inv-loop μ-loop Inv-loop2 μ-loop2
 sub-room c = search needs
 
 add-room : tie.Need-add-room Inv-loop μ-loop Inv-loop2 μ-loop2
-add-room c = omega (arith, mul-le-mul-left (c .before .args .count) (c .before .pre .0 .0), c .before .pre .1 .inside, c .before .pre .0 .1, c .before .fits)
+add-room c =
+    let s = c .before in
+    omega (arith, mul-le-mul-left (s .args .count) (s .pre .0 .0), s .pre .1 .inside, s .pre .0 .1, s .fits)
 
 loop-holds : tie.Need-loop-holds Inv-loop μ-loop Inv-loop2 μ-loop2
-loop-holds c = let s = c .before in
+loop-holds c =
+    let s : tie.Start Inv-loop μ-loop Inv-loop2 μ-loop2 = search in
     let a = s .args in
     let o : a .lo ≤ a .hi = s .pre .1 .order in
     let e : a .hi ≡ a .lo + (a .hi - a .lo + 1 - 1) = omega arith in
-    (omega arith, within-as (wordAt (a .width) (a .table .now)) (a .count) (a .word) (a .lo) (a .hi) (a .lo) (a .lo + (a .hi - a .lo + 1 - 1)) refl e (s .pre .1))
+    (omega arith, within-as refl e (s .pre .1))
 
 past-quarters-requires : tie.Need-past-quarters-requires Inv-loop μ-loop Inv-loop2 μ-loop2
 past-quarters-requires c κs = search needs
@@ -65,10 +68,10 @@ loop2-again : tie.Need-loop2-again Inv-loop μ-loop Inv-loop2 μ-loop2
 loop2-again c = search needs
 
 returns : tie.Need-returns Inv-loop μ-loop Inv-loop2 μ-loop2
-returns c = let l = c .before .loop2 in
-    let a = c .before .before .before .before .before .args in
+returns c =
+    let l = c .before .loop2 in
     let e : l .from + (l .room - 1) ≡ l .from = omega arith in
-    within-as (wordAt (a .width) (a .table .now)) (a .count) (a .word) (l .from) (l .from + (l .room - 1)) (l .from) (l .from) refl e (l .inv .1)
+    within-as refl e (l .inv .1)
 
 pub among-spec : {M : Type 1} → statement M
 among-spec =

@@ -29,10 +29,9 @@ past-requires-6 c κs = search needs
 
 returns : tie.Need-returns
 returns c =
-    let a = c .before .before .before .before .before .before .before .args in
     let r : ℕ = c .past6 .result in
     let z : r + 0 ≡ r = omega arith in
-    within-as (wordAt (a .width) (a .table .now)) (a .count) (a .word) r (r + 0) r r refl z (c .past6 .ensures)
+    within-as refl z (c .past6 .ensures)
 
 pub among-63-spec : {M : Type 1} → statement M
 among-63-spec =

@@ -27,15 +27,13 @@ add-result c = search needs
 
 returns : tie.Need-returns
 returns c =
-    let s = c .before .before .before in
-    let a = s .args in
-    past-less (wordAt (a .width) (a .table .now)) (a .count) (a .word) (a .from) (a .room) (a .size) (s .pre .1) (s .pre .0 .1 .1 .0) (s .pre .0 .1 .1 .1) (c .before .less .result) (c .before .less .ensures) (c .if1 .taken)
+    let s : tie.Start = search in
+    past-less (s .args .room) (s .args .size) (s .pre .1) (s .pre .0 .1 .1 .0) (s .pre .0 .1 .1 .1) (c .before .less .ensures) (c .if1 .taken)
 
 returns-2 : tie.Need-returns-2
 returns-2 c =
-    let s = c .before .before .before in
-    let a = s .args in
-    past-not (wordAt (a .width) (a .table .now)) (a .count) (a .word) (a .from) (a .room) (a .size) (s .pre .1) (s .pre .0 .1 .1 .0) (s .pre .0 .1 .1 .1) (c .before .less .result) (c .before .less .ensures) (c .if1 .left)
+    let s : tie.Start = search in
+    past-not (s .args .room) (s .args .size) (s .pre .1) (s .pre .0 .1 .1 .0) (s .pre .0 .1 .1 .1) (c .before .less .ensures) (c .if1 .left)
 
 pub past-spec : {M : Type 1} → statement M
 past-spec = tie.close (tie.spec add-less sub-less less-requires add-result returns returns-2)

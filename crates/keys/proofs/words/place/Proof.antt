@@ -26,16 +26,18 @@ guess-requires : tie.Need-guess-requires
 guess-requires c κs = search needs
 
 less-requires : tie.Need-less-requires
-less-requires c κs = let s = c .before .before .before .before in
+less-requires c κs =
+    let s : tie.Start = search in
     let m : suc (c .guess .result) ≤ s .args .count = omega arith in
     omega (arith, mul-le-mul-right (s .args .width) m)
 
 among-requires-3 : tie.Need-among-requires-3
-among-requires-3 c κs = let s = c .before .before .before .before .before .before in
-    let a = s .args in
-    let i : ℕ = c .before .before .guess .result in
-    let h : i < a .count = omega arith in
-    (s .pre .0, below-probe (wordAt (a .width) (a .table .now)) (a .count) (a .word) i (s .pre .1) h (c .before .less .result) (c .before .less .ensures) (not-true (c .before .less .result) (c .if3 .taken)))
+among-requires-3 c κs =
+    let s : tie.Start = search in
+    let g : tie.After-guess = search in
+    let less = c .before .less in
+    let h : g .guess .result < s .args .count = omega arith in
+    (s .pre .0, below-probe (s .pre .1) (g .guess .result) h (less .ensures) (not-true (less .result) (c .if3 .taken)))
 
 returns-3 : tie.Need-returns-3
 returns-3 c = search needs
@@ -44,23 +46,23 @@ add-less : tie.Need-add-less
 add-less c = search needs
 
 less-requires-2 : tie.Need-less-requires-2
-less-requires-2 c κs = let s = c .before .before .before .before .before .before in
-    let m : suc (c .before .before .guess .result + 64) ≤ s .args .count = omega arith in
+less-requires-2 c κs =
+    let s : tie.Start = search in
+    let g : tie.After-guess = search in
+    let m : suc (g .guess .result + 64) ≤ s .args .count = omega arith in
     omega (arith, mul-le-mul-right (s .args .width) m)
 
 add-among : tie.Need-add-among
 add-among c = search needs
 
 among-requires-4 : tie.Need-among-requires-4
-among-requires-4 c κs = let s = c .before .before .before .before .before .before .before .before in
-    let a = s .args in
-    let i : ℕ = c .before .before .before .before .guess .result + 64 in
-    let h : i < a .count = omega arith in
-    let e : i + 1 ≡ c .before .before .before .before .guess .result + 65 = omega arith in (
-      s .pre .0,
-      within-as (wordAt (a .width) (a .table .now)) (a .count) (a .word) (i + 1) (a .count) (c .before .before .before .before .guess .result + 65) (a .count) e refl
-          (above-probe (wordAt (a .width) (a .table .now)) (a .count) (a .word) i (s .pre .1) h (c .before .less2 .result) (c .before .less2 .ensures) (c .if4 .taken)),
-    )
+among-requires-4 c κs =
+    let s : tie.Start = search in
+    let g : tie.After-guess = search in
+    let i : ℕ = g .guess .result + 64 in
+    let h : i < s .args .count = omega arith in
+    let e : i + 1 ≡ g .guess .result + 65 = omega arith in
+    (s .pre .0, within-as e refl (above-probe (s .pre .1) i h (c .before .less2 .ensures) (c .if4 .taken)))
 
 returns-4 : tie.Need-returns-4
 returns-4 c = search needs
@@ -69,19 +71,20 @@ add-among-63 : tie.Need-add-among-63
 add-among-63 c = search needs
 
 among-63-requires : tie.Need-among-63-requires
-among-63-requires c κs = let s = c .before .before .before .before .before .before .before .before in
-    let a = s .args in
-    let i : ℕ = c .before .before .before .before .guess .result in
-    let h : i < a .count = omega arith in
-    let k : i + 64 < a .count = omega arith in
+among-63-requires c κs =
+    let s : tie.Start = search in
+    let g : tie.After-guess = search in
+    let first : tie.After-less = search in
+    let past : tie.Else3 = search in
+    let less = first .less in
+    let i : ℕ = g .guess .result in
+    let h : i < s .args .count = omega arith in
+    let k : i + 64 < s .args .count = omega arith in
     let o : i + 1 ≤ i + 64 = omega arith in
-    let e : i + 64 ≡ i + 1 + 63 = omega arith in (
-      s .pre .0,
-      within-as (wordAt (a .width) (a .table .now)) (a .count) (a .word) (i + 1) (i + 64) (i + 1) (i + 1 + 63) refl e
-          (between (wordAt (a .width) (a .table .now)) (a .count) (a .word) (i + 1) (i + 64) o
-          (above-probe (wordAt (a .width) (a .table .now)) (a .count) (a .word) i (s .pre .1) h (c .before .before .before .less .result) (c .before .before .before .less .ensures) (not-false (c .before .before .before .less .result) (c .before .before .if3 .left)))
-          (below-probe (wordAt (a .width) (a .table .now)) (a .count) (a .word) (i + 64) (s .pre .1) k (c .before .less2 .result) (c .before .less2 .ensures) (c .if4 .left))),
-    )
+    let e : i + 64 ≡ i + 1 + 63 = omega arith in
+    let above = above-probe (s .pre .1) i h (less .ensures) (not-false (less .result) (past .if3 .left)) in
+    let below = below-probe (s .pre .1) (i + 64) k (c .before .less2 .ensures) (c .if4 .left) in
+    (s .pre .0, within-as refl e (between o above below))
 
 returns-5 : tie.Need-returns-5
 returns-5 c = search needs

@@ -13,13 +13,22 @@ Inv-loop table width offset places ids₀ i₀ ids i = Gathering width offset ta
 abbrev μ-loop : tie.MeasureT-loop
 μ-loop table width offset places ids₀ i₀ ids i = length places - i
 
--- where the id of this turn ends
-id-end : (c : tie.After-wide Inv-loop μ-loop) → let a = c .before .before .before .before .before .before .before .args in c .wide .result * a .width + a .offset + 32 ≤ length (a .table .now)
-id-end c = let s = c .before .before .before .before .before .before .before in
-    id-ends (s .args .width) (s .args .offset) (s .args .table .now) (s .pre .1 .0) (s .args .places .now) (c .before .before .before .loop .i) (c .wide .result) (s .pre .0) (c .before .before .loop-test .taken) (c .wide .ensures)
+module _ (c : tie.After-wide Inv-loop μ-loop) where
+  abbrev s : tie.Start Inv-loop μ-loop
+  s = search
+
+  -- where the id of this turn ends
+  id-end : c .wide .result * s .args .width + s .args .offset + 32 ≤ length (s .args .table .now)
+  id-end =
+      let l : tie.At-loop Inv-loop μ-loop = search in
+      let turn : tie.In-loop Inv-loop μ-loop = search in
+      id-ends (s .args .width) (s .args .offset) (s .args .table .now) (s .pre .1 .0) (s .args .places .now) (l .loop .i) (c .wide .result) (s .pre .0)
+      (turn .loop-test .taken) (c .wide .ensures)
 
 loop-holds : tie.Need-loop-holds Inv-loop μ-loop
-loop-holds c = let a = c .before .before .before .args in gather-starts (a .width) (a .offset) (a .table .now) (a .places .now) (a .ids .now)
+loop-holds c =
+    let s : tie.Start Inv-loop μ-loop = search in
+    gather-starts (s .args .width) (s .args .offset) (s .args .table .now) (s .args .places .now) (s .args .ids .now)
 
 mul-wide : tie.Need-mul-wide Inv-loop μ-loop
 mul-wide c = search needs
@@ -40,7 +49,11 @@ mul-put-id : tie.Need-mul-put-id Inv-loop μ-loop
 mul-put-id c = search needs
 
 put-id-requires : tie.Need-put-id-requires Inv-loop μ-loop
-put-id-requires c κs = let s = c .before .before .before .before .before .before .before .before in let l = c .before .before .before .before .loop in (omega (arith, id-end (c .before)), omega (arith, l .inv .long, c .before .before .before .loop-test .taken, s .pre .1 .1))
+put-id-requires c κs =
+    let s : tie.Start Inv-loop μ-loop = search in
+    let l : tie.At-loop Inv-loop μ-loop = search in
+    let turn : tie.In-loop Inv-loop μ-loop = search in
+    (omega (arith, id-end (c .before)), omega (arith, l .loop .inv .long, turn .loop-test .taken, s .pre .1 .1))
 
 add-i : tie.Need-add-i Inv-loop μ-loop
 add-i c = search needs
@@ -49,18 +62,19 @@ loop-less : tie.Need-loop-less Inv-loop μ-loop
 loop-less c = search needs
 
 loop-again : tie.Need-loop-again Inv-loop μ-loop
-loop-again c = let s = c .before .before .before .before .before .before .before .before .before .before .before in
-    let a = s .args in
-    let l = c .before .before .before .before .before .before .before .loop in
-    let w = c .before .before .before .before .wide in
-    gather-turn (a .width) (a .offset) (a .table .now) (s .pre .1 .0) (a .places .now) (a .ids .now) (l .ids) (l .i) (l .inv) (s .pre .0) (s .pre .1 .1) (c .before .before .before .before .before .before .loop-test .taken) (w .result) (w .ensures) (c .before .before .put-id .last .1 .1 .0) (c .before .before .put-id .ensures)
+loop-again c =
+    let s : tie.Start Inv-loop μ-loop = search in
+    let l : tie.At-loop Inv-loop μ-loop = search in
+    let turn : tie.In-loop Inv-loop μ-loop = search in
+    let place : tie.After-wide Inv-loop μ-loop = search in
+    let put : tie.After-put-id Inv-loop μ-loop = search in
+    gather-turn (l .loop .inv) (s .pre .1 .0) (s .pre .0) (s .pre .1 .1) (turn .loop-test .taken) (place .wide .ensures) (put .put-id .ensures)
 
 same-length : tie.Need-same-length Inv-loop μ-loop
 same-length c = c .before .loop .inv .long
 
 returns : tie.Need-returns Inv-loop μ-loop
-returns c = let s = c .before .before .before .before .before in let l = c .before .loop in
-    gather-ends (s .args .width) (s .args .offset) (s .args .table .now) (s .pre .1 .0) (s .args .places .now) (s .args .ids .now) (l .ids) (l .i) (l .inv) (s .pre .0) (s .pre .1 .1) (c .loop-test .left)
+returns c = gather-ends (c .before .loop .inv) (c .loop-test .left)
 
 pub gather-spec : {M : Type 1} → statement M
 gather-spec =

@@ -1,9 +1,38 @@
 -- Four words, all read before the first is written: `id-copied`.
 use borrow.Author.Needs.{needs}
 use native.Mathlib.Omega.{arith}
-use Rattle.order.proofs.GatheredLaws.{id-copied}
+use Rattle.order.proofs.GatheredLaws.{Read, id-copied}
 use Rattle.order.proofs.gathering.put_id.Statement.{statement}
 use Rattle.order.proofs.gathering.put_id.Tie as tie
+
+-- ---- the words read
+
+module _ (c : tie.After-read-u644) where
+  abbrev start : tie.Start
+  start = search
+
+  abbrev first : tie.After-read-u64
+  first = search
+
+  abbrev second : tie.After-read-u642
+  second = search
+
+  abbrev third : tie.After-read-u643
+  third = search
+
+  read : Read (start .args .table .now) (start .args .from) (first .read-u64 .result) (second .read-u642 .result) (third .read-u643 .result) (c .read-u644 .result)
+  read =
+      let known : tie.After-shared-slice-known = search in
+      record {
+        bytes = λ i. omega (arith, known .shared-slice-known .given i);
+        within = start .pre .0;
+        first = first .read-u64 .ensures;
+        second = second .read-u642 .ensures;
+        third = third .read-u643 .ensures;
+        fourth = c .read-u644 .ensures;
+      }
+
+-- ---- the needs
 
 read-u64-requires : tie.Need-read-u64-requires
 read-u64-requires c κs = search needs
@@ -51,17 +80,15 @@ same-length : tie.Need-same-length
 same-length c = search needs
 
 returns : tie.Need-returns
-returns c = let s = c .before .before .before .before .before .before .before .before .before .before .before .before .before .before .before .before .before .before .before .before .before .before in
-    let a = c .before .before .before .before .before .before .before .before .before .before .before .before .before .before .before .before .before .before .before .read-u64 in
-    let b = c .before .before .before .before .before .before .before .before .before .before .before .before .before .before .before .before .before .before .read-u642 in
-    let d = c .before .before .before .before .before .before .before .before .before .before .before .before .before .before .before .before .before .read-u643 in
-    let e = c .before .before .before .before .before .before .before .before .before .before .before .before .before .before .before .before .read-u644 in
-    let t = c .before .before .before .before .before .before .before .before .before .before .before .before .before .before .write-u64 in
-    let u = c .before .before .before .before .before .before .before .before .before .before .write-u642 in
-    let v = c .before .before .before .before .before .before .write-u643 in
-    let w = c .before .before .write-u644 in
-    id-copied (s .args .table .now) (s .args .ids .now) (s .args .from) (s .args .to) (λ i. omega (arith, c .before .before .before .before .before .before .before .before .before .before .before .before .before .before .before .before .before .before .before .before .before .shared-slice-known .given i)) (s .pre .0) (s .pre .1)
-    (a .result) (b .result) (d .result) (e .result) (t .last .0) (u .last .0) (v .last .0) (w .last .0) (a .ensures) (b .ensures) (d .ensures) (e .ensures) (t .ensures) (u .ensures) (v .ensures) (w .ensures)
+returns c =
+    let words : tie.After-read-u644 = search in
+    let one : tie.After-write-u64 = search in
+    let two : tie.After-write-u642 = search in
+    let three : tie.After-write-u643 = search in
+    let four : tie.After-write-u644 = search in
+    let s = start words in
+    id-copied (read words) (s .args .ids .now) (s .args .to) (s .pre .1)
+    (one .write-u64 .ensures) (two .write-u642 .ensures) (three .write-u643 .ensures) (four .write-u644 .ensures)
 
 pub put-id-spec : {M : Type 1} → statement M
 put-id-spec =

@@ -41,16 +41,19 @@ loop-less c = search needs
 
 loop-again : tie.Need-loop-again Inv-loop μ-loop
 loop-again c =
-    let l = c .before .before .loop in
+    let start : tie.Start Inv-loop μ-loop = search in
+    let head : tie.At-loop Inv-loop μ-loop = search in
+    let l = head .loop in
     let read = c .read-u64 in
-    let turn = read-next (l .i) (read .result) (l .peers) (c .before .before .before .before .args .places .now) (omega arith) (l .inv .1 .1) (read .ensures) in
+    let turn = read-next (l .i) (read .result) (l .peers) (start .args .places .now) (omega arith) (l .inv .1 .1) (read .ensures) in
     (simp length-set (l .inv .0), (omega arith, turn))
 
 returns : tie.Need-returns Inv-loop μ-loop
 unfolding stalledPeers
 returns c =
+    let start : tie.Start Inv-loop μ-loop = search in
     let l = c .before .loop in
-    let e : l .i ≡ c .before .before .before .args .count = omega arith in
+    let e : l .i ≡ start .args .count = omega arith in
     (rw e at (l .inv .1 .1), refl)
 
 pub read-stalled-spec : {M : Type 1} → statement M

@@ -22,9 +22,9 @@ fill-zero-requires c κs = search needs
 
 loop-holds : tie.Need-loop-holds Inv-loop μ-loop
 loop-holds c =
-    let start = c .before .before .before .before .before .before in
-    let zeroed = c .before .before .before .fill-zero in
-    (omega arith, (omega arith, (zeroed .kept .0 ∙ start .pre .0, written-none (zeroed .last .0) (start .args .stalled .peers))))
+    let start : tie.Start Inv-loop μ-loop = search in
+    let zeroed : tie.After-fill-zero Inv-loop μ-loop = search in
+    (omega arith, (omega arith, (zeroed .fill-zero .kept .0 ∙ start .pre .0, written-none (zeroed .fill-zero .last .0) (start .args .stalled .peers))))
 
 mul-write-u64 : tie.Need-mul-write-u64 Inv-loop μ-loop
 mul-write-u64 c = search needs
@@ -37,9 +37,11 @@ array-read-write-u64 c = search needs
 
 write-u64-requires : tie.Need-write-u64-requires Inv-loop μ-loop
 write-u64-requires c κs =
-    let l = c .before .before .loop in
-    let zeroed = c .before .before .before .before .before .before .fill-zero in
-    omega (arith, ap length (l .inv .1 .1 .1), length-written (zeroed .last .0) (l .i) (c .before .before .before .before .before .before .before .before .before .args .stalled .peers) (omega arith))
+    let start : tie.Start Inv-loop μ-loop = search in
+    let zeroed : tie.After-fill-zero Inv-loop μ-loop = search in
+    let head : tie.At-loop Inv-loop μ-loop = search in
+    let l = head .loop in
+    omega (arith, ap length (l .inv .1 .1 .1), length-written (zeroed .fill-zero .last .0) (l .i) (start .args .stalled .peers) (omega arith))
 
 add-i : tie.Need-add-i Inv-loop μ-loop
 add-i c = search needs
@@ -49,31 +51,34 @@ loop-less c = search needs
 
 loop-again : tie.Need-loop-again Inv-loop μ-loop
 loop-again c =
-    let l = c .before .before .before .before .before .loop in
-    let zeroed = c .before .before .before .before .before .before .before .before .before .fill-zero in
-    let peers = c .before .before .before .before .before .before .before .before .before .before .before .before .args .stalled .peers in
+    let start : tie.Start Inv-loop μ-loop = search in
+    let zeroed : tie.After-fill-zero Inv-loop μ-loop = search in
+    let head : tie.At-loop Inv-loop μ-loop = search in
+    let put : tie.After-write-u64 Inv-loop μ-loop = search in
+    let l = head .loop in
+    let peers = start .args .stalled .peers in
     let turn =
-    c .before .before .write-u64 .ensures
+    put .write-u64 .ensures
     ∙ ap (overwritten (l .i * 8) (toBe 8 (getD peers (l .i) 0))) (l .inv .1 .1 .1)
-    ∙ written-next (zeroed .last .0) (l .i) peers (omega arith) in
+    ∙ written-next (zeroed .fill-zero .last .0) (l .i) peers (omega arith) in
     (l .inv .0, (omega arith, (l .inv .1 .1 .0, turn)))
 
 same-length : tie.Need-same-length Inv-loop μ-loop
 same-length c =
+    let start : tie.Start Inv-loop μ-loop = search in
+    let zeroed : tie.After-fill-zero Inv-loop μ-loop = search in
     let l = c .before .loop in
-    let zeroed = c .before .before .before .before .before .fill-zero in
-    let start = c .before .before .before .before .before .before .before .before in
-    omega (arith, ap length (l .inv .1 .1 .1), length-written (zeroed .last .0) (l .i) (start .args .stalled .peers) (omega arith), start .pre .0)
+    omega (arith, ap length (l .inv .1 .1 .1), length-written (zeroed .fill-zero .last .0) (l .i) (start .args .stalled .peers) (omega arith), start .pre .0)
 
 returns : tie.Need-returns Inv-loop μ-loop
 unfolding stalledPeers
 returns c =
+    let start : tie.Start Inv-loop μ-loop = search in
+    let zeroed : tie.After-fill-zero Inv-loop μ-loop = search in
     let l = c .before .loop in
-    let zeroed = c .before .before .before .before .before .fill-zero in
-    let start = c .before .before .before .before .before .before .before .before in
     let s = start .args .stalled in
     let e : l .i ≡ s .count = omega arith in
-    rw (start .pre .0, e) at (l .inv .1 .1 .1 ∙ written-all (zeroed .last .0) (l .i) (s .peers) (length (start .args .places .now)) (zeroed .ensures))
+    rw (start .pre .0, e) at (l .inv .1 .1 .1 ∙ written-all (zeroed .fill-zero .last .0) (l .i) (s .peers) (length (start .args .places .now)) (zeroed .fill-zero .ensures))
 
 pub write-stalled-spec : {M : Type 1} → statement M
 write-stalled-spec =

@@ -13,7 +13,9 @@ pairs-fit-requires : tie.Need-pairs-fit-requires
 pairs-fit-requires c κs = search needs
 
 returns : tie.Need-returns
-returns c = rw (c .pairs-fit .ensures, c .before .continuation-fits .ensures, c .before .before .ids-fit .ensures)
+returns c =
+    let ids-fit : tie.After-ids-fit = search in
+    rw (c .pairs-fit .ensures, c .before .continuation-fits .ensures, ids-fit .ids-fit .ensures)
 
 pub lists-fit-spec : {M : Type 1} → statement M
 lists-fit-spec =

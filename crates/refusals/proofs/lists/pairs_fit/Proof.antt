@@ -15,7 +15,8 @@ list-fits-requires c κs = search needs
 returns : tie.Need-returns
 unfolding pairsFit
 returns c =
-    let bad : listFits pairSize listLimit (c .before .before .before .args .stored .now) ≡ false = sym (c .before .list-fits .ensures) ∙ not-true _ (c .if1 .taken) in
+    let s : tie.Start = search in
+    let bad : listFits pairSize listLimit (s .args .stored .now) ≡ false = sym (c .before .list-fits .ensures) ∙ not-true _ (c .if1 .taken) in
     rw bad
 
 is-rising-requires : tie.Need-is-rising-requires
@@ -24,7 +25,9 @@ is-rising-requires c κs = search needs
 returns-2 : tie.Need-returns-2
 unfolding pairsFit
 returns-2 c =
-    let good : listFits pairSize listLimit (c .before .before .before .before .args .stored .now) ≡ true = sym (c .before .before .list-fits .ensures) ∙ not-false _ (c .before .if1 .left) in
+    let s : tie.Start = search in
+    let list : tie.After-list-fits = search in
+    let good : listFits pairSize listLimit (s .args .stored .now) ≡ true = sym (list .list-fits .ensures) ∙ not-false _ (c .before .if1 .left) in
     rw (c .is-rising .ensures, good)
 
 pub pairs-fit-spec : {M : Type 1} → statement M

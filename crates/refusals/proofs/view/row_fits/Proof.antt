@@ -16,9 +16,8 @@ used-places-requires c κs = search needs
 
 returns : tie.Need-returns
 returns c =
-    let s = c .before .before .before .before .args in
-    let used = c .before .used-places in
-    row-refused (s .i) (s .rows .now) (used .result) (used .ensures) (omega arith)
+    let s : tie.Start = search in
+    row-refused (s .args .i) (s .args .rows .now) (c .before .used-places .ensures) (omega arith)
 
 add-flags : tie.Need-add-flags
 add-flags c = search needs
@@ -64,9 +63,9 @@ is-zero-requires c κs = search needs
 
 returns-2 : tie.Need-returns-2
 returns-2 c =
-    let s = c .before .before .before .before .before .before .before .before .before .args in
-    let used = c .before .before .before .before .before .before .used-places in
-    row-read (s .i) (s .rows .now) (used .result) (used .ensures) (c .is-zero .result) (omega arith) (c .is-zero .ensures)
+    let s : tie.Start = search in
+    let used : tie.After-used-places = search in
+    row-read (s .args .i) (s .args .rows .now) (used .used-places .ensures) (omega arith) (c .is-zero .ensures)
 
 pub row-fits-spec : {M : Type 1} → statement M
 row-fits-spec =

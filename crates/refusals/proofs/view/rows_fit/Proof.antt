@@ -24,10 +24,10 @@ row-fits-requires c κs = search needs
 
 returns : tie.Need-returns Inv-loop μ-loop
 returns c =
-    let l = c .before .before .before .loop in
-    let s = c .before .before .before .before .before .args in
-    let row = c .before .row-fits in
-    rows-break (s .count) (l .i) (s .rows .now) (c .before .before .loop-test .taken) (row .result) (row .ensures) (l .inv) (c .if1 .taken)
+    let s : tie.Start Inv-loop μ-loop = search in
+    let l : tie.At-loop Inv-loop μ-loop = search in
+    let turn : tie.In-loop Inv-loop μ-loop = search in
+    rows-break (s .args .count) (l .loop .i) (s .args .rows .now) (turn .loop-test .taken) (c .before .row-fits .ensures) (l .loop .inv) (c .if1 .taken)
 
 add-i : tie.Need-add-i Inv-loop μ-loop
 add-i c = search needs
@@ -37,15 +37,16 @@ loop-less c = search needs
 
 loop-again : tie.Need-loop-again Inv-loop μ-loop
 loop-again c =
-    let l = c .before .before .before .loop in
-    let s = c .before .before .before .before .before .args in
-    let row = c .before .row-fits in
-    rows-go-on (s .count) (l .i) (s .rows .now) (c .before .before .loop-test .taken) (row .result) (row .ensures) (l .inv) (c .if1 .left)
+    let s : tie.Start Inv-loop μ-loop = search in
+    let l : tie.At-loop Inv-loop μ-loop = search in
+    let turn : tie.In-loop Inv-loop μ-loop = search in
+    rows-go-on (s .args .count) (l .loop .i) (s .args .rows .now) (turn .loop-test .taken) (c .before .row-fits .ensures) (l .loop .inv) (c .if1 .left)
 
 returns-2 : tie.Need-returns-2 Inv-loop μ-loop
 returns-2 c =
+    let start : tie.Start Inv-loop μ-loop = search in
     let l = c .before .loop in
-    let s = c .before .before .before .args in
+    let s = start .args in
     sym (l .inv ∙ rows-end (s .count) (l .i) (s .rows .now) (c .loop-test .left))
 
 pub rows-fit-spec : {M : Type 1} → statement M

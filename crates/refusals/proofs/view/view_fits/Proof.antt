@@ -7,7 +7,7 @@ use Rattle.refusals.proofs.view.view_fits.Statement.{statement}
 use Rattle.refusals.proofs.view.view_fits.Tie as tie
 
 returns : tie.Need-returns
-returns c = view-short (c .before .before .args .view .now) (c .if1 .taken)
+returns c = let start : tie.Start = search in view-short (start .args .view .now) (c .if1 .taken)
 
 sub-size : tie.Need-sub-size
 sub-size c = search needs
@@ -24,8 +24,9 @@ add-sizes c = search needs
 returns-2 : tie.Need-returns-2
 unfolding firstHeight
 returns-2 c =
-    let first = c .before .read-u32 in
-    view-refused (c .before .before .before .before .args .view .now) (first .result) (c .before .before .if1 .left) (first .ensures) (not-true _ (c .if2 .taken))
+    let s : tie.Start = search in
+    let long : tie.Else1 = search in
+    view-refused (s .args .view .now) (long .if1 .left) (c .before .read-u32 .ensures) (not-true _ (c .if2 .taken))
 
 sub-rows-fit : tie.Need-sub-rows-fit
 sub-rows-fit c = search needs
@@ -42,8 +43,11 @@ rows-fit-requires c κs = search needs
 returns-3 : tie.Need-returns-3
 unfolding firstHeight
 returns-3 c =
-    let first = c .before .before .before .read-u32 in
-    view-rows (c .before .before .before .before .before .before .args .view .now) (first .result) (c .before .before .before .before .if1 .left) (first .ensures) (c .rows-fit .result) (not-false _ (c .before .before .if2 .left)) (c .rows-fit .ensures)
+    let s : tie.Start = search in
+    let long : tie.Else1 = search in
+    let first : tie.After-read-u32 = search in
+    let past : tie.Else2 = search in
+    view-rows (s .args .view .now) (long .if1 .left) (first .read-u32 .ensures) (not-false _ (past .if2 .left)) (c .rows-fit .ensures)
 
 pub view-fits-spec : {M : Type 1} → statement M
 view-fits-spec =

@@ -28,8 +28,10 @@ array-read-if1 c = search needs
 returns : tie.Need-returns Inv-loop μ-loop
 unfolding stalledPeers
 returns c =
-    let l = c .before .before .loop in
-    let s = c .before .before .before .before .args in
+    let start : tie.Start Inv-loop μ-loop = search in
+    let head : tie.At-loop Inv-loop μ-loop = search in
+    let l = head .loop in
+    let s = start .args in
     sym (listed-here (s .self .peers) (s .self .count) (l .i) (s .peer) (c .before .loop-test .taken) (c .if1 .taken)) ∙ l .inv .1
 
 add-i : tie.Need-add-i Inv-loop μ-loop
@@ -40,15 +42,18 @@ loop-less c = search needs
 
 loop-again : tie.Need-loop-again Inv-loop μ-loop
 loop-again c =
-    let l = c .before .before .loop in
-    let s = c .before .before .before .before .args in
+    let start : tie.Start Inv-loop μ-loop = search in
+    let head : tie.At-loop Inv-loop μ-loop = search in
+    let l = head .loop in
+    let s = start .args in
     (search needs, sym (listed-later (s .self .peers) (s .self .count) (l .i) (s .peer) (c .before .loop-test .taken) (c .if1 .left)) ∙ l .inv .1)
 
 returns-2 : tie.Need-returns-2 Inv-loop μ-loop
 unfolding stalledPeers
 returns-2 c =
+    let start : tie.Start Inv-loop μ-loop = search in
     let l = c .before .loop in
-    let s = c .before .before .before .args in
+    let s = start .args in
     sym (listed-nowhere (s .self .peers) (s .self .count) (l .i) (s .peer) (c .loop-test .left)) ∙ l .inv .1
 
 pub contains-spec : {M : Type 1} → statement M

@@ -21,7 +21,7 @@ add-t5 c = search needs
 returns : tie.Need-returns
 unfolding stalledPeers
 returns c =
-    let start = c .before .before in
+    let start : tie.Start = search in
     let peer = start .args .peer in
     let s = start .args .self in
     let l : length (s .peers) ≡ 256 = sym (length-map (s .peers) (λ (v : ℕ). v)) ∙ start .good .0 .1 .1 .0 .1 .0 .1 in
