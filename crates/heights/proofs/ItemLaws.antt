@@ -37,19 +37,22 @@ module _ (bytes : List ℕ) (b : Bytes bytes) (fits : viewFits bytes ≡ true) (
   pub items-well : (n height : ℕ) → All WellRequested (windowWithin n (viewOf bytes) peer height .items)
   items-well n height =
       let items : List Item = windowWithin n (viewOf bytes) peer height .items in
-      let w : All WellPairBytes (map itemPair items) = rw (window-pairs n (viewOf bytes) peer height) (pairs-well n (viewOf bytes) height (view-well bytes b fits)) in
+      let w : All WellPairBytes (map itemPair items) =
+      rw (window-pairs n (viewOf bytes) peer height) (pairs-well n (viewOf bytes) height (view-well bytes b fits)) in
       all-weaker (λ (i : Item). WellPairBytes (itemPair i)) WellRequested item-well items (map-all WellPairBytes itemPair items w)
 
   pub items-most : (chain downloaded : ℕ) → length (windowWithin (min (downloaded + windowSize) chain - downloaded) (viewOf bytes) peer downloaded .items) ≤ 576
   items-most chain downloaded = window-most (viewOf bytes) chain downloaded peer (view-well bytes b fits)
 
   pub pairs-read-back : (n height : ℕ) (pairs : List ℕ)
-      → entries pairSize (length (windowWithin n (viewOf bytes) peer height .items)) (overwritten 0 (joined (map itemPair (windowWithin n (viewOf bytes) peer height .items))) pairs)
+      → entries pairSize (length (windowWithin n (viewOf bytes) peer height .items))
+      (overwritten 0 (joined (map itemPair (windowWithin n (viewOf bytes) peer height .items))) pairs)
       ≡ map itemPair (windowWithin n (viewOf bytes) peer height .items)
   unfolding overwritten
   pairs-read-back n height pairs =
       let items : List Item = windowWithin n (viewOf bytes) peer height .items in
-      let w : Wide pairSize (map itemPair items) = rw (window-pairs n (viewOf bytes) peer height) (pairs-wide n (viewOf bytes) height (view-well bytes b fits)) in
+      let w : Wide pairSize (map itemPair items) =
+      rw (window-pairs n (viewOf bytes) peer height) (pairs-wide n (viewOf bytes) height (view-well bytes b fits)) in
       rw (length-map items itemPair) at (entries-joined pairSize (map itemPair items) (drop (0 + length (joined (map itemPair items))) pairs) w)
 
 -- ---- all are asked of one peer
@@ -58,14 +61,17 @@ missing-peer : (peer : ℕ) (sections : List Section) → All (λ (i : Item). i 
 missing-peer peer [] = tt
 missing-peer peer (s ∷ sections) = go (not (s .isStored)) (missing-peer peer sections)
   where
-    go : (t : Bool) → All (λ (i : Item). i .peer ≡ peer) (missing peer sections) → All (λ (i : Item). i .peer ≡ peer) (consIf t (record { id = s .id; typeId = s .typeId; peer = peer }) (missing peer sections))
+    go : (t : Bool) → All (λ (i : Item). i .peer ≡ peer) (missing peer sections)
+        → All (λ (i : Item). i .peer ≡ peer) (consIf t (record { id = s .id; typeId = s .typeId; peer = peer }) (missing peer sections))
     go true p = (refl, p)
     go false p = p
 
-widen-peer : (header : Option Header) (peer : ℕ) (further : Window) → All (λ (i : Item). i .peer ≡ peer) (further .items) → All (λ (i : Item). i .peer ≡ peer) (widen header peer further .items)
+widen-peer : (header : Option Header) (peer : ℕ) (further : Window) → All (λ (i : Item). i .peer ≡ peer) (further .items)
+    → All (λ (i : Item). i .peer ≡ peer) (widen header peer further .items)
 widen-peer none peer further p = tt
 widen-peer (some absent) peer further p = tt
-widen-peer (some (present sections)) peer further p = all-append (λ (i : Item). i .peer ≡ peer) (missing peer sections) (further .items) (missing-peer peer sections) p
+widen-peer (some (present sections)) peer further p =
+    all-append (λ (i : Item). i .peer ≡ peer) (missing peer sections) (further .items) (missing-peer peer sections) p
 
 pub window-peer : (n : ℕ) (view : View) (peer height : ℕ) → All (λ (i : Item). i .peer ≡ peer) (windowWithin n view peer height .items)
 window-peer zero view peer height = tt

@@ -1,7 +1,7 @@
 -- Rule 4's window one height at a time: its missing sections as pairs.
-use Prim.Native.Nat.{ℕ, zero, suc, _+_, _-_, _*_, _≤_, _<_, min}
+use Prim.Native.Nat.{ℕ, zero, suc, _+_, _-_, _*_, _≤_, min}
 use mathlib.Core.Path.{_≡_, refl, sym, ap, _∙_}
-use mathlib.Core.Bool.{Bool, true, false, not, _&&_, false≢true}
+use mathlib.Core.Bool.{Bool, true, false, not, false≢true}
 use mathlib.Core.List.{List, [], _∷_, _++_, map}
 use mathlib.Core.Option.{Option, none, some}
 use native.Mathlib.Numerals.{add-one}
@@ -63,7 +63,8 @@ widen-pairs : (header : Option Header) (peer : ℕ) (further : Window) (rest : L
     → map itemPair (widen header peer further .items) ≡ furtherPairs header rest
 widen-pairs none peer further rest e = refl
 widen-pairs (some absent) peer further rest e = refl
-widen-pairs (some (present sections)) peer further rest e = map-append itemPair (missing peer sections) (further .items) ∙ rw (pairs-of-missing peer sections, e)
+widen-pairs (some (present sections)) peer further rest e =
+    map-append itemPair (missing peer sections) (further .items) ∙ rw (pairs-of-missing peer sections, e)
 
 pub window-pairs : (n : ℕ) (view : View) (peer height : ℕ) → map itemPair (windowWithin n view peer height .items) ≡ pairsWithin n view height
 window-pairs zero view peer height = refl
@@ -82,7 +83,8 @@ WellPairBytes pair = (length pair ≡ pairSize) × Bytes pair
 section-pair : (s : Section) → WellSection s → WellPairBytes (pairBytes (s .typeId) (s .id))
 section-pair s w = (ap suc (w .id .long), bytes-cons (s .typeId) (s .id) (w .typeId) (w .id .bytes))
 
-further-well : (header : Option Header) (rest : List (List ℕ)) → IfSome WellHeader header → All WellPairBytes rest → All WellPairBytes (furtherPairs header rest)
+further-well : (header : Option Header) (rest : List (List ℕ)) → IfSome WellHeader header → All WellPairBytes rest
+    → All WellPairBytes (furtherPairs header rest)
 further-well none rest w r = tt
 further-well (some absent) rest w r = tt
 further-well (some (present sections)) rest w r =
@@ -161,7 +163,8 @@ module _ {bytes : List ℕ} {end first count height : ℕ} {has : Bool} (here : 
         rw (length-map places sectionOf, length-entries placeSize (getD row 0 0) (drop 1 row)) at (p .1)
 
     -- the pass over the window, at a height whose header is present
-    module _ {whole : List (List ℕ)} {pairs₀ pairs : List ℕ} {found : ℕ} (w : Writing pairSize 0 whole (pairsWithin (end - height) (viewOf bytes) height) pairs₀ pairs found)
+    module _ {whole : List (List ℕ)} {pairs₀ pairs : List ℕ} {found : ℕ}
+        (w : Writing pairSize 0 whole (pairsWithin (end - height) (viewOf bytes) height) pairs₀ pairs found)
         (well : WellView (viewOf bytes)) (room : (0 + length whole) * pairSize ≤ length pairs₀) (t : without ≡ false) where
       left : Writing pairSize 0 whole (new ++ rest) pairs₀ pairs found
       left = rw (pairs-next t) at w

@@ -13,7 +13,7 @@ use Rattle.fields.specs.Filter.{consIf, kept}
 use Rattle.fields.specs.Overwrite.{overwritten}
 use Rattle.fields.specs.Entries.{entries, entry, joined}
 use Rattle.fields.proofs.OverwriteLaws.{overwritten-nil}
-use Rattle.fields.proofs.AllLaws.{all-kept, all-map, all-drop, all-front, all-back}
+use Rattle.fields.proofs.AllLaws.{all-kept, all-map, all-drop}
 use Rattle.fields.proofs.EntriesLaws.{Wide, length-entries, entries-at, entries-wide}
 use Rattle.model.specs.Sections.{Section}
 use Rattle.model.specs.Calls.{pairBytes}
@@ -44,7 +44,8 @@ missing-one : (s : Section) → s .isStored ≡ false → missingPairs (s ∷ []
 unfolding missingPairs
 missing-one s e = rw e
 
-pub missing-all : (P : List ℕ → Type 0) (sections : List Section) → All (λ (s : Section). P (pairBytes (s .typeId) (s .id))) sections → All P (missingPairs sections)
+pub missing-all : (P : List ℕ → Type 0) (sections : List Section) → All (λ (s : Section). P (pairBytes (s .typeId) (s .id))) sections
+    → All P (missingPairs sections)
 unfolding missingPairs
 missing-all P sections p =
     let Q : Section → Type 0 = λ (s : Section). P (pairBytes (s .typeId) (s .id)) in
@@ -68,14 +69,16 @@ module _ (view : List ℕ) (at : ℕ) (h : at + placeSize ≤ length view) where
 
   missing-at : (getD view (at + pairSize) 0 ≡ 1 → ⊥) → placePairs at view ≡ take pairSize (drop at view) ∷ []
   unfolding sectionOf
-  missing-at s = missing-one (sectionOf (take placeSize (drop at view))) (rw (flag-at, ne-eqb (getD view (at + pairSize) 0) 1 s)) ∙ ap (λ pair. pair ∷ []) pair-at
+  missing-at s =
+      missing-one (sectionOf (take placeSize (drop at view))) (rw (flag-at, ne-eqb (getD view (at + pairSize) 0) 1 s)) ∙ ap (λ pair. pair ∷ []) pair-at
 
   pub place-stored : (to : ℕ) (pairs : List ℕ) → getD view (at + pairSize) 0 ≡ 1
       → (to ≡ to + length (placePairs at view)) × (pairs ≡ overwritten (to * pairSize) (joined (placePairs at view)) pairs)
   place-stored to pairs s = rw (stored-at s) (omega arith, sym (overwritten-nil (to * pairSize) pairs))
 
   module _ (to : ℕ) (pairs : List ℕ) (s : getD view (at + pairSize) 0 ≡ 1 → ⊥) where
-    pub place-room : (to + length (placePairs at view)) * pairSize ≤ length pairs → to * pairSize + length (take (at + pairSize - at) (drop at view)) ≤ length pairs
+    pub place-room : (to + length (placePairs at view)) * pairSize ≤ length pairs
+        → to * pairSize + length (take (at + pairSize - at) (drop at view)) ≤ length pairs
     place-room r =
         let r′ : (to + 1) * pairSize ≤ length pairs = rw (missing-at s) at r in
         let e : at + pairSize - at ≡ pairSize = omega arith in
@@ -116,11 +119,14 @@ module _ {i : ℕ} {view : List ℕ} (s : Stands i view) where
       let row : List ℕ = rowAt i view in
       let l : length row ≡ rowSize = length-row i view h in
       let room : getD row 0 0 * placeSize ≤ length (drop 1 row) = simp length-drop (omega arith) in
-      all-map (λ (place : List ℕ). length place ≡ placeSize) Long sectionOf long-place (entries placeSize (getD row 0 0) (drop 1 row)) (entries-wide placeSize (getD row 0 0) (drop 1 row) room)
+      all-map (λ (place : List ℕ). length place ≡ placeSize) Long sectionOf long-place (entries placeSize (getD row 0 0) (drop 1 row))
+      (entries-wide placeSize (getD row 0 0) (drop 1 row) room)
 
   module _ (k : ℕ) where
     rest-wide : Wide pairSize (missingPairs (drop k (sectionsOf (rowAt i view))))
-    rest-wide = missing-all (λ (pair : List ℕ). length pair ≡ pairSize) (drop k (sectionsOf (rowAt i view))) (all-drop Long k (sectionsOf (rowAt i view)) row-long)
+    rest-wide =
+        let sections : List Section = sectionsOf (rowAt i view) in
+        missing-all (λ (pair : List ℕ). length pair ≡ pairSize) (drop k sections) (all-drop Long k sections row-long)
 
     place-at : k < getD (rowAt i view) 0 0 → entry placeSize k (drop 1 (rowAt i view)) ≡ take placeSize (drop (i * rowSize + 5 + k * placeSize) view)
     unfolding entry
@@ -130,9 +136,12 @@ module _ {i : ℕ} {view : List ℕ} (s : Stands i view) where
 
     length-sections : length (sectionsOf (rowAt i view)) ≡ getD (rowAt i view) 0 0
     unfolding sectionsOf
-    length-sections = length-map (entries placeSize (getD (rowAt i view) 0 0) (drop 1 (rowAt i view))) sectionOf ∙ length-entries placeSize (getD (rowAt i view) 0 0) (drop 1 (rowAt i view))
+    length-sections =
+        length-map (entries placeSize (getD (rowAt i view) 0 0) (drop 1 (rowAt i view))) sectionOf
+        ∙ length-entries placeSize (getD (rowAt i view) 0 0) (drop 1 (rowAt i view))
 
-    section-at : k < getD (rowAt i view) 0 0 → getD (sectionsOf (rowAt i view)) k (sectionOf []) ≡ sectionOf (take placeSize (drop (i * rowSize + 5 + k * placeSize) view))
+    section-at : k < getD (rowAt i view) 0 0 → getD (sectionsOf (rowAt i view)) k (sectionOf [])
+        ≡ sectionOf (take placeSize (drop (i * rowSize + 5 + k * placeSize) view))
     unfolding sectionsOf
     section-at l =
         let count : ℕ = getD (rowAt i view) 0 0 in
@@ -143,7 +152,8 @@ module _ {i : ℕ} {view : List ℕ} (s : Stands i view) where
         ≡ placePairs (i * rowSize + 5 + k * placeSize) view ++ missingPairs (drop (k + 1) (sectionsOf (rowAt i view)))
     row-next l =
         let sections : List Section = sectionsOf (rowAt i view) in
-        let d : drop k sections ≡ sectionOf (take placeSize (drop (i * rowSize + 5 + k * placeSize) view)) ∷ drop (suc k) sections = drop-cons sections k (sectionOf []) (rw length-sections l) ∙ rw (section-at l) in
+        let d : drop k sections ≡ sectionOf (take placeSize (drop (i * rowSize + 5 + k * placeSize) view)) ∷ drop (suc k) sections =
+        drop-cons sections k (sectionOf []) (rw length-sections l) ∙ rw (section-at l) in
         rw (add-one, d) (missing-cons (sectionOf (take placeSize (drop (i * rowSize + 5 + k * placeSize) view))) (drop (suc k) sections))
 
     row-end : getD (rowAt i view) 0 0 ≤ k → missingPairs (drop k (sectionsOf (rowAt i view))) ≡ []

@@ -66,7 +66,8 @@ unfolding headerOf sectionsOf
 present-row row h = rw (absent-row row ∙ h)
 
 -- one that is not stored among the first four
-fourth-not-stored : (t : Bool) (a b c d : Section) (rest : List Section) → d .isStored ≡ false → false ≡ isComplete (cond t absent (present (a ∷ (b ∷ (c ∷ (d ∷ rest))))))
+fourth-not-stored : (t : Bool) (a b c d : Section) (rest : List Section) → d .isStored ≡ false
+    → false ≡ isComplete (cond t absent (present (a ∷ (b ∷ (c ∷ (d ∷ rest))))))
 fourth-not-stored true a b c d rest e = refl
 fourth-not-stored false a b c d rest e = rw e (go (a .isStored) (b .isStored) (c .isStored))
   where

@@ -39,16 +39,19 @@ module _ {width to : ℕ} {whole : List (List ℕ)} (new rest : List (List ℕ))
 
   pub writing-room : (found + length new) * width ≤ length bytes
   writing-room =
-      let d : (found + length new + length rest) * width ≡ (found + length new) * width + length rest * width = add-mul (found + length new) (length rest) width in
+      let d : (found + length new + length rest) * width ≡ (found + length new) * width + length rest * width =
+      add-mul (found + length new) (length rest) width in
       omega (arith, fits)
 
-  pub writing-next : Wide width (new ++ rest) → {bytes′ : List ℕ} {found′ : ℕ} → bytes′ ≡ overwritten (found * width) (joined new) bytes → found′ ≡ found + length new
+  pub writing-next : Wide width (new ++ rest) → {bytes′ : List ℕ} {found′ : ℕ} → bytes′ ≡ overwritten (found * width) (joined new) bytes
+      → found′ ≡ found + length new
       → Writing width to whole rest bytes₀ bytes′ found′
   writing-next wide e f =
       let a : length (joined new) ≡ length new * width = length-joined width new (all-front (λ (e : List ℕ). length e ≡ width) new rest wide) in
       let b : length (joined rest) ≡ length rest * width = length-joined width rest (all-back (λ (e : List ℕ). length e ≡ width) new rest wide) in
       let c : (found + length new) * width ≡ found * width + length new * width = add-mul found (length new) width in
-      let d : (found + length new + length rest) * width ≡ (found + length new) * width + length rest * width = add-mul (found + length new) (length rest) width in
+      let d : (found + length new + length rest) * width ≡ (found + length new) * width + length rest * width =
+      add-mul (found + length new) (length rest) width in
       let at : (found + length new) * width ≡ found * width + length (joined new) = omega arith in
       let all : found * width + length (joined new) + length (joined rest) ≤ length bytes = omega (arith, fits) in
       rw (e, f) (record {

@@ -33,8 +33,10 @@ module _ (settings : Settings) (clock height : ℕ) where
   opened-rest : (n : ℕ) → n ≡ areaSize → drop 74 (zeros n) ≡ drop 74 (encode (opened settings clock height))
   unfolding opened
   opened-rest n h =
-      drop-zeros n 74 ∙ sym (zeros-joined 438 2048 regionSize (n - 74) (omega arith)) ∙ sym (drop-header (opened settings clock height) (opened-sized settings clock height))
+      drop-zeros n 74 ∙ sym (zeros-joined 438 2048 regionSize (n - 74) (omega arith))
+      ∙ sym (drop-header (opened settings clock height) (opened-sized settings clock height))
 
   -- its header written over zeros
-  pub opened-written : (n : ℕ) → n ≡ areaSize → overwritten 0 (headBytes (headOf (opened settings clock height))) (zeros n) ≡ encode (opened settings clock height)
+  pub opened-written : (n : ℕ) → n ≡ areaSize → overwritten 0 (headBytes (headOf (opened settings clock height))) (zeros n)
+      ≡ encode (opened settings clock height)
   opened-written n h = header-encode (opened settings clock height) (zeros n) (opened-sized settings clock height) (opened-rest n h)

@@ -59,7 +59,8 @@ module _ (settings : Settings) (clock count i : ℕ) (region : List ℕ) where
       let l : i < length es = rw (length-entries recordSize count region) h in
       let d : drop i es ≡ e ∷ drop (suc i) es = drop-cons es i [] l ∙ rw (entries-at recordSize count i region h) in
       let rest : List (List ℕ) = drop (suc i) es in
-      rw (add-one, d) (and-swap (requestFits settings clock (requestOf e)) (eqb (getD e 40 0) 0) (allFit settings clock (map requestOf rest)) (typesNarrow rest))
+      rw (add-one, d) (and-swap (requestFits settings clock (requestOf e)) (eqb (getD e 40 0) 0) (allFit settings clock (map requestOf rest))
+      (typesNarrow rest))
 
   pub fits-next : {fits : Bool} → fits ≡ recordFits settings clock (entry recordSize i region) → fits ≡ true → i < count
       → recordsFit settings clock (drop (i + 1) (entries recordSize count region)) ≡ recordsFit settings clock (drop i (entries recordSize count region))
@@ -78,7 +79,9 @@ module _ (settings : Settings) (clock count i : ℕ) (region : List ℕ) where
 module _ (settings : Settings) (clock i : ℕ) (region : List ℕ) (h : i * recordSize + recordSize ≤ length region) where
   -- its stamp and its checks
   abbrev timely : Bool
-  timely = leb (field (i * recordSize + 42) 8 region) clock && ltb (field (i * recordSize + 50) 4 region) (mostRequests settings (field (i * recordSize + 40) 2 region))
+  timely =
+      leb (field (i * recordSize + 42) 8 region) clock
+      && ltb (field (i * recordSize + 50) 4 region) (mostRequests settings (field (i * recordSize + 40) 2 region))
 
   record-parts : recordFits settings clock (entry recordSize i region) ≡ timely && eqb (getD region (i * recordSize + 40) 0) 0
   unfolding requestFits requestOf
@@ -86,7 +89,8 @@ module _ (settings : Settings) (clock i : ℕ) (region : List ℕ) (h : i * reco
       let e : List ℕ = entry recordSize i region in
       let l : length e ≡ recordSize = length-entry recordSize i region h in
       let high : getD e 40 0 ≡ getD region (i * recordSize + 40) 0 =
-      sym (fromBe-one 40 e (omega arith)) ∙ ap fromBe (entry-field recordSize i 40 1 region (omega arith)) ∙ fromBe-one (i * recordSize + 40) region (omega arith) in
+      sym (fromBe-one 40 e (omega arith)) ∙ ap fromBe (entry-field recordSize i 40 1 region (omega arith))
+      ∙ fromBe-one (i * recordSize + 40) region (omega arith) in
       rw (
         high,
         entry-field recordSize i 40 2 region (omega arith),

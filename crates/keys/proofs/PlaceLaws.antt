@@ -1,16 +1,15 @@
 -- The place of a key's first word, as it stands in a table whose keys rise, and what it says of the key.
-use Prim.Native.Nat.{ℕ, suc, _+_, _*_, _≤_, _<_}
+use Prim.Native.Nat.{ℕ, _+_, _*_, _≤_, _<_}
 use mathlib.Core.Path.{_≡_, refl, sym, _∙_}
-use mathlib.Core.Bool.{Bool, true, false, false≢true}
+use mathlib.Core.Bool.{true, false≢true}
 use mathlib.Core.Logic.{_⊎_, ⊎-elim}
-use mathlib.Core.List.{List, []}
+use mathlib.Core.List.{List}
 use native.Mathlib.Nat.{mul-le-mul-right, eq-or-lt-of-le, lt-irrefl, not-suc-le-zero}
 use native.Mathlib.Omega.{arith}
-use lib.Dec.{ltb, eqb}
 use borrow.Author.Tests.{lt-ltb, le-ltb, eq-eqb, ne-eqb}
-use lib.ListN.{length, take, drop, getD}
+use lib.ListN.{length, take, drop}
 use Rattle.fields.specs.Number.{fromBe}
-use Rattle.fields.specs.Order.{before, same}
+use Rattle.fields.specs.Order.{before}
 use Rattle.fields.specs.Entries.{entries, rising}
 use Rattle.fields.specs.Facts.{Bytes}
 use Rattle.fields.proofs.OrderLaws.{trichotomy}
@@ -21,7 +20,7 @@ use Rattle.keys.proofs.UnlikeLaws.{first-less, first-more}
 use Rattle.keys.specs.Find.{found, Passed}
 use Rattle.keys.specs.Within.{wordAt, Within}
 use Rattle.keys.specs.declared.find.Found.the-variants.{At, Gap}
-use Rattle.keys.proofs.FindLaws.{Below, Here, below-falls, key-at, compared-before, compared-same, found-at, found-gap, found-end}
+use Rattle.keys.proofs.FindLaws.{Below, below-falls, key-at, compared-before, compared-same, found-at, found-gap, found-end}
 
 -- A search by the first word of its key.
 pub record Searched (key table : List ℕ) (width count word : ℕ) : Type 0 where

@@ -75,7 +75,8 @@ module _ (width offset : ℕ) (table : List ℕ) where
 
     pub length-gathered : (places : List ℕ) → All Within places → length (joined (gathered width offset table places)) ≡ length places * 32
     length-gathered places w =
-        length-joined 32 (gathered width offset table places) (gathered-wide places w) ∙ rw (length-map places (λ (place : ℕ). take 32 (drop offset (entry width place table))))
+        length-joined 32 (gathered width offset table places) (gathered-wide places w)
+        ∙ rw (length-map places (λ (place : ℕ). take 32 (drop offset (entry width place table))))
 
   -- The ids from place i on are to come: what is written, then they, is the whole.
   pub record Gathering (places d ids : List ℕ) (i : ℕ) : Type 0 where
@@ -87,7 +88,8 @@ module _ (width offset : ℕ) (table : List ℕ) where
   gather-starts places d = record { i-le = omega arith; long = refl; rest = refl }
 
   -- the ids are read back at the front; where the room is theirs alone, they are all of it
-  module _ (fits : offset + 32 ≤ width) (places d ids : List ℕ) (w : All Within places) (e : ids ≡ overwritten 0 (joined (gathered width offset table places)) d) where
+  module _ (fits : offset + 32 ≤ width) (places d ids : List ℕ) (w : All Within places)
+      (e : ids ≡ overwritten 0 (joined (gathered width offset table places)) d) where
     pub gathered-front : take (length places * 32) ids ≡ joined (gathered width offset table places)
     gathered-front = rw (e, ← length-gathered fits places w) (front-read-back (joined (gathered width offset table places)) d)
 

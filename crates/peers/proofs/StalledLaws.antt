@@ -39,7 +39,8 @@ elements-set (suc n) i at p places h =
     rw (getD-set-other places at i p 0 (λ e. lt-irrefl i (omega arith)), elements-set n (i + 1) at p places (omega arith))
 
 -- one more peer
-pub elements-joined : (count p : ℕ) (places : List ℕ) → count < length places → elements (count + 1) 0 (set places count p) ≡ elements count 0 places ++ (p ∷ [])
+pub elements-joined : (count p : ℕ) (places : List ℕ) → count < length places
+    → elements (count + 1) 0 (set places count p) ≡ elements count 0 places ++ (p ∷ [])
 elements-joined count p places h =
     rw (elements-snoc count 0 (set places count p), zero-add, elements-set count 0 count p places (omega arith), getD-set-same places count p 0 h)
 
@@ -72,7 +73,8 @@ module _ (places : List ℕ) (n i peer : ℕ) where
 -- ---- the set in bytes
 
 -- one more place read
-pub read-next : (i v : ℕ) (peers bytes : List ℕ) → i < length peers → elements i 0 peers ≡ map fromBe (entries 8 i bytes) → v ≡ fromBe (take 8 (drop (i * 8) bytes))
+pub read-next : (i v : ℕ) (peers bytes : List ℕ) → i < length peers → elements i 0 peers ≡ map fromBe (entries 8 i bytes)
+    → v ≡ fromBe (take 8 (drop (i * 8) bytes))
     → elements (i + 1) 0 (set peers i v) ≡ map fromBe (entries 8 (i + 1) bytes)
 read-next i v peers bytes h e r =
     rw (elements-joined i v peers h, entries-add 8 i 1 bytes, map-append fromBe (entries 8 i bytes) (entries 8 1 (drop (i * 8) bytes)), e, r)
@@ -101,7 +103,8 @@ written-none s peers = sym (overwritten-nil 0 s)
 pub length-written : (s : List ℕ) (i : ℕ) (peers : List ℕ) → i * 8 ≤ length s → length (written s i peers) ≡ length s
 length-written s i peers h = length-overwritten 0 (peerBytes (elements i 0 peers)) s (rw length-first (omega arith))
 
-pub written-next : (s : List ℕ) (i : ℕ) (peers : List ℕ) → (i + 1) * 8 ≤ length s → overwritten (i * 8) (toBe 8 (getD peers i 0)) (written s i peers) ≡ written s (i + 1) peers
+pub written-next : (s : List ℕ) (i : ℕ) (peers : List ℕ) → (i + 1) * 8 ≤ length s
+    → overwritten (i * 8) (toBe 8 (getD peers i 0)) (written s i peers) ≡ written s (i + 1) peers
 written-next s i peers h =
     let old : List ℕ = peerBytes (elements i 0 peers) in
     let new : List ℕ = toBe 8 (getD peers i 0) in

@@ -40,5 +40,6 @@ module _ (st : State) (c : Call) where
     pub end-kinds : (kind < 1) ⊎ (14 ≤ kind) → (kind ≡ 14 → ⊥) → (kind ≡ 15 → ⊥) → (eqb (modeNumber (st .mode)) 1 || hasSyncPeer (st .mode)) ≡ allowed
     unfolding allowed ofMode
     end-kinds h n m =
-        let last : (c .kind < 1) ⊎ (16 ≤ c .kind) = ⊎-elim (λ l. inl (omega arith)) (λ l. let over : 16 ≤ kind = beyond kind 15 m (beyond kind 14 n l) in inr (omega arith)) h in
+        let last : (c .kind < 1) ⊎ (16 ≤ c .kind) =
+        ⊎-elim (λ l. inl (omega arith)) (λ l. let over : 16 ≤ kind = beyond kind 15 m (beyond kind 14 n l) in inr (omega arith)) h in
         rw (last-kind c last)

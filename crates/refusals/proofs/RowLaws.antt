@@ -60,7 +60,8 @@ flags-zero (suc n) bytes z =
 
 -- the stored bytes of unused places need no test of their own
 pub all-places : (used : ℕ) (bytes : List ℕ) → used ≤ 3
-    → flagsFit (entries placeSize 3 bytes) && allZero (drop (used * placeSize) bytes) ≡ flagsFit (entries placeSize used bytes) && allZero (drop (used * placeSize) bytes)
+    → flagsFit (entries placeSize 3 bytes) && allZero (drop (used * placeSize) bytes)
+    ≡ flagsFit (entries placeSize used bytes) && allZero (drop (used * placeSize) bytes)
 all-places used bytes h =
     let s : 3 ≡ used + (3 - used) = omega arith in
     let rest : List ℕ = drop (used * placeSize) bytes in

@@ -15,7 +15,8 @@ use Rattle.model.specs.Layout.{recordSize}
 abbrev Inv-loop : tie.InvT-loop
 Inv-loop region count settings clock i₀ i =
     (i ≤ count)
-    × (recordsFit (settingsOf settings) clock (drop i (entries recordSize count region)) ≡ recordsFit (settingsOf settings) clock (entries recordSize count region))
+    × (recordsFit (settingsOf settings) clock (drop i (entries recordSize count region))
+    ≡ recordsFit (settingsOf settings) clock (entries recordSize count region))
 
 abbrev μ-loop : tie.MeasureT-loop
 μ-loop region count settings clock i₀ i = count - i

@@ -37,7 +37,8 @@ returns-2 c =
     let read : tie.After-read-stalled = search in
     let stalled = read .read-stalled in
     c .is-none-twice .ensures
-    ∙ stalled-read (s .args .area .now) (count .count-at .result) (count .count-at .ensures) (stalled .result) (omega arith) (omega arith) (stalled .ensures .0) (stalled .ensures .1)
+    ∙ stalled-read (s .args .area .now) (count .count-at .result) (count .count-at .ensures) (stalled .result) (omega arith) (omega arith)
+    (stalled .ensures .0) (stalled .ensures .1)
 
 pub stalled-once-spec : {M : Type 1} → statement M
 stalled-once-spec =

@@ -1,5 +1,4 @@
 -- By the test: words that differ are kept, words that are the same give way to those behind.
-use mathlib.Core.Path.{sym}
 use borrow.Author.Tests.{eq-eqb, ne-eqb}
 use Rattle.keys.proofs.unlike.first_unlike.Statement.{statement}
 use Rattle.keys.proofs.unlike.first_unlike.Tie as tie

@@ -1,7 +1,7 @@
 -- The loop's invariant: the first i bytes are alike. A byte is a word of 1 byte: `differ-decides` turns the first that differs into the answer.
 use borrow.Author.Needs.{needs}
 use native.Mathlib.Omega.{arith}
-use Prim.Native.Nat.{_+_, _-_, _≤_}
+use Prim.Native.Nat.{_-_, _≤_}
 use mathlib.Core.Path.{_≡_, refl}
 use lib.ListN.{take, drop}
 use Rattle.keys.proofs.UnlikeLaws.{Behind, differ-decides, alike-decides, alike-further}

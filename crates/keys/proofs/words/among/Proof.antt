@@ -1,8 +1,8 @@
 -- Both loops keep the bounds `from` and `from + (room - 1)`.
 use borrow.Author.Needs.{needs}
 use native.Mathlib.Omega.{arith}
-use Prim.Native.Nat.{ℕ, suc, _+_, _-_, _*_, _/_, _≤_, _<_}
-use mathlib.Core.Path.{_≡_, refl, sym, ap, _∙_}
+use Prim.Native.Nat.{_+_, _-_, _≤_, _<_}
+use mathlib.Core.Path.{_≡_, refl}
 use native.Mathlib.Nat.{mul-le-mul-left}
 use Rattle.keys.specs.Within.{Within, wordAt}
 use Rattle.keys.proofs.WithinLaws.{within-as}

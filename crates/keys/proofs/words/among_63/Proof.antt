@@ -1,10 +1,8 @@
+-- Six steps that halve 63 entries leave one place: the last step's bounds.
 use borrow.Author.Needs.{needs}
 use native.Mathlib.Omega.{arith}
-use Prim.Native.Nat.{ℕ, suc, _+_, _-_, _*_, _≤_, _<_}
-use mathlib.Core.Path.{_≡_, refl, sym, ap, _∙_}
-use mathlib.Core.List.{List, [], _∷_, _++_}
-use lib.ListN.{length, take, drop, getD, set}
-use Rattle.keys.specs.Within.{wordAt}
+use Prim.Native.Nat.{ℕ, _+_}
+use mathlib.Core.Path.{_≡_, refl}
 use Rattle.keys.proofs.WithinLaws.{within-as}
 use Rattle.keys.proofs.words.among_63.Statement.{statement}
 use Rattle.keys.proofs.words.among_63.Tie as tie

@@ -1,7 +1,7 @@
+-- The word's high half is below 2 ^ 32, so that the product does not wrap.
 use borrow.Author.Needs.{needs}
 use native.Mathlib.Omega.{arith}
-use Prim.Native.Nat.{ℕ, suc, _+_, _-_, _*_, _/_, _≤_, _<_}
-use mathlib.Core.Path.{_≡_, refl, sym, ap, _∙_}
+use Prim.Native.Nat.{_/_, _≤_}
 use native.Mathlib.Nat.{mul-le-mul-right}
 use Rattle.keys.proofs.words.guess.Statement.{statement}
 use Rattle.keys.proofs.words.guess.Tie as tie

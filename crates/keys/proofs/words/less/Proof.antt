@@ -1,5 +1,5 @@
-use mathlib.Core.Path.{_≡_, ap}
-use native.Mathlib.Omega.{arith}
+-- The word that is read is entry i's: `wordAt`.
+use mathlib.Core.Path.{ap}
 use borrow.Author.Needs.{needs}
 use lib.Dec.{ltb}
 use Prim.Native.Nat.{ℕ}

@@ -1,10 +1,8 @@
 -- The entry at the end of the step decides (`past-less`, `past-not`).
-use Prim.Native.Nat.{ℕ, suc, _+_, _-_, _*_, _/_, _≤_, _<_}
-use mathlib.Core.Path.{_≡_, refl, sym, _∙_}
+use Prim.Native.Nat.{suc, _+_, _-_, _≤_}
 use native.Mathlib.Nat.{mul-le-mul-right}
 use native.Mathlib.Omega.{arith}
 use borrow.Author.Needs.{needs}
-use Rattle.keys.specs.Within.{Within, wordAt}
 use Rattle.keys.proofs.WithinLaws.{past-less, past-not}
 use Rattle.keys.proofs.words.past.Statement.{statement}
 use Rattle.keys.proofs.words.past.Tie as tie

@@ -1,10 +1,8 @@
 -- Three probes, counted (`past-quarters`).
 use borrow.Author.Needs.{needs}
 use native.Mathlib.Omega.{arith}
-use Prim.Native.Nat.{ℕ, suc, _+_, _-_, _*_, _≤_, _<_}
-use mathlib.Core.Path.{_≡_, refl, sym, ap, _∙_}
+use Prim.Native.Nat.{ℕ, suc, _+_, _-_, _*_, _≤_}
 use native.Mathlib.Nat.{mul-le-mul-right}
-use Rattle.keys.specs.Within.{wordAt}
 use Rattle.keys.proofs.WithinLaws.{past-quarters}
 use Rattle.keys.proofs.words.past_quarters.Statement.{statement}
 use Rattle.keys.proofs.words.past_quarters.Tie as tie

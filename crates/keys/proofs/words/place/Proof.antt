@@ -1,11 +1,10 @@
 -- What two probes say of all entries (`below-probe`, `above-probe`).
 use borrow.Author.Needs.{needs}
 use native.Mathlib.Omega.{arith}
-use Prim.Native.Nat.{ℕ, suc, _+_, _-_, _*_, _≤_, _<_}
-use mathlib.Core.Path.{_≡_, refl, sym, ap, _∙_}
+use Prim.Native.Nat.{ℕ, suc, _+_, _≤_, _<_}
+use mathlib.Core.Path.{_≡_, refl}
 use native.Mathlib.Nat.{mul-le-mul-right}
 use borrow.Author.Tests.{not-true, not-false}
-use Rattle.keys.specs.Within.{Within, wordAt}
 use Rattle.keys.proofs.WithinLaws.{below-probe, above-probe, between, within-as}
 use Rattle.keys.proofs.words.place.Statement.{statement}
 use Rattle.keys.proofs.words.place.Tie as tie

@@ -20,7 +20,8 @@ module _ (c : tie.After-read-u644) where
   abbrev third : tie.After-read-u643
   third = search
 
-  read : Read (start .args .table .now) (start .args .from) (first .read-u64 .result) (second .read-u642 .result) (third .read-u643 .result) (c .read-u644 .result)
+  read : Read (start .args .table .now) (start .args .from) (first .read-u64 .result) (second .read-u642 .result) (third .read-u643 .result)
+      (c .read-u644 .result)
   read =
       let known : tie.After-shared-slice-known = search in
       record {

@@ -78,7 +78,8 @@ returns c =
     let l = c .before .loop in
     let s = start .args .stalled in
     let e : l .i ≡ s .count = omega arith in
-    rw (start .pre .0, e) at (l .inv .1 .1 .1 ∙ written-all (zeroed .fill-zero .last .0) (l .i) (s .peers) (length (start .args .places .now)) (zeroed .fill-zero .ensures))
+    rw (start .pre .0, e) at (l .inv .1 .1 .1 ∙ written-all (zeroed .fill-zero .last .0) (l .i) (s .peers) (length (start .args .places .now))
+    (zeroed .fill-zero .ensures))
 
 pub write-stalled-spec : {M : Type 1} → statement M
 write-stalled-spec =
