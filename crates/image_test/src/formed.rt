@@ -19,8 +19,8 @@ ghost use Rattle.model.specs.Protocol.{trackedLimit};
 use model::layout::ID_SIZE;
 use model::layout::RECORD_SIZE;
 use model::layout::REGION_AT;
-use settings::Settings;
 use model::layout::STALLED_AT;
+use settings::Settings;
 
 // Whether the pending ids rise.
 fn ids_rise(area: &[u8]) -> bool

@@ -13,8 +13,8 @@ ghost use Rattle.model.specs.Image.{noneTwice};
 ghost use Rattle.peers.specs.Stalled.{elements};
 ghost use Rattle.image_test.specs.Flags.{Flagged};
 ghost use Rattle.model.specs.Layout.{areaSize};
-use model::layout::STALLED_AT;
 use model::layout::REGION_AT;
+use model::layout::STALLED_AT;
 
 // Whether a peer is among those from `from` on. No early exit: many are compared at a time.
 fn is_listed_from(peers: &[u64; 256], from: usize, count: usize, peer: u64) -> bool

@@ -38,8 +38,8 @@ fn halved(table: &[u8], width: usize, count: usize, key: &[u8], from: usize) -> 
     Found::Gap(lo)
 }
 
-// By the first word of the key.
-fn find_by_word(table: &[u8], width: usize, count: usize, key: &[u8]) -> Found
+// Where the key is or would go, by its first word: the answer is that of a walk from the front.
+pub fn find(table: &[u8], width: usize, count: usize, key: &[u8]) -> Found
     requires { ⌜ (length (now key) ≤ width) × ((count * width ≤ length (now table)) × (8 ≤ length (now key))) ⌝ }
     requires { ⌜ rising (length (now key)) (entries width count (now table)) ≡ true ⌝ }
     ensures { λ r. ⌜ r ≡ found (now (key .entry)) 0 (entries width count (now (table .entry))) ⌝ }
@@ -58,26 +58,4 @@ fn find_by_word(table: &[u8], width: usize, count: usize, key: &[u8]) -> Found
     }
     // Keys that share their first word.
     halved(table, width, count, key, place + 1)
-}
-
-// Whether the first key and the last begin with the same word, as then all do.
-fn begins_alike(table: &[u8], width: usize, count: usize) -> bool
-    requires { ⌜ (8 ≤ width) × (count * width ≤ length (now table)) ⌝ }
-{
-    if count < 2 {
-        return false;
-    }
-    fields::read_u64(table, 0) == fields::read_u64(table, (count - 1) * width)
-}
-
-// Where the key is or would go: the answer is that of a walk from the front.
-pub fn find(table: &[u8], width: usize, count: usize, key: &[u8]) -> Found
-    requires { ⌜ (length (now key) ≤ width) × ((count * width ≤ length (now table)) × (8 ≤ length (now key))) ⌝ }
-    requires { ⌜ rising (length (now key)) (entries width count (now table)) ≡ true ⌝ }
-    ensures { λ r. ⌜ r ≡ found (now (key .entry)) 0 (entries width count (now (table .entry))) ⌝ }
-{
-    if begins_alike(table, width, count) {
-        return halved(table, width, count, key, 0);
-    }
-    find_by_word(table, width, count, key)
 }

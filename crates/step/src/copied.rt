@@ -7,10 +7,10 @@ ghost use Rattle.step.specs.Planned.{lists, Planned, StepsTo};
 ghost use Rattle.model.specs.Layout.{areaSize};
 use crate::finish::Answer;
 use image::head::Head;
+use model::layout::REGION_AT;
 use plan::Call;
 use plan::Plan;
 use work::Performed;
-use model::layout::REGION_AT;
 
 // Room for the commands of a step.
 fn room() -> [u8; 65536]

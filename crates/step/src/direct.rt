@@ -7,10 +7,10 @@ ghost use Rattle.step.specs.Copies.{worksOnCopies};
 ghost use Rattle.step.specs.Planned.{lists, Planned, StepsTo};
 use crate::finish::Answer;
 use image::head::Head;
+use model::layout::REGION_AT;
 use plan::Call;
 use plan::Plan;
 use work::Performed;
-use model::layout::REGION_AT;
 
 // A work that needs no copies finds out that there is no room before it writes, or always has room.
 pub fn step_directly(

@@ -17,9 +17,9 @@ ghost use Rattle.plan.specs.Plans.{callOf};
 ghost use Rattle.refusals.specs.Refusals.{givenRefusal};
 ghost use Rattle.step.specs.Answers.{answerOf};
 use crate::finish::Answer;
-use plan::Call;
-use model::layout::STALLED_AT;
 use model::layout::REGION_AT;
+use model::layout::STALLED_AT;
+use plan::Call;
 
 // A step that none of 1 to 8 refuses.
 pub fn run(
@@ -36,7 +36,14 @@ pub fn run(
     ensures { λ r. ⌜ record { answer = answerOf r; state = now (state .exit); commands = now (commands .exit) } ≡ calls.step (now (state .entry)) (now (commands .entry)) (callOf call (now (ids .entry)) (now (continuation .entry)) (now (stored .entry)) (now (peers .entry)) (now (view .entry))) ⌝ }
 {
     let head = image::head::read_head(state);
-    let plan = plan_step::step::plan_step(head, call, &state[STALLED_AT..REGION_AT], ids, peers, view);
+    let plan = plan_step::step::plan_step(
+        head,
+        call,
+        &state[STALLED_AT..REGION_AT],
+        ids,
+        peers,
+        view,
+    );
     if !plan.seen {
         return crate::finish::refused(9);
     }

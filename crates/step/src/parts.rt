@@ -10,11 +10,11 @@ ghost use Rattle.step.specs.Stalling.{placesOf, stalledThen, stalledCoun
 ghost use Rattle.step.specs.Finished.{said, counted, completed};
 ghost use Rattle.model.specs.Layout.{areaSize};
 use image::head::Head;
+use model::layout::REGION_AT;
+use model::layout::STALLED_AT;
 use peers::Listed;
 use plan::Stalling;
 use work::Counts;
-use model::layout::STALLED_AT;
-use model::layout::REGION_AT;
 
 // A sync info, if one goes out; `none` is an empty list. Answers the place behind it.
 pub fn say(out: &mut [u8], says: Listed, at: usize, batch: u16, none: &[u8]) -> usize
