@@ -94,8 +94,14 @@ pub fn arguments_fit(rules: &Rules, state: &State, call: &Arguments) -> Result<(
     }
 }
 
+/// What a result could be judged by besides what the step would leave. Document 01 does not.
+pub struct Before {
+    pub kind: u8,
+    pub pending: usize,
+}
+
 /// 10 and 11: what the step would leave.
-pub fn result_fits(state: &State) -> Result<(), Refusal> {
+pub fn result_fits(_: &Before, state: &State) -> Result<(), Refusal> {
     if state.pending.len() + state.evicted.len() > limits::TRACKED {
         return Err(Refusal(10));
     }
@@ -111,6 +117,10 @@ fn finish(
     state: State,
     call: &Arguments,
 ) -> Result<(State, Vec<u8>, Answer), Refusal> {
+    let before = Before {
+        kind: call.kind,
+        pending: state.pending.len(),
+    };
     let mut run = Run {
         rules,
         inputs: Inputs::read(call),
@@ -121,7 +131,7 @@ fn finish(
     run.state.entry_mark = false;
     let outcome = crate::steps::step(&mut run)?;
     run.state.last_clock = call.clock;
-    (rules.result_fits)(&run.state)?;
+    (rules.result_fits)(&before, &run.state)?;
     let [retried, fresh, abandoned, forgotten] = run.counts;
     let answer = Answer {
         number: 0,

@@ -1,6 +1,7 @@
 //! Every decision of the reference as a field. [`PLAIN`] is document 01; a variant is `Rules { one: .., ..PLAIN }`.
 
 use crate::delivery::{Check, Retry};
+use crate::entries::Before;
 use crate::steps::Outcome;
 use crate::sync::Stored;
 use crate::{delivery, entries, image, inputs, steps, sync, Refusal, Run};
@@ -63,7 +64,7 @@ rules! {
         flags_fit_call: fn(&Arguments) -> bool = flags_fit,
         failure_fits: fn(&State, u8) -> bool,
         arguments_fit: fn(&Rules, &State, &Arguments) -> Result<(), Refusal>,
-        result_fits: fn(&State) -> Result<(), Refusal>,
+        result_fits: fn(&Before, &State) -> Result<(), Refusal>,
         pairs: fn(&State, u8) -> BTreeSet<(u8, Id)>,
     }
     delivery {

@@ -188,6 +188,21 @@ pub fn variants() -> Vec<Variant> {
             },
         ),
         eight(
+            "a stored byte of 2 is taken for stored",
+            Rules {
+                view_fits: |view| {
+                    let mut view = view.to_vec();
+                    for row in view.get_mut(4..).unwrap_or_default().chunks_exact_mut(103) {
+                        for flag in [34, 68, 102] {
+                            row[flag] = if row[flag] == 2 { 1 } else { row[flag] };
+                        }
+                    }
+                    inputs::view_fits(&view)
+                },
+                ..PLAIN
+            },
+        ),
+        eight(
             "unused places are not looked at",
             Rules {
                 view_fits: |view| {

@@ -3,8 +3,16 @@
 use crate::{variant, Variant};
 use keeper_reference::steps::{self, is_sync_peer, sync_peer};
 use keeper_reference::sync::{self, Stored};
-use keeper_reference::{Rules, PLAIN};
+use keeper_reference::{Rules, Run, PLAIN};
 use keeper_values::numbers::{outcomes, types};
+
+/// Announced ids are asked for, but not those of a type.
+fn announced_but(run: &mut Run, type_id: u8) -> steps::Outcome {
+    if run.inputs.type_id == type_id {
+        return Ok(outcomes::CONTINUE);
+    }
+    steps::announced(run)
+}
 
 pub fn variants() -> Vec<Variant> {
     let fault = |fault, rules| variant("rule 7", fault, rules);
@@ -61,12 +69,28 @@ pub fn variants() -> Vec<Variant> {
         fault(
             "announced transactions are passed over",
             Rules {
-                announced: |run| {
-                    if run.inputs.type_id == types::TRANSACTION {
-                        return Ok(outcomes::CONTINUE);
-                    }
-                    steps::announced(run)
-                },
+                announced: |run| announced_but(run, types::TRANSACTION),
+                ..PLAIN
+            },
+        ),
+        fault(
+            "announced block transactions are passed over",
+            Rules {
+                announced: |run| announced_but(run, types::BLOCK_TRANSACTIONS),
+                ..PLAIN
+            },
+        ),
+        fault(
+            "announced AD proofs are passed over",
+            Rules {
+                announced: |run| announced_but(run, types::AD_PROOFS),
+                ..PLAIN
+            },
+        ),
+        fault(
+            "announced extensions are passed over",
+            Rules {
+                announced: |run| announced_but(run, types::EXTENSION),
                 ..PLAIN
             },
         ),

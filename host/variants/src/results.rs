@@ -1,13 +1,26 @@
 //! Faults in refusals 10 and 11, in opening and in the question.
 
 use crate::{variant, Variant};
+use keeper_reference::entries::Before;
 use keeper_reference::{entries, steps, Refusal, Rules, PLAIN};
-use keeper_values::numbers::types;
+use keeper_values::numbers::{kinds, types};
+use keeper_values::State;
 
 pub fn variants() -> Vec<Variant> {
     let mut all = results();
     all.extend(questions());
     all
+}
+
+/// 10 by what was pending before a step of this kind, in place of what is pending after it.
+fn judged_before(kind: u8, before: &Before, state: &State) -> Result<(), Refusal> {
+    if before.kind != kind {
+        return entries::result_fits(before, state);
+    }
+    if before.pending + state.evicted.len() > 1_024 {
+        return Err(Refusal(10));
+    }
+    Ok(())
 }
 
 fn results() -> Vec<Variant> {
@@ -16,7 +29,7 @@ fn results() -> Vec<Variant> {
             "refusal 10",
             "1,024 together are refused",
             Rules {
-                result_fits: |state| match entries::result_fits(state) {
+                result_fits: |before, state| match entries::result_fits(before, state) {
                     Ok(()) if state.pending.len() + state.evicted.len() == 1_024 => {
                         Err(Refusal(10))
                     }
@@ -29,7 +42,7 @@ fn results() -> Vec<Variant> {
             "refusal 10",
             "pending alone is held to 1,024",
             Rules {
-                result_fits: |state| {
+                result_fits: |_, state| {
                     if state.pending.len() > 1_024 {
                         return Err(Refusal(10));
                     }
@@ -42,10 +55,34 @@ fn results() -> Vec<Variant> {
             },
         ),
         variant(
+            "refusal 10",
+            "in an eviction it is judged on what was pending before",
+            Rules {
+                result_fits: |before, state| judged_before(kinds::EVICTED, before, state),
+                ..PLAIN
+            },
+        ),
+        variant(
+            "refusal 10",
+            "in rule 3 it is judged on what was pending before",
+            Rules {
+                result_fits: |before, state| judged_before(kinds::ANNOUNCED, before, state),
+                ..PLAIN
+            },
+        ),
+        variant(
+            "refusal 10",
+            "in a reorg it is judged on what was pending before",
+            Rules {
+                result_fits: |before, state| judged_before(kinds::REORG, before, state),
+                ..PLAIN
+            },
+        ),
+        variant(
             "refusal 11",
             "a 256th stalled peer is refused",
             Rules {
-                result_fits: |state| match entries::result_fits(state) {
+                result_fits: |before, state| match entries::result_fits(before, state) {
                     Ok(()) if state.stalled.len() == 256 => Err(Refusal(11)),
                     other => other,
                 },

@@ -21,6 +21,14 @@ fn filled(count: u16, evicted: u16, mode: Mode) -> State {
     }
 }
 
+/// One id evicted so often: the question then answers with one pair.
+fn repeated(count: u16, evicted: usize) -> State {
+    State {
+        evicted: vec![id(1); evicted],
+        ..filled(count, 0, Mode::Syncing)
+    }
+}
+
 pub fn scripts() -> Vec<Script> {
     let mut scripts = Vec::new();
     for (count, evicted) in [
@@ -92,6 +100,52 @@ pub fn scripts() -> Vec<Script> {
             );
         }
     }
+    // 10 goes by what is left at the end: an id more is refused, one that only changes its list is not.
+    scripts.push(
+        Build::put(
+            "one more, a reorg and an eviction at 1,024",
+            repeated(1, 1_023),
+        )
+        .announce(6, 102, vec![id(2)])
+        .call(kinds::REORG, |c| {
+            c.height = 2;
+            c.peers = vec![4];
+            c.view = missing(1, 2);
+        })
+        .call(kinds::EVICTED, |c| c.ids = vec![id(2_000)])
+        .done(),
+    );
+    // What a step takes out makes room for what it puts in.
+    scripts.push(
+        Build::put("a pending id and a new one into 1,023", repeated(1, 1_022))
+            .announce(6, 102, vec![id(2_000), id(2)])
+            .done(),
+    );
+    scripts.push(
+        Build::put("a reorg frees two places of 1,024", repeated(2, 1_022))
+            .call(kinds::REORG, |c| {
+                c.height = 1;
+                c.peers = vec![4];
+                c.view = missing(1, 1);
+            })
+            .done(),
+    );
+    scripts.push(
+        Build::put("a lost peer's ids at 1,024", repeated(2, 1_022))
+            .call(kinds::LOST_PEER, |c| {
+                c.peer = 4;
+                c.peers = vec![5];
+            })
+            .done(),
+    );
+    scripts.push(
+        Build::put(
+            "an id evicted 1,000 times enters at 1,024",
+            repeated(24, 1_000),
+        )
+        .check(&[5])
+        .done(),
+    );
     scripts.push(
         Build::begun("1,024 evicted by steps", CASES, 4)
             .call(kinds::EVICTED, |c| c.ids = ids(1, 1_024))
