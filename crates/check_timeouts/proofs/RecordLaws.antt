@@ -1,14 +1,14 @@
 -- A record in a table: what the check reads of it, and what it writes anew.
 use Prim.Native.Nat.{ℕ, suc, _+_, _*_, _^_, _≤_, _<_}
 use mathlib.Core.Path.{_≡_, refl, sym, ap, _∙_}
-use mathlib.Core.Bool.{Bool, true, false}
+use mathlib.Core.Bool.{Bool, true, false, not}
 use mathlib.Core.List.{List, [], _++_, append-assoc, append-nil}
 use native.Mathlib.Omega.{arith}
 use native.Mathlib.Nat.{mul-le-mul-right}
 use native.Mathlib.Numerals.{add-one}
 use lib.ListN.{length, take, drop, length-append}
 use lib.Seq.{take-at, drop-at, length-take-le}
-use borrow.Author.Tests.{eq-eqb, ne-eqb}
+use borrow.Author.Tests.{eq-eqb, ne-eqb, not-true, not-false}
 use Rattle.fields.specs.Facts.{Bytes}
 use Rattle.fields.specs.Number.{fromBe, toBe}
 use Rattle.fields.specs.Entries.{entry}
@@ -38,34 +38,40 @@ module _ (i : ℕ) (t : List ℕ) where
 
 -- ---- the verdict, test by test, of what was read
 
-module _ (settings : Settings) (clock i : ℕ) (t : List ℕ) (st ty ck : ℕ) (es : st ≡ fromBe (take 8 (drop (i * recordSize + 42) t)))
-    (et : ty ≡ fromBe (take 2 (drop (i * recordSize + 40) t))) (ec : ck ≡ fromBe (take 4 (drop (i * recordSize + 50) t))) (x : Bool) (ex : x ≡ expired settings clock ty ck st) where
-  type-is : requestOf (entry recordSize i t) .typeId ≡ ty
-  type-is = sym (et ∙ type-read i t)
+-- what was read of record i, and whether it is expired
+pub record Seen (settings : Settings) (clock i : ℕ) (t : List ℕ) (stamp typeid checks : ℕ) (late : Bool) : Type 0 where
+  pub its-stamp : stamp ≡ fromBe (take 8 (drop (i * recordSize + 42) t))
+  pub its-type : typeid ≡ fromBe (take 2 (drop (i * recordSize + 40) t))
+  pub its-checks : checks ≡ fromBe (take 4 (drop (i * recordSize + 50) t))
+  pub is-late : late ≡ expired settings clock typeid checks stamp
 
-  checks-are : suc (requestOf (entry recordSize i t) .checks) ≡ ck + 1
-  checks-are = ap suc (sym (ec ∙ checks-read i t)) ∙ sym (add-one ck)
+module _ {settings : Settings} {clock i : ℕ} {t : List ℕ} {stamp typeid checks : ℕ} {late : Bool} (s : Seen settings clock i t stamp typeid checks late) where
+  type-is : requestOf (entry recordSize i t) .typeId ≡ typeid
+  type-is = sym (s .its-type ∙ type-read i t)
 
-  expired-is : expired settings clock (requestOf (entry recordSize i t) .typeId) (requestOf (entry recordSize i t) .checks) (requestOf (entry recordSize i t) .stamp) ≡ x
-  expired-is = rw (type-is, ← checks-read i t, ← ec, ← stamp-read i t, ← es) (sym ex)
+  checks-are : suc (requestOf (entry recordSize i t) .checks) ≡ checks + 1
+  checks-are = ap suc (sym (s .its-checks ∙ checks-read i t)) ∙ sym (add-one checks)
 
-  pub not-expired : x ≡ false → waiting ≡ verdict settings clock (requestOf (entry recordSize i t))
+  expired-is : let r = requestOf (entry recordSize i t) in expired settings clock (r .typeId) (r .checks) (r .stamp) ≡ late
+  expired-is = rw (type-is, ← checks-read i t, ← s .its-checks, ← stamp-read i t, ← s .its-stamp) (sym (s .is-late))
+
+  pub not-expired : not late ≡ true → waiting ≡ verdict settings clock (requestOf (entry recordSize i t))
   unfolding verdict
-  not-expired e = rw (expired-is, e)
+  not-expired e = rw (expired-is, not-true late e)
 
-  module _ (e : x ≡ true) where
-    pub is-forgotten : ty ≡ 2 → forgotten ≡ verdict settings clock (requestOf (entry recordSize i t))
+  module _ (e : not late ≡ false) where
+    pub is-forgotten : typeid ≡ 2 → forgotten ≡ verdict settings clock (requestOf (entry recordSize i t))
     unfolding verdict isTransaction
-    is-forgotten g = rw (expired-is, e, type-is, eq-eqb ty 2 g)
+    is-forgotten g = rw (expired-is, not-false late e, type-is, eq-eqb typeid 2 g)
 
-    module _ (ne : ty ≡ 2 → ⊥) (y : Bool) (ey : y ≡ givenUp settings (ck + 1)) where
-      pub is-abandoned : y ≡ true → abandoned ≡ verdict settings clock (requestOf (entry recordSize i t))
+    module _ (ne : typeid ≡ 2 → ⊥) {over : Bool} (given : over ≡ givenUp settings (checks + 1)) where
+      pub is-abandoned : over ≡ true → abandoned ≡ verdict settings clock (requestOf (entry recordSize i t))
       unfolding verdict isTransaction
-      is-abandoned g = rw (expired-is, e, type-is, ne-eqb ty 2 ne, checks-are, ← ey, g)
+      is-abandoned g = rw (expired-is, not-false late e, type-is, ne-eqb typeid 2 ne, checks-are, ← given, g)
 
-      pub is-retried : y ≡ false → retried ≡ verdict settings clock (requestOf (entry recordSize i t))
+      pub is-retried : over ≡ false → retried ≡ verdict settings clock (requestOf (entry recordSize i t))
       unfolding verdict isTransaction
-      is-retried g = rw (expired-is, e, type-is, ne-eqb ty 2 ne, checks-are, ← ey, g)
+      is-retried g = rw (expired-is, not-false late e, type-is, ne-eqb typeid 2 ne, checks-are, ← given, g)
 
 -- ---- what is written
 
