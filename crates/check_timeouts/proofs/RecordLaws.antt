@@ -203,22 +203,32 @@ retries-as i clock target t u v failed asked l f c k eu ef ea ev =
 
 -- ---- a record moved down, then retried there
 
-module _ (i place : ℕ) (t u : List ℕ) (h : place ≤ i) (l : i * recordSize + recordSize ≤ length t) (e : u ≡ overwritten (place * recordSize) (entry recordSize i t) t) where
+-- u is t with record i moved down to `place`
+pub record Moved (i place : ℕ) (t u : List ℕ) : Type 0 where
+  pub down : place ≤ i
+  pub inside : i * recordSize + recordSize ≤ length t
+  pub written : u ≡ overwritten (place * recordSize) (entry recordSize i t) t
+
+module _ {i place : ℕ} {t u : List ℕ} (m : Moved i place t u) where
   fits : place * recordSize + recordSize ≤ length t
-  fits = omega (arith, mul-le-mul-right recordSize h)
+  fits = omega (arith, mul-le-mul-right recordSize (m .down), m .inside)
 
   long : length (entry recordSize i t) ≡ recordSize
-  long = length-entry recordSize i t l
+  long = length-entry recordSize i t (m .inside)
 
   pub entry-moved : entry recordSize place u ≡ entry recordSize i t
-  entry-moved = entry-written place (entry recordSize i t) t u long fits e
+  entry-moved = entry-written place (entry recordSize i t) t u long fits (m .written)
 
-  pub moved-length : length u ≡ length t
-  moved-length = ap length e ∙ length-overwritten (place * recordSize) (entry recordSize i t) t (omega (arith, fits, long))
+  pub fits-moved : place * recordSize + recordSize ≤ length u
+  fits-moved =
+      let l : length u ≡ length t =
+      ap length (m .written) ∙ length-overwritten (place * recordSize) (entry recordSize i t) t (omega (arith, fits, long)) in
+      omega (arith, fits)
 
-  pub moved-retried : (clock : ℕ) (target : ℕ → ℕ) (v : List ℕ) → v ≡ overwritten (place * recordSize) (requestBytes (restartedTo clock target (requestOf (entry recordSize place u)))) u
+  pub moved-retried : (clock : ℕ) (target : ℕ → ℕ) {v : List ℕ}
+      → v ≡ overwritten (place * recordSize) (requestBytes (restartedTo clock target (requestOf (entry recordSize place u)))) u
       → v ≡ overwritten (place * recordSize) (requestBytes (restartedTo clock target (requestOf (entry recordSize i t)))) t
-  moved-retried clock target v q =
+  moved-retried clock target q =
       let new : List ℕ = requestBytes (restartedTo clock target (requestOf (entry recordSize i t))) in
       let n : length new ≡ recordSize = restarted-long clock target (entry recordSize i t) long in
-      q ∙ rw (entry-moved, e) (overwritten-again (place * recordSize) (entry recordSize i t) new t (omega (arith, long)) (omega (arith, fits, long)))
+      q ∙ rw (entry-moved, m .written) (overwritten-again (place * recordSize) (entry recordSize i t) new t (omega (arith, long)) (omega (arith, fits, long)))
