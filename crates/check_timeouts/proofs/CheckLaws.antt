@@ -29,6 +29,7 @@ use Rattle.check_timeouts.proofs.RetryLaws.{checkedTo, length-checked, 
 use Rattle.commands.proofs.RecordedLaws.{entry-bytes}
 use Rattle.check_timeouts.proofs.RecordLaws.{restarted-long}
 use Rattle.model.specs.Layout.{idSize, recordSize}
+use Rattle.model.specs.Protocol.{trackedLimit}
 
 abbrev pub none : Checked
 none = record { pending = 0; retried = 0; abandoned = 0; forgotten = 0 }
@@ -83,25 +84,35 @@ starts settings clock target count d places a b =
       checks = b;
     }
 
-module _ (settings : Settings) (clock : ℕ) (target : ℕ → ℕ) (count : ℕ) (d noted t places : List ℕ) (s : Checked) (i : ℕ)
+module _ {settings : Settings} {clock : ℕ} {target : ℕ → ℕ} {count : ℕ} {d noted t places : List ℕ} {s : Checked} {i : ℕ}
     (c : Checking settings clock target count d noted t places s i) (h : i < count) (l : count * recordSize ≤ length d) where
   in-d : i * recordSize + recordSize ≤ length d
   in-d = omega (arith, mul-le-mul-right recordSize h)
 
-  pub in-table : i * recordSize + recordSize ≤ length t
+  in-table : i * recordSize + recordSize ≤ length t
   in-table = omega (arith, in-d, c .long)
 
-  pub here : drop i (entries recordSize count d) ≡ entry recordSize i t ∷ drop (i + 1) (entries recordSize count d)
+  here : drop i (entries recordSize count d) ≡ entry recordSize i t ∷ drop (i + 1) (entries recordSize count d)
   unfolding entry
   here =
       let e : getD (entries recordSize count d) i [] ≡ entry recordSize i t = entries-at recordSize count i d h ∙ ap (take recordSize) (sym (c .rest)) in
       drop-cons (entries recordSize count d) i [] (rw length-entries h) ∙ rw (e, add-one)
 
-  pub stamp-here : requestOf (entry recordSize i t) .stamp ≤ clock
+  stamp-here : requestOf (entry recordSize i t) .stamp ≤ clock
   stamp-here = (rw here at (c .stamps)) .0
 
-  pub checks-here : requestOf (entry recordSize i t) .checks + 1 < 2 ^ 32
+  checks-here : requestOf (entry recordSize i t) .checks + 1 < 2 ^ 32
   checks-here = (rw here at (c .checks)) .0
+
+  -- what `turn` asks
+  pub turn-asks : count ≤ trackedLimit → count ≤ length noted
+      → ((i * recordSize + recordSize ≤ length t) × ((i < length places) × (i < trackedLimit)))
+      × (((s .pending ≤ i) × ((s .retried ≤ i) × ((s .abandoned ≤ i) × (s .forgotten ≤ i))))
+      × ((requestOf (entry recordSize i t) .stamp ≤ clock) × (requestOf (entry recordSize i t) .checks + 1 < 2 ^ 32)))
+  turn-asks few room = (
+    (in-table, (omega (arith, c .places-long), omega arith)),
+    ((c .pending-le, (c .retried-le, (c .abandoned-le, c .forgotten-le))), (stamp-here, checks-here)),
+  )
 
   rest-next : drop ((i + 1) * recordSize) t ≡ drop ((i + 1) * recordSize) d
   rest-next =
@@ -216,19 +227,22 @@ module _ (settings : Settings) (clock : ℕ) (target : ℕ → ℕ) (count : ℕ
     }
 
     -- by what the code has in its hands after the turn
-    pub turned-as : (made : Checked) (t′ places′ : List ℕ) → made ≡ countsAfter (verdict settings clock r) s → t′ ≡ tableAfter clock target (verdict settings clock r) i (s .pending) t
-        → places′ ≡ placesAfter (verdict settings clock r) (s .retried) (s .pending) places → Checking settings clock target count d noted t′ places′ made (i + 1)
-    turned-as made t′ places′ a b e = rw (a, b, e) (turned (verdict settings clock r) refl)
+    pub turned-as : {made : Checked} {t′ places′ : List ℕ}
+        → (made ≡ countsAfter (verdict settings clock r) s)
+        × ((t′ ≡ tableAfter clock target (verdict settings clock r) i (s .pending) t)
+        × (places′ ≡ placesAfter (verdict settings clock r) (s .retried) (s .pending) places))
+        → Checking settings clock target count d noted t′ places′ made (i + 1)
+    turned-as e = rw (e .0, e .1 .0, e .1 .1) (turned (verdict settings clock r) refl)
 
-pub ends : (settings : Settings) (clock : ℕ) (target : ℕ → ℕ) (count : ℕ) (d noted t y places : List ℕ) (s : Checked) (i : ℕ) (gate : Bool) (peers : List ℕ)
+pub ends : {settings : Settings} {clock : ℕ} {target : ℕ → ℕ} {count : ℕ} {d noted t y places : List ℕ} {s : Checked} {i : ℕ}
     → Checking settings clock target count d noted t places s i → count ≤ i → count * recordSize ≤ length d → rising idSize (entries recordSize count d) ≡ true
-    → ((failed : ℕ) → target failed ≡ cond gate (retryTarget peers failed) failed)
+    → (gate : Bool) (peers : List ℕ) → ((failed : ℕ) → target failed ≡ cond gate (retryTarget peers failed) failed)
     → y ≡ overwritten (s .pending * recordSize) (zeros ((count - s .pending) * recordSize)) t
     → (s ≡ checkedAs settings clock (requestsIn count d))
     × ((y ≡ holding count (pendingAfterCheck gate settings clock peers (requestsIn count d)) d)
     × (take (s .retried) places ≡ retriedPlaces settings clock (requestsIn count d) 0))
 unfolding checkedAs holding
-ends settings clock target count d noted t y places s i gate peers c h l rise aims q =
+ends {settings} {clock} {target} {count} {d} {noted} {t} {y} {places} {s} {i} c h l rise gate peers aims q =
     let rs : List Request = requestsIn count d in
     let e : i ≡ count = omega (arith, c .i-le) in
     let z : drop i (entries recordSize count d) ≡ [] = drop-of-length-le (entries recordSize count d) {i = i} (rw length-entries h) in
