@@ -49,10 +49,10 @@ requests-set count i x t o h l lx e =
     let w : Wide recordSize new = all-set (λ (y : List ℕ). length y ≡ recordSize) (entries recordSize count t) i x lx (entries-wide recordSize count t l) in
     ap (λ (y : List ℕ). requestsIn count y) (e ∙ replaced-set recordSize count i t h x lx) ∙ rw (rw n at (entries-replaced recordSize count new t w)) (map-set (entries recordSize count t) i x)
 
-pub marked-as : (i peer : ℕ) (t o : List ℕ) → Bytes t → peer < 2 ^ 64 → o ≡ overwritten (i * recordSize) (requestBytes (withPeer peer (requestOf (entry recordSize i t)))) t
+pub marked-as : (i peer : ℕ) (t : List ℕ) {o : List ℕ} → Bytes t → peer < 2 ^ 64 → o ≡ overwritten (i * recordSize) (requestBytes (withPeer peer (requestOf (entry recordSize i t)))) t
     → (count : ℕ) → i < count → count * recordSize ≤ length t → rising idSize (entries recordSize count t) ≡ true
     → requestsIn count o ≡ markRetried peer (requestOf (entry recordSize i t) .id) (requestsIn count t)
-marked-as i peer t o f p e count h l rise =
+marked-as i peer t {o} f p e count h l rise =
     let x : List ℕ = entry recordSize i t in
     let lx : length x ≡ recordSize = length-entry recordSize i t (omega (arith, mul-le-mul-right recordSize h)) in
     let at : getD (requestsIn count t) i (requestOf []) ≡ requestOf x = List·getD-map requestOf (entries recordSize count t) i [] ∙ ap requestOf (entries-at recordSize count i t h) in

@@ -157,10 +157,10 @@ two-fields width i a b x y t o₁ o₂ hx hy l e₁ e₂ =
     e₂ ∙ field-again width i b y one t o₁ s₁ l₁ hy l
 
 -- what `restart` writes
-pub restarts : (i clock : ℕ) (t o₁ o₂ : List ℕ) (checks : ℕ) → i * recordSize + recordSize ≤ length t → Bytes t → checks ≡ fromBe (take 4 (drop (i * recordSize + 50) t))
+pub restarts : (i clock : ℕ) (t : List ℕ) {o₁ o₂ : List ℕ} {checks : ℕ} → i * recordSize + recordSize ≤ length t → Bytes t → checks ≡ fromBe (take 4 (drop (i * recordSize + 50) t))
     → o₁ ≡ overwritten (i * recordSize + 42) (toBe 8 clock) t → o₂ ≡ overwritten (i * recordSize + 50) (toBe 4 (checks + 1)) o₁
     → o₂ ≡ overwritten (i * recordSize) (requestBytes (restarted clock (requestOf (entry recordSize i t)))) t
-restarts i clock t o₁ o₂ checks l f ec e₁ e₂ =
+restarts i clock t {o₁} {o₂} {checks} l f ec e₁ e₂ =
     let e : List ℕ = entry recordSize i t in
     let k : checks + 1 ≡ suc (requestOf e .checks) = add-one checks ∙ ap suc (ec ∙ checks-read i t) in
     let b : o₂ ≡ overwritten (i * recordSize + 50) (toBe 4 (suc (requestOf e .checks))) o₁ = e₂ ∙ ap (λ (n : ℕ). overwritten (i * recordSize + 50) (toBe 4 n) o₁) k in
@@ -168,10 +168,10 @@ restarts i clock t o₁ o₂ checks l f ec e₁ e₂ =
     ∙ ap (λ (x : List ℕ). overwritten (i * recordSize) x t) (record-restarted e (length-entry recordSize i t l) (entry-bytes recordSize i t f) clock)
 
 -- what `mark_retried` writes
-pub marks : (i peer : ℕ) (t o : List ℕ) → i * recordSize + recordSize ≤ length t → Bytes t → o ≡ overwritten (i * recordSize + idSize) (toBe 8 peer) t
+pub marks : (i peer : ℕ) (t : List ℕ) {o : List ℕ} → i * recordSize + recordSize ≤ length t → Bytes t → o ≡ overwritten (i * recordSize + idSize) (toBe 8 peer) t
     → o ≡ overwritten (i * recordSize) (requestBytes (withPeer peer (requestOf (entry recordSize i t)))) t
 unfolding entry
-marks i peer t o l f e =
+marks i peer t l f e =
     e ∙ overwritten-within (i * recordSize) recordSize 32 (toBe 8 peer) t (omega arith) l
     ∙ ap (λ (x : List ℕ). overwritten (i * recordSize) x t) (record-asked (entry recordSize i t) (length-entry recordSize i t l) (entry-bytes recordSize i t f) peer)
 
@@ -184,13 +184,13 @@ unfolding restartedTo restarted requestOf
 restarted-long clock target e l = length-request (restartedTo clock target (requestOf e)) (id-long e l)
 
 -- what `retry` writes
-pub retries-as : (i clock : ℕ) (target : ℕ → ℕ) (t u v : List ℕ) (failed asked : ℕ) → i * recordSize + recordSize ≤ length t → Bytes t → clock < 2 ^ 64
+pub retries-as : (i clock : ℕ) (target : ℕ → ℕ) (t : List ℕ) {u v : List ℕ} {failed asked : ℕ} → i * recordSize + recordSize ≤ length t → Bytes t → clock < 2 ^ 64
     → requestOf (entry recordSize i t) .checks + 1 < 2 ^ 32 → u ≡ overwritten (i * recordSize) (requestBytes (restarted clock (requestOf (entry recordSize i t)))) t
     → failed ≡ fromBe (take 8 (drop (i * recordSize + idSize) u)) → asked ≡ target failed
     → v ≡ overwritten (i * recordSize) (requestBytes (withPeer asked (requestOf (entry recordSize i u)))) u
     → v ≡ overwritten (i * recordSize) (requestBytes (restartedTo clock target (requestOf (entry recordSize i t)))) t
 unfolding restartedTo restarted
-retries-as i clock target t u v failed asked l f c k eu ef ea ev =
+retries-as i clock target t {u} {v} {failed} {asked} l f c k eu ef ea ev =
     let e : List ℕ = entry recordSize i t in
     let le : length e ≡ recordSize = length-entry recordSize i t l in
     let one : List ℕ = requestBytes (restarted clock (requestOf e)) in

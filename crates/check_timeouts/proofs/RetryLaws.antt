@@ -35,11 +35,11 @@ aim-nobody [] true e failed = refl
 aim-nobody [] false e failed = refl
 aim-nobody (peer ∷ peers) gate e failed = let z : _≡_ {A = ℕ} 0 1 = cc in absurd (lt-irrefl 0 (omega arith))
 
-pub aim-other : (peers : List ℕ) (gate : Bool) (first other : ℕ) → gate ≡ true → some first ≡ firstOf peers → other ≡ retryTarget peers first
+pub aim-other : (peers : List ℕ) (gate : Bool) {first other : ℕ} → gate ≡ true → some first ≡ firstOf peers → other ≡ retryTarget peers first
     → (failed : ℕ) → aimedAt (Other first other) failed ≡ cond gate (retryTarget peers failed) failed
 unfolding retryTarget
-aim-other [] gate first other g e o failed = let z : _≡_ {A = ℕ} 0 1 = cc in absurd (lt-irrefl 0 (omega arith))
-aim-other (peer ∷ peers) gate first other g e o failed =
+aim-other [] gate g e o failed = let z : _≡_ {A = ℕ} 0 1 = cc in absurd (lt-irrefl 0 (omega arith))
+aim-other (peer ∷ peers) gate {first} g e o failed =
     let s : first ≡ peer = cc in
     rw (g, o, s, eq-eqb peer peer refl) (go (eqb failed peer) refl)
   where
