@@ -28,9 +28,10 @@ module _ (pairs : List ℕ) where
   unfolding placesByType
   length-places = length-sorted (keyBelow pairSize 0 1 pairs) (numbersFrom 0 (length pairs / pairSize)) ∙ length-numbers 0 (length pairs / pairSize)
 
-  pub sorted-places : (numbers places : List ℕ) (n : ℕ) → n ≡ length pairs / pairSize → numbers ≡ numbersFrom 0 n → places ≡ sorted (keyBelow pairSize 0 1 pairs) numbers → places ≡ placesByType pairs
+  pub sorted-places : {numbers places : List ℕ} {n : ℕ} → n ≡ length pairs / pairSize → numbers ≡ numbersFrom 0 n
+      → places ≡ sorted (keyBelow pairSize 0 1 pairs) numbers → places ≡ placesByType pairs
   unfolding placesByType
-  sorted-places numbers places n en e₁ e₂ = e₂ ∙ rw (e₁, en)
+  sorted-places en e₁ e₂ = e₂ ∙ rw (e₁, en)
 
 module _ (pairs places : List ℕ) (e : places ≡ placesByType pairs) where
   pub sorted-within : All (Within pairs) places
