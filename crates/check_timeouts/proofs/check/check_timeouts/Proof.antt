@@ -97,7 +97,8 @@ returns c =
     let past : tie.After-loop Inv-loop μ-loop = search in
     let done : tie.After-clear Inv-loop μ-loop = search in
     let a = start entry .args in
-    ends (l .loop .inv) (past .loop-test .left) (fits entry) (start entry .pre .1 .0) (a .gate) (peersIn (a .peers .now)) (aimed .retry-aim .ensures) (done .clear .ensures)
+    ends (l .loop .inv) (past .loop-test .left) (fits entry) (start entry .pre .1 .0) (a .gate) (peersIn (a .peers .now)) (aimed .retry-aim .ensures)
+    (done .clear .ensures)
 
 pub check-timeouts-spec : {M : Type 1} → statement M
 check-timeouts-spec =

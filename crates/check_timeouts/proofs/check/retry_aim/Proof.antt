@@ -4,7 +4,6 @@ use Rattle.model.specs.Lists.{peersIn}
 use Rattle.peers.specs.Peers.{listedPeer}
 use Rattle.check_timeouts.proofs.RetryLaws.{aim-shut, aim-other, aim-nobody}
 use borrow.Author.Needs.{needs}
-use Prim.Native.Nat.{_-_}
 use mathlib.Core.Path.{sym, ap, _∙_}
 use Rattle.check_timeouts.proofs.check.retry_aim.Statement.{statement}
 use Rattle.check_timeouts.proofs.check.retry_aim.Tie as tie

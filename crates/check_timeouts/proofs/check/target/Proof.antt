@@ -1,7 +1,6 @@
 -- By the aim, and whether its first peer failed.
 use borrow.Author.Tests.{eq-eqb, ne-eqb}
 use borrow.Author.Needs.{needs}
-use Prim.Native.Nat.{_-_}
 use Rattle.check_timeouts.proofs.check.target.Statement.{statement}
 use Rattle.check_timeouts.proofs.check.target.Tie as tie
 

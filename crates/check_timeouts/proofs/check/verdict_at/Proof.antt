@@ -3,7 +3,6 @@ use Rattle.settings.specs.Values.{settingsOf}
 use Rattle.check_timeouts.proofs.RecordLaws.{Seen, stamp-read, checks-read, not-expired, is-forgotten, is-abandoned, is-retried}
 use borrow.Author.Needs.{needs}
 use native.Mathlib.Omega.{arith}
-use Prim.Native.Nat.{ℕ, _-_}
 use mathlib.Core.Path.{_∙_}
 use Rattle.check_timeouts.proofs.check.verdict_at.Statement.{statement}
 use Rattle.check_timeouts.proofs.check.verdict_at.Tie as tie
@@ -25,7 +24,8 @@ module _ (c : tie.After-expired) where
 
   seen :
       let a = start .args in
-      Seen (settingsOf (a .settings)) (a .clock) (a .i) (a .table .now) (stamp .read-u64 .result) (typeid .read-u16 .result) (checks .read-u32 .result) (c .expired .result)
+      Seen (settingsOf (a .settings)) (a .clock) (a .i) (a .table .now) (stamp .read-u64 .result) (typeid .read-u16 .result) (checks .read-u32 .result)
+      (c .expired .result)
   seen = record {
     its-stamp = stamp .read-u64 .ensures;
     its-type = typeid .read-u16 .ensures;
