@@ -7,7 +7,7 @@ use native.Mathlib.Omega.{arith}
 use lib.ListN.{length, take, drop, getD, drop-of-length-le}
 use Rattle.fields.specs.Facts.{Bytes, All}
 use Rattle.fields.specs.Entries.{entries, rising}
-use Rattle.model.specs.Requests.{Pair, Act, ask, perform, Done}
+use Rattle.model.specs.Requests.{Act, ask, perform, Done}
 use Rattle.model.specs.Lists.{idsIn, pairsIn, pairsFit, entriesOf}
 use Rattle.commands.specs.Pending.{requestsIn}
 use Rattle.mark_requested.specs.Marking.{heldWithin}
@@ -67,7 +67,8 @@ module _ {r : Run} (ready : Ready r) where
   pub within : All (Within r.pairs) r.places
   within = sorted-within r.pairs r.places (ready .byType)
 
-  pub ask-starts : Bytes r.table → Bytes r.pairs → r.peer < 2 ^ 64 → Asking r r.table r.rest r.out (record { count = r.count; at = r.at; batch = r.batch }) 0
+  pub ask-starts : Bytes r.table → Bytes r.pairs → r.peer < 2 ^ 64
+      → Asking r r.table r.rest r.out (record { count = r.count; at = r.at; batch = r.batch }) 0
   ask-starts f fp hp =
       let w = asks-weight r.peer (pairsIn r.stored) r.pairs in
       let c = asks-count r.peer (pairsIn r.stored) r.pairs in
@@ -86,8 +87,7 @@ module _ {r : Run} (ready : Ready r) where
     pub ask-ends : length r.places ≤ i → Asked r (Finished (record { count = done .count; at = done .at; batch = done .batch })) table out
     unfolding asksOf
     ask-ends h =
-        let e = perform-ends r.gate r.clock r.most r.count r.at r.batch (asks r) r.table r.out (asksFrom r i) table out (done .count) (done .at) (done .batch) (s .acts)
-        (none (drop-of-length-le r.places {i = i} h)) in
+        let e = perform-ends (s .acts) (none (drop-of-length-le r.places {i = i} h)) in
         record { answered = e .0; left = e .1 .0; written = e .1 .1 }
       where
         none : drop i r.places ≡ [] → asksFrom r i ≡ []
@@ -104,7 +104,8 @@ module _ {r : Run} (ready : Ready r) where
       goes-on = run-within r.peer (pairsIn r.stored) r.pairs r.places r.ids within (ready .gathered) i next typeId (turn .here) (turn .typed) (turn .ends) .0
 
       pub stays-within : next ≤ length r.places
-      stays-within = run-within r.peer (pairsIn r.stored) r.pairs r.places r.ids within (ready .gathered) i next typeId (turn .here) (turn .typed) (turn .ends) .1
+      stays-within =
+          run-within r.peer (pairsIn r.stored) r.pairs r.places r.ids within (ready .gathered) i next typeId (turn .here) (turn .typed) (turn .ends) .1
 
       pub places-few : length r.places ≤ trackedLimit
       places-few = omega (arith, sorted-long r.pairs r.places (ready .byType), ready .few)
@@ -114,15 +115,12 @@ module _ {r : Run} (ready : Ready r) where
 
       part-room : done .at + length (part r i next) / idSize * commandSize ≤ length out
       part-room =
-          let a = act-room r.gate r.clock r.most r.count r.at r.batch (asks r) r.table r.out (asksFrom r i) table out (done .count) (done .at) (done .batch) (s .acts)
-          (askOf r i typeId next) (asksFrom r next) asked-here (ready .fits) in
+          let a = act-room (s .acts) asked-here (ready .fits) in
           let l = write.length-ids (part r i next) in
           omega arith
 
       part-number : done .batch + 1 < 65536
-      part-number =
-          act-number r.gate r.clock r.most r.count r.at r.batch (asks r) r.table r.out (asksFrom r i) table out (done .count) (done .at) (done .batch) (s .acts)
-          (askOf r i typeId next) (asksFrom r next) asked-here (ready .fits)
+      part-number = act-number (s .acts) asked-here (ready .fits)
 
       pub request-asks : RequestAsks r (part r i next) table rest out done
       request-asks =
@@ -139,21 +137,19 @@ module _ {r : Run} (ready : Ready r) where
         pub ask-full : {table″ out″ : List ℕ} → answer ≡ Full → Asked r Full table″ out″
         ask-full full =
             let q : Full ≡ requestedAs r.most (done .at) (done .batch) did = rw full at (says .0) in
-            let m = perform-full r.gate r.clock r.most r.count r.at r.batch (asks r) r.table r.out (asksFrom r i) table out (done .count) (done .at) (done .batch) (s .acts)
-            (askOf r i typeId next) (asksFrom r next) asked-here (ready .fits) q in
+            let m = perform-full (s .acts) asked-here (ready .fits) q in
             record {
               answered = sym (many-requested r.most r.at r.batch (askedOf r) m);
               left = λ y. absurd (false≢true (sym m ∙ y));
               written = λ y. absurd (false≢true (sym m ∙ y));
             }
 
-        pub ask-turn : {rest′ : List ℕ} (w : Written) → answer ≡ Finished w → r.clock < 2 ^ 64 → Bytes table′ → length rest′ ≡ length rest → Asking r table′ rest′ out′ w next
+        pub ask-turn : {rest′ : List ℕ} (w : Written) → answer ≡ Finished w → r.clock < 2 ^ 64 → Bytes table′ → length rest′ ≡ length rest
+            → Asking r table′ rest′ out′ w next
         ask-turn w is hc f′ lr =
             let er : Finished w ≡ requestedAs r.most (done .at) (done .batch) did = rw is at (says .0) in
             record {
               i-le = stays-within;
               rest-long = lr ∙ s .rest-long;
-              acts =
-                  perform-turn r.gate r.clock r.most r.count r.at r.batch (asks r) r.table r.out (asksFrom r i) table out (done .count) (done .at) (done .batch) (s .acts)
-                  (askOf r i typeId next) (asksFrom r next) asked-here (ready .fits) hc w table′ out′ er (says .1 .0) (says .1 .1) f′;
+              acts = perform-turn (s .acts) asked-here (ready .fits) hc w er (says .1 .0) (says .1 .1) f′;
             }

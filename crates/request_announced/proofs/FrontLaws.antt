@@ -44,7 +44,8 @@ module _ (pairs places : List ℕ) (e : places ≡ placesByType pairs) where
   front-places rest = take-at places rest (length pairs / pairSize) sorted-long ∙ e
 
   pub front-ids-at : (ids : List ℕ) → take (length places * idSize) ids ≡ joined (idsAt pairs places)
-      → (take (length pairs / pairSize * idSize) ids ≡ joined (idsAt pairs places)) × (length (take (length pairs / pairSize * idSize) ids) ≡ length pairs / pairSize * idSize)
+      → (take (length pairs / pairSize * idSize) ids ≡ joined (idsAt pairs places))
+      × (length (take (length pairs / pairSize * idSize) ids) ≡ length pairs / pairSize * idSize)
   front-ids-at ids f =
       let q : take (length pairs / pairSize * idSize) ids ≡ joined (idsAt pairs places) = rw sorted-long at f in
       (q, ap length q ∙ length-ids pairs places sorted-within ∙ rw sorted-long)

@@ -54,7 +54,8 @@ module _ {pairs places : List ℕ} {first end : ℕ} (r : Running pairs places f
       omega (arith, r .whole)
 
   -- by the next type and that of the run
-  module _ (h : end < length places) {next typeid : ℕ} (en : next ≡ typeAt pairs (getD places end 0)) (et : typeid ≡ typeAt pairs (getD places first 0)) where
+  module _ (h : end < length places) {next typeid : ℕ} (en : next ≡ typeAt pairs (getD places end 0))
+      (et : typeid ≡ typeAt pairs (getD places first 0)) where
     here : pairsAt pairs (drop end places) ≡ entry pairSize (getD places end 0) pairs ∷ pairsAt pairs (drop (end + 1) places)
     here = next-mapped (λ (place : ℕ). entry pairSize place pairs) places end h
 
@@ -91,6 +92,7 @@ module _ (pairs : List ℕ) where
   pub length-ids : (places : List ℕ) → All (Within pairs) places → length (joined (idsAt pairs places)) ≡ length places * idSize
   length-ids places w = rw (ids-taken places) at (length-gathered pairSize 1 pairs (omega arith) places w)
 
-  pub ids-in-front : (places d : List ℕ) {ids : List ℕ} → All (Within pairs) places → ids ≡ overwritten 0 (joined (gathered pairSize 1 pairs places)) d
+  pub ids-in-front : (places d : List ℕ) {ids : List ℕ} → All (Within pairs) places
+      → ids ≡ overwritten 0 (joined (gathered pairSize 1 pairs places)) d
       → take (length places * idSize) ids ≡ joined (idsAt pairs places)
   ids-in-front places d {ids} w e = gathered-front pairSize 1 pairs (omega arith) places d ids w e ∙ ap joined (ids-taken places)

@@ -36,15 +36,19 @@ use Rattle.commands.proofs.RecordedLaws.{well-ids}
 use Rattle.commands.proofs.HoldingLaws.{length-requests, holding-same}
 use Rattle.request_announced.specs.Requested.{requestedAs, sentWithin}
 use Rattle.request_announced.specs.declared.request.Requested.{Requested}
+use Rattle.request_announced.specs.declared.request.Written.{Written}
 use Rattle.request_announced.specs.declared.request.Requested.the-variants.{Done, Full}
 use Rattle.model.specs.Layout.{commandSize, idListSize, idSize, recordSize}
 
 -- ---- the answer, by how many would be pending
 
+-- what is answered of acts for which there is room
+abbrev pub writtenTo : ℕ → ℕ → model.Done → Written
+writtenTo at batch done =
+    record { count = length (done .pending); at = at + length (sentBytes batch (done .sendings)); batch = batch + length (done .sendings) }
+
 module _ (most at batch : ℕ) (done : model.Done) where
-  pub few-requested : leb (length (done .pending)) most ≡ true
-      → requestedAs most at batch done
-      ≡ Done (record { count = length (done .pending); at = at + length (sentBytes batch (done .sendings)); batch = batch + length (done .sendings) })
+  pub few-requested : leb (length (done .pending)) most ≡ true → requestedAs most at batch done ≡ Done (writtenTo at batch done)
   unfolding requestedAs
   few-requested h = rw h
 
@@ -217,7 +221,8 @@ module _ {stored : List ℕ} {g : Given} {d rest : List ℕ} {n : ℕ} (e : Ente
 -- ---- marked, then sent
 
 sent-one : (batch typeId peer : ℕ) (ids : List Id) → 0 < length ids
-    → (sentBytes batch (requestOf typeId peer ids) ≡ allCommandBytes (commandsOf batch (request typeId peer ids))) × (length (requestOf typeId peer ids) ≡ 1)
+    → (sentBytes batch (requestOf typeId peer ids) ≡ allCommandBytes (commandsOf batch (request typeId peer ids)))
+    × (length (requestOf typeId peer ids) ≡ 1)
 unfolding sentBytes
 sent-one batch typeId peer [] h = absurd (omega arith)
 sent-one batch typeId peer (id ∷ ids) h = (rw append-nil, refl)

@@ -27,12 +27,14 @@ use Rattle.model.specs.Layout.{idSize, pairSize}
 
 -- ---- stored
 
-pair-same : (e : List ℕ) (typeId : ℕ) (id : List ℕ) → length e ≡ pairSize → length id ≡ idSize → eqb (getD e 0 0) typeId && same (drop 1 e) id ≡ same (take (suc (length id)) e) (typeId ∷ id)
+pair-same : (e : List ℕ) (typeId : ℕ) (id : List ℕ) → length e ≡ pairSize → length id ≡ idSize
+    → eqb (getD e 0 0) typeId && same (drop 1 e) id ≡ same (take (suc (length id)) e) (typeId ∷ id)
 unfolding same
 pair-same [] typeId id l h = absurd (omega arith)
 pair-same (b ∷ e) typeId id l h = rw (take-all (length id) e (omega arith))
 
-pub stored-key : (typeId : ℕ) (id : List ℕ) (es : List (List ℕ)) → length id ≡ idSize → Wide pairSize es → isStored (map pairOf es) typeId id ≡ hasKey (typeId ∷ id) es
+pub stored-key : (typeId : ℕ) (id : List ℕ) (es : List (List ℕ)) → length id ≡ idSize → Wide pairSize es
+    → isStored (map pairOf es) typeId id ≡ hasKey (typeId ∷ id) es
 unfolding isStored pairOf
 stored-key typeId id [] l w = refl
 stored-key typeId id (e ∷ es) l w = rw (pair-same e typeId id (w .0) l, stored-key typeId id es l (w .1))
@@ -49,7 +51,8 @@ module _ (stored : List ℕ) (fit : pairsFit stored ≡ true) where
       let wide : Wide pairSize (entries pairSize (length stored / pairSize) stored) = entries-wide pairSize (length stored / pairSize) stored (omega arith) in
       rw e (sym (stored-key typeId id (entries pairSize (length stored / pairSize) stored) l wide))
 
-pub pair-key : (typeId : ℕ) (id : List ℕ) {key : List ℕ} → length id ≡ idSize → key ≡ overwritten 1 id (set (replicate pairSize 0) 0 typeId) → key ≡ typeId ∷ id
+pub pair-key : (typeId : ℕ) (id : List ℕ) {key : List ℕ} → length id ≡ idSize → key ≡ overwritten 1 id (set (replicate pairSize 0) 0 typeId)
+    → key ≡ typeId ∷ id
 unfolding overwritten
 pair-key typeId id h e =
     let n : 1 + length id ≡ pairSize = omega arith in
@@ -62,7 +65,8 @@ module _ {A : Type 0} (p q : A → Bool) where
   kept-both [] = refl
   kept-both (x ∷ xs) = go (q x) (kept-both xs)
     where
-      go : (b : Bool) → kept p (kept q xs) ≡ kept (λ (y : A). q y && p y) xs → kept p (consIf b x (kept q xs)) ≡ consIf (b && p x) x (kept (λ (y : A). q y && p y) xs)
+      go : (b : Bool) → kept p (kept q xs) ≡ kept (λ (y : A). q y && p y) xs
+          → kept p (consIf b x (kept q xs)) ≡ consIf (b && p x) x (kept (λ (y : A). q y && p y) xs)
       go true e = ap (consIf (p x) x) e
       go false e = e
 
@@ -70,7 +74,8 @@ module _ {A : Type 0} (p q : A → Bool) where
 abbrev pub isWanted : List Request → ℕ → List Pair → Id → Bool
 isWanted pending typeId pairs id = not (isPending id pending) && not (isStored pairs typeId id)
 
-pub wanted-kept : (pending : List Request) (typeId : ℕ) (pairs : List Pair) (ids : List Id) → wanted pending typeId pairs ids ≡ kept (isWanted pending typeId pairs) ids
+pub wanted-kept : (pending : List Request) (typeId : ℕ) (pairs : List Pair) (ids : List Id)
+    → wanted pending typeId pairs ids ≡ kept (isWanted pending typeId pairs) ids
 unfolding wanted
 wanted-kept pending typeId pairs ids = kept-both (λ (id : Id). not (isStored pairs typeId id)) (λ (id : Id). not (isPending id pending)) ids
 
@@ -88,7 +93,8 @@ pub record Wanting (test : List ℕ → Bool) (m : ℕ) (ids d rest : List ℕ) 
 pub want-starts : (test : List ℕ → Bool) (m : ℕ) (ids d : List ℕ) → Wanting test m ids d d 0 0
 want-starts test m ids d = record { i-le = omega arith; c-le = omega arith; long = refl; count = omega arith; bytes = refl }
 
-module _ {test : List ℕ → Bool} {m : ℕ} {ids d rest : List ℕ} {c i : ℕ} (s : Wanting test m ids d rest c i) (h : i < m) (li : m * idSize ≤ length ids) where
+module _ {test : List ℕ → Bool} {m : ℕ} {ids d rest : List ℕ} {c i : ℕ} (s : Wanting test m ids d rest c i) (h : i < m)
+    (li : m * idSize ≤ length ids) where
   -- the id at i, as the code takes it
   abbrev part : List ℕ
   part = take (i * idSize + idSize - i * idSize) (drop (i * idSize) ids)
@@ -103,8 +109,8 @@ module _ {test : List ℕ → Bool} {m : ℕ} {ids d rest : List ℕ} {c i : ℕ
   pub part-room : m * idSize ≤ length d → c * idSize + length part ≤ length rest
   part-room ld = rw part-long (omega (arith, s .c-le, s .long))
 
-module _ {test : List ℕ → Bool} {m : ℕ} {ids d rest : List ℕ} {c i : ℕ} (s : Wanting test m ids d rest c i) (h : i < m) (li : m * idSize ≤ length ids)
-    (ld : m * idSize ≤ length d) {b : Bool} (eb : b ≡ test (part s h li)) where
+module _ {test : List ℕ → Bool} {m : ℕ} {ids d rest : List ℕ} {c i : ℕ} (s : Wanting test m ids d rest c i) (h : i < m)
+    (li : m * idSize ≤ length ids) (ld : m * idSize ≤ length d) {b : Bool} (eb : b ≡ test (part s h li)) where
   tested : test (entry idSize i ids) ≡ b
   tested = ap test (sym (part-entry s h li)) ∙ sym eb
 
@@ -122,7 +128,8 @@ module _ {test : List ℕ → Bool} {m : ℕ} {ids d rest : List ℕ} {c i : ℕ
         bytes = rw (this, t) at (s .bytes);
       })
 
-  pub want-take : b ≡ true → {rest′ : List ℕ} {c′ : ℕ} → rest′ ≡ overwritten (c * idSize) (part s h li) rest → c′ ≡ c + 1 → Wanting test m ids d rest′ c′ (i + 1)
+  pub want-take : b ≡ true → {rest′ : List ℕ} {c′ : ℕ} → rest′ ≡ overwritten (c * idSize) (part s h li) rest → c′ ≡ c + 1
+      → Wanting test m ids d rest′ c′ (i + 1)
   want-take f {rest′} e g =
       let t : test (entry idSize i ids) ≡ true = tested ∙ f in
       let x : List ℕ = entry idSize i ids in
@@ -132,7 +139,9 @@ module _ {test : List ℕ → Bool} {m : ℕ} {ids d rest : List ℕ} {c i : ℕ
       let k : length (drop (i + 1) (entries idSize m ids)) ≡ m - (i + 1) = length-drop (i + 1) (entries idSize m ids) ∙ rw length-entries in
       omega (arith, length-kept test (drop (i + 1) (entries idSize m ids))) in
       let lj : length (joined others) ≡ length others * idSize =
-      length-joined 32 others (kept-wide 32 test (drop (i + 1) (entries idSize m ids)) (all-drop (λ (y : List ℕ). length y ≡ idSize) (i + 1) (entries idSize m ids) (entries-wide 32 m ids li))) in
+      let wide : Wide idSize (drop (i + 1) (entries idSize m ids)) =
+      all-drop (λ (y : List ℕ). length y ≡ idSize) (i + 1) (entries idSize m ids) (entries-wide 32 m ids li) in
+      length-joined 32 others (kept-wide 32 test (drop (i + 1) (entries idSize m ids)) wide) in
       let n : (c + 1) * idSize ≡ c * idSize + length x = omega arith in
       let q : c + suc (length others) ≡ length (kept test (entries idSize m ids)) = rw (this, t) at (s .count) in
       let r : overwritten (c * idSize) (x ++ joined others) rest ≡ overwritten 0 (joined (kept test (entries idSize m ids))) d = rw (this, t) at (s .bytes) in

@@ -12,7 +12,7 @@ slice-aggregate-gather : tie.Need-slice-aggregate-gather
 slice-aggregate-gather c = search needs
 
 gather-requires : tie.Need-gather-requires
-gather-requires c κs = let s = c .before .before .before in (s .pre .0, (omega arith, omega (arith, s .pre .1, length-zeros idListSize)))
+gather-requires c κs = let s : tie.Start = search in (s .pre .0, (omega arith, omega (arith, s .pre .1, length-zeros idListSize)))
 
 returns : tie.Need-returns
 returns c =
