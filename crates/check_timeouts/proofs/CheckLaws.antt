@@ -156,7 +156,8 @@ module _ {settings : Settings} {clock : ℕ} {target : ℕ → ℕ} {count : ℕ
     e-bytes = bytes-of-request (entry recordSize i t) (length-entry recordSize i t in-table) (rw (← c .rest) at (entry-bytes recordSize i d f))
 
     pub turned : (v : Verdict) → verdict settings clock r ≡ v
-        → Checking settings clock target count d noted (tableAfter clock target v i (s .pending) t) (placesAfter v (s .retried) (s .pending) places) (countsAfter v s) (i + 1)
+        → Checking settings clock target count d noted (tableAfter clock target v i (s .pending) t)
+        (placesAfter v (s .retried) (s .pending) places) (countsAfter v s) (i + 1)
     unfolding judged
     turned waiting e =
         let x : List ℕ = entry recordSize i t in

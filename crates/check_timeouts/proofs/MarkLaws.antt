@@ -64,7 +64,7 @@ marked-as i peer t {o} f p e count h l rise =
     List·getD-map requestOf (entries recordSize count t) i [] ∙ ap requestOf (entries-at recordSize count i t h) in
     let n : i < length (requestsIn count t) = rw (length-map (entries recordSize count t) requestOf, length-entries) h in
     let m : set (requestsIn count t) i (withPeer peer (requestOf x)) ≡ markRetried peer (requestOf x .id) (requestsIn count t) =
-    rw at at
-    (mark-retried-one peer (requestsIn count t) i (requestOf []) (ids-rise (entries recordSize count t) (rising-ascending 32 (entries recordSize count t) rise)) n) in
+    let up : RisingIds (idsOf (requestsIn count t)) = ids-rise (entries recordSize count t) (rising-ascending 32 (entries recordSize count t) rise) in
+    rw at at (mark-retried-one peer (requestsIn count t) i (requestOf []) up n) in
     requests-set count i (requestBytes (withPeer peer (requestOf x))) t o h l (length-request (withPeer peer (requestOf x)) (id-long x lx)) e
     ∙ rw (asked-back x lx (entry-bytes recordSize i t f) peer p) m

@@ -156,7 +156,8 @@ module _ (settings : Settings) (clock : ℕ) where
       go waiting e c j q = rw e (mark-past (map (retryOf peers) (judged settings clock retried rs)) r (checkTimeouts settings clock rs) j ∙ rw q)
       go retried e c j q =
           rw (e, same-refl (r .id), mark-none (retryTarget peers (r .peer)) (r .id) (checkTimeouts settings clock rs) c)
-          (mark-past (map (retryOf peers) (judged settings clock retried rs)) (restartedTo clock (retryTarget peers) r) (checkTimeouts settings clock rs) j ∙ rw q)
+          (mark-past (map (retryOf peers) (judged settings clock retried rs)) (restartedTo clock (retryTarget peers) r) (checkTimeouts settings clock rs) j
+          ∙ rw q)
       go abandoned e c j q = rw e q
       go forgotten e c j q = rw e q
 

@@ -54,9 +54,11 @@ pub record Turn (r : Run) (i typeId next : ℕ) : Type 0 where
 -- what `request_announced` asks, and what it ensures
 abbrev RequestAsks : Run → List ℕ → List ℕ → List ℕ → List ℕ → Written → Type 0
 RequestAsks r ids table rest out done =
-    ((length ids % idSize ≡ 0) × ((length ids ≤ idListSize) × ((done .count ≤ r.most) × ((r.most ≤ trackedLimit) × (r.most * recordSize ≤ length table)))))
+    ((length ids % idSize ≡ 0)
+    × ((length ids ≤ idListSize) × ((done .count ≤ r.most) × ((r.most ≤ trackedLimit) × (r.most * recordSize ≤ length table)))))
     × ((rising idSize (entries recordSize (done .count) table) ≡ true)
-    × ((pairsFit r.stored ≡ true) × ((length ids ≤ length rest) × ((done .at + length ids / idSize * commandSize ≤ length out) × (done .batch + 1 < 65536)))))
+    × ((pairsFit r.stored ≡ true)
+    × ((length ids ≤ length rest) × ((done .at + length ids / idSize * commandSize ≤ length out) × (done .batch + 1 < 65536)))))
 
 abbrev RequestSays : Run → Done → Written → List ℕ → List ℕ → Requested → List ℕ → List ℕ → Type 0
 RequestSays r did done table out answer table′ out′ =
@@ -125,8 +127,14 @@ module _ {r : Run} (ready : Ready r) where
       pub request-asks : RequestAsks r (part r i next) table rest out done
       request-asks =
           let q = s .acts in (
-            (rw part-long (omega (arith, goes-on)), (rw part-long (omega (arith, stays-within, places-few)), (q .few, (ready .limit, omega (arith, q .grown .long, ready .fits))))),
-            (q .grown .rise, (ready .storedFit, (rw part-long (omega (arith, stays-within, ids-long, s .rest-long, ready .restLong)), (part-room, part-number)))),
+            (
+              rw part-long (omega (arith, goes-on)),
+              (rw part-long (omega (arith, stays-within, places-few)), (q .few, (ready .limit, omega (arith, q .grown .long, ready .fits)))),
+            ),
+            (
+              q .grown .rise,
+              (ready .storedFit, (rw part-long (omega (arith, stays-within, ids-long, s .rest-long, ready .restLong)), (part-room, part-number))),
+            ),
           )
 
       -- what this ask does

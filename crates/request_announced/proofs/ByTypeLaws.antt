@@ -57,7 +57,8 @@ module _ (peer : ℕ) where
           → adjacent (map (pairItem peer) (y ∷ ys))
           ≡ record { typeId = getD y 0 0; peer = peer; ids = ids-with y ys } ∷ adjacent (map (pairItem peer) (behind y ys))
           → cond (t && true) (record { typeId = getD y 0 0; peer = peer; ids = drop 1 x ∷ ids-with y ys } ∷ adjacent (map (pairItem peer) (behind y ys)))
-          (record { typeId = getD x 0 0; peer = peer; ids = drop 1 x ∷ [] } ∷ (record { typeId = getD y 0 0; peer = peer; ids = ids-with y ys } ∷ adjacent (map (pairItem peer) (behind y ys))))
+          (record { typeId = getD x 0 0; peer = peer; ids = drop 1 x ∷ [] }
+          ∷ (record { typeId = getD y 0 0; peer = peer; ids = ids-with y ys } ∷ adjacent (map (pairItem peer) (behind y ys))))
           ≡ record { typeId = getD x 0 0; peer = peer; ids = ids-with x (y ∷ ys) } ∷ adjacent (map (pairItem peer) (behind x (y ∷ ys)))
       go true e q =
           let a : getD x 0 0 ≡ getD y 0 0 = eqb-true (getD x 0 0) (getD y 0 0) e in

@@ -49,14 +49,16 @@ module _ (most at batch : ℕ) (done : model.Done) where
       go false e h = e
 
   pub requested-done : (w : Written) → Done w ≡ requestedAs most at batch done → (leb (length (done .pending)) most ≡ true)
-      × ((w .count ≡ length (done .pending)) × ((w .at ≡ at + length (sentBytes batch (done .sendings))) × (w .batch ≡ batch + length (done .sendings))))
+      × ((w .count ≡ length (done .pending))
+      × ((w .at ≡ at + length (sentBytes batch (done .sendings))) × (w .batch ≡ batch + length (done .sendings))))
   unfolding requestedAs
   requested-done w = go (leb (length (done .pending)) most) refl
     where
       go : (b : Bool) → leb (length (done .pending)) most ≡ b
           → Done w ≡ cond b (Done (writtenTo at batch done)) Full
           → (leb (length (done .pending)) most ≡ true)
-          × ((w .count ≡ length (done .pending)) × ((w .at ≡ at + length (sentBytes batch (done .sendings))) × (w .batch ≡ batch + length (done .sendings))))
+          × ((w .count ≡ length (done .pending))
+          × ((w .at ≡ at + length (sentBytes batch (done .sendings))) × (w .batch ≡ batch + length (done .sendings))))
       go true e h =
           let q : w ≡ writtenTo at batch done = cc in
           (e, (ap (λ (v : Written). v .count) q, (ap (λ (v : Written). v .at) q, ap (λ (v : Written). v .batch) q)))

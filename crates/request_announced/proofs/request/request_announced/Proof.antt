@@ -1,4 +1,4 @@
--- Shut or nothing wanted: `gate-shut`, `none-wanted`; else the wanted ids stand at the front of the room (`front-ids`).
+-- Shut or nothing wanted: `gate-shut`, `none-wanted`; else the wanted ids at the front of the room are marked and sent (`wanted-sent`).
 use borrow.Author.Needs.{needs}
 use native.Mathlib.Omega.{arith}
 use mathlib.Core.Path.{sym}

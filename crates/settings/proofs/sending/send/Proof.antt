@@ -1,4 +1,5 @@
--- A walk of the MIR of `send`: the borrow is opened, the clock is copied out and handed to the rule, what that answers is stored, and the borrow is closed at the new clock.
+-- A walk of the MIR of `send`: the borrow is opened, the clock is copied out and handed to the rule, what that answers is stored,
+-- and the borrow is closed at the new clock.
 -- Of `crate::send_sync_info` only its contract is used.
 use mathlib.Core.Path.{refl, ap}
 use mathlib.Core.List.{[], _∷_, List}
@@ -184,4 +185,5 @@ send-spec 𝓤 H 𝓜 𝓖 𝓡 =
     entered 𝓤 H (tripleOf 𝓤 H (𝓖 .A) send.signature (send.spec 𝓤 H (𝓖 .A) (𝓜 .mem) (𝓡 .run)))
     (tables 𝓤 H 𝓜 𝓡 code.env .C) (tables 𝓤 H 𝓜 𝓡 code.env .Λ) #send code.function (code.unfolded 𝓤 H 𝓜 𝓡)
     (send-meets 𝓤 H (𝓖 .A) (givenOf 𝓤 H 𝓜 𝓖) (𝓜 .mem) (𝓡 .run) (tablesOf 𝓤 H 𝓜 (tables 𝓤 H 𝓜 𝓡 code.env))
-    (cited 𝓤 H (Rule 𝓤 H (𝓖 .A) (𝓜 .mem) (𝓡 .run)) 𝓜 𝓡 code.env #rule rule-def.routine code.calls-settings·send-sync-info (rule-thm.met 𝓤 H 𝓜 𝓖 𝓡)))
+    (cited 𝓤 H (Rule 𝓤 H (𝓖 .A) (𝓜 .mem) (𝓡 .run)) 𝓜 𝓡 code.env #rule rule-def.routine code.calls-settings·send-sync-info
+    (rule-thm.met 𝓤 H 𝓜 𝓖 𝓡)))

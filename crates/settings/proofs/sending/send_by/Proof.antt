@@ -1,4 +1,5 @@
--- A walk of the MIR of `send_by`: the clock is copied to a local, lent to `send` for a lifetime that is made for the call, taken back at what `send` says, and returned beside the answer.
+-- A walk of the MIR of `send_by`: the clock is copied to a local, lent to `send` for a lifetime that is made for the call, taken
+-- back at what `send` says, and returned beside the answer.
 -- Of `send` only its contract is used.
 use mathlib.Core.Path.{refl, ap}
 use mathlib.Core.Bool.{Bool}
@@ -187,7 +188,8 @@ module _ {M : Type 1} (𝓤 : URA M) (H : Heap 𝓤) (A : Atoms 𝓤) (W : Given
   send-by-walks C Λ fm known = walked 𝓤 H A send-by.ended stayed (send-by.clauses 𝓤 H A at-mem run) (WpFn 𝓤 H C Λ code.function)
       (λ κs. (LL.vals T.the-type T′.the-laws, (LL.vals P.the-type P′.the-laws, (uint-vals w64, tt))))
       (λ κs. (LL.tells T.the-type T′.the-laws, (LL.tells P.the-type P′.the-laws, (uint-tells w64, tt))))
-      (λ κs qs bounds a _ are. needs 𝓤 (a .0 .last ≤ a .1 .1 .0) _ (λ ok. walk 𝓤 H A W at-mem run (a .0) (a .1 .0) (a .1 .1 .0) (are .0) (are .1 .0) (are .1 .1 .0 .1) ok C Λ fm known))
+      (λ κs qs bounds a _ are. needs 𝓤 (a .0 .last ≤ a .1 .1 .0) _ (λ ok.
+      walk 𝓤 H A W at-mem run (a .0) (a .1 .0) (a .1 .1 .0) (are .0) (are .1 .0) (are .1 .1 .0 .1) ok C Λ fm known))
 
   goes : AllGo 𝓤 H A W 0 (send-by.signature .params) (send-by.ended .kept) stayed
   goes =
@@ -207,4 +209,5 @@ send-by-spec 𝓤 H 𝓜 𝓖 𝓡 =
     entered 𝓤 H (tripleOf 𝓤 H (𝓖 .A) send-by.signature (send-by.spec 𝓤 H (𝓖 .A) (𝓜 .mem) (𝓡 .run)))
     (tables 𝓤 H 𝓜 𝓡 code.env .C) (tables 𝓤 H 𝓜 𝓡 code.env .Λ) #send-by code.function (code.unfolded 𝓤 H 𝓜 𝓡)
     (send-by-meets 𝓤 H (𝓖 .A) (givenOf 𝓤 H 𝓜 𝓖) (𝓜 .mem) (𝓡 .run) (tablesOf 𝓤 H 𝓜 (tables 𝓤 H 𝓜 𝓡 code.env))
-    (cited 𝓤 H (Send 𝓤 H (𝓖 .A) (𝓜 .mem) (𝓡 .run)) 𝓜 𝓡 code.env #send send-def.routine code.calls-settings·sending·send (send-thm.met 𝓤 H 𝓜 𝓖 𝓡)))
+    (cited 𝓤 H (Send 𝓤 H (𝓖 .A) (𝓜 .mem) (𝓡 .run)) 𝓜 𝓡 code.env #send send-def.routine code.calls-settings·sending·send
+    (send-thm.met 𝓤 H 𝓜 𝓖 𝓡)))
