@@ -29,16 +29,22 @@ use Rattle.check_timeouts.proofs.RetryLaws.{checkedTo, length-checked, 
 use Rattle.commands.proofs.RecordedLaws.{entry-bytes}
 use Rattle.check_timeouts.proofs.RecordLaws.{restarted-long}
 use Rattle.model.specs.Layout.{idSize, recordSize}
+use Rattle.model.specs.Protocol.{trackedLimit}
 
 abbrev pub none : Checked
 none = record { pending = 0; retried = 0; abandoned = 0; forgotten = 0 }
+
+-- the requests of the table from the i-th on
+abbrev requestsFrom : ℕ → ℕ → List ℕ → List Request
+requestsFrom i count d = map requestOf (drop i (entries recordSize count d))
 
 -- so many were counted, and the rest gives the others
 abbrev pub Counted : Settings → ℕ → Verdict → ℕ → List Request → List Request → Type 0
 Counted settings clock v n rest whole = n + length (judged settings clock v rest) ≡ length (judged settings clock v whole)
 
 -- The check at request i of the table d: t and places as they are, with what is counted.
-pub record Checking (settings : Settings) (clock : ℕ) (target : ℕ → ℕ) (count : ℕ) (d noted t places : List ℕ) (s : Checked) (i : ℕ) : Type 0 where
+pub record Checking (settings : Settings) (clock : ℕ) (target : ℕ → ℕ) (count : ℕ) (d noted t places : List ℕ) (s : Checked)
+    (i : ℕ) : Type 0 where
   pub i-le : i ≤ count
   pub pending-le : s .pending ≤ i
   pub retried-le : s .retried ≤ i
@@ -46,18 +52,19 @@ pub record Checking (settings : Settings) (clock : ℕ) (target : ℕ → ℕ) (
   pub forgotten-le : s .forgotten ≤ i
   pub long : length t ≡ length d
   pub places-long : length places ≡ length noted
-  pub kept : entries recordSize (s .pending) t ++ map requestBytes (checkedTo settings clock target (map requestOf (drop i (entries recordSize count d))))
+  pub kept : entries recordSize (s .pending) t ++ map requestBytes (checkedTo settings clock target (requestsFrom i count d))
       ≡ map requestBytes (checkedTo settings clock target (requestsIn count d))
-  pub listed : take (s .retried) places ++ retriedPlaces settings clock (map requestOf (drop i (entries recordSize count d))) (s .pending)
+  pub listed : take (s .retried) places ++ retriedPlaces settings clock (requestsFrom i count d) (s .pending)
       ≡ retriedPlaces settings clock (requestsIn count d) 0
-  pub retried-counted : Counted settings clock retried (s .retried) (map requestOf (drop i (entries recordSize count d))) (requestsIn count d)
-  pub abandoned-counted : Counted settings clock abandoned (s .abandoned) (map requestOf (drop i (entries recordSize count d))) (requestsIn count d)
-  pub forgotten-counted : Counted settings clock forgotten (s .forgotten) (map requestOf (drop i (entries recordSize count d))) (requestsIn count d)
+  pub retried-counted : Counted settings clock retried (s .retried) (requestsFrom i count d) (requestsIn count d)
+  pub abandoned-counted : Counted settings clock abandoned (s .abandoned) (requestsFrom i count d) (requestsIn count d)
+  pub forgotten-counted : Counted settings clock forgotten (s .forgotten) (requestsFrom i count d) (requestsIn count d)
   pub rest : drop (i * recordSize) t ≡ drop (i * recordSize) d
-  pub stamps : All (λ (r : Request). r .stamp ≤ clock) (map requestOf (drop i (entries recordSize count d)))
-  pub checks : All (λ (r : Request). r .checks + 1 < 2 ^ 32) (map requestOf (drop i (entries recordSize count d)))
+  pub stamps : All (λ (r : Request). r .stamp ≤ clock) (requestsFrom i count d)
+  pub checks : All (λ (r : Request). r .checks + 1 < 2 ^ 32) (requestsFrom i count d)
 
-none-counted : (settings : Settings) (clock : ℕ) (v : Verdict) (n : ℕ) (whole : List Request) → Counted settings clock v n [] whole → n ≡ length (judged settings clock v whole)
+none-counted : (settings : Settings) (clock : ℕ) (v : Verdict) (n : ℕ) (whole : List Request) → Counted settings clock v n [] whole
+    → n ≡ length (judged settings clock v whole)
 unfolding judged
 none-counted settings clock v n whole e = omega arith
 
@@ -83,25 +90,35 @@ starts settings clock target count d places a b =
       checks = b;
     }
 
-module _ (settings : Settings) (clock : ℕ) (target : ℕ → ℕ) (count : ℕ) (d noted t places : List ℕ) (s : Checked) (i : ℕ)
+module _ {settings : Settings} {clock : ℕ} {target : ℕ → ℕ} {count : ℕ} {d noted t places : List ℕ} {s : Checked} {i : ℕ}
     (c : Checking settings clock target count d noted t places s i) (h : i < count) (l : count * recordSize ≤ length d) where
   in-d : i * recordSize + recordSize ≤ length d
   in-d = omega (arith, mul-le-mul-right recordSize h)
 
-  pub in-table : i * recordSize + recordSize ≤ length t
+  in-table : i * recordSize + recordSize ≤ length t
   in-table = omega (arith, in-d, c .long)
 
-  pub here : drop i (entries recordSize count d) ≡ entry recordSize i t ∷ drop (i + 1) (entries recordSize count d)
+  here : drop i (entries recordSize count d) ≡ entry recordSize i t ∷ drop (i + 1) (entries recordSize count d)
   unfolding entry
   here =
       let e : getD (entries recordSize count d) i [] ≡ entry recordSize i t = entries-at recordSize count i d h ∙ ap (take recordSize) (sym (c .rest)) in
       drop-cons (entries recordSize count d) i [] (rw length-entries h) ∙ rw (e, add-one)
 
-  pub stamp-here : requestOf (entry recordSize i t) .stamp ≤ clock
+  stamp-here : requestOf (entry recordSize i t) .stamp ≤ clock
   stamp-here = (rw here at (c .stamps)) .0
 
-  pub checks-here : requestOf (entry recordSize i t) .checks + 1 < 2 ^ 32
+  checks-here : requestOf (entry recordSize i t) .checks + 1 < 2 ^ 32
   checks-here = (rw here at (c .checks)) .0
+
+  -- what `turn` asks
+  pub turn-asks : count ≤ trackedLimit → count ≤ length noted
+      → ((i * recordSize + recordSize ≤ length t) × ((i < length places) × (i < trackedLimit)))
+      × (((s .pending ≤ i) × ((s .retried ≤ i) × ((s .abandoned ≤ i) × (s .forgotten ≤ i))))
+      × ((requestOf (entry recordSize i t) .stamp ≤ clock) × (requestOf (entry recordSize i t) .checks + 1 < 2 ^ 32)))
+  turn-asks few room = (
+    (in-table, (omega (arith, c .places-long), omega arith)),
+    ((c .pending-le, (c .retried-le, (c .abandoned-le, c .forgotten-le))), (stamp-here, checks-here)),
+  )
 
   rest-next : drop ((i + 1) * recordSize) t ≡ drop ((i + 1) * recordSize) d
   rest-next =
@@ -114,15 +131,20 @@ module _ (settings : Settings) (clock : ℕ) (target : ℕ → ℕ) (count : ℕ
   -- a record x behind those that stay
   kept-next : (x : List ℕ) (more : List (List ℕ)) → length x ≡ recordSize
       → entries recordSize (s .pending) t ++ (x ∷ more) ≡ map requestBytes (checkedTo settings clock target (requestsIn count d))
-      → entries recordSize (s .pending + 1) (overwritten (s .pending * recordSize) x t) ++ more ≡ map requestBytes (checkedTo settings clock target (requestsIn count d))
+      → entries recordSize (s .pending + 1) (overwritten (s .pending * recordSize) x t) ++ more
+      ≡ map requestBytes (checkedTo settings clock target (requestsIn count d))
   kept-next x more lx e = rw (entries-then recordSize (s .pending) x t lx in-place) (append-snoc (entries recordSize (s .pending) t) x more ∙ e)
 
-  rest-kept : (x : List ℕ) → length x ≡ recordSize → drop ((i + 1) * recordSize) (overwritten (s .pending * recordSize) x t) ≡ drop ((i + 1) * recordSize) d
+  rest-kept : (x : List ℕ) → length x ≡ recordSize
+      → drop ((i + 1) * recordSize) (overwritten (s .pending * recordSize) x t) ≡ drop ((i + 1) * recordSize) d
   rest-kept x lx =
-      drop-after (s .pending * recordSize) x t (omega (arith, in-place)) ((i + 1) * recordSize) (omega (arith, mul-le-mul-right recordSize (c .pending-le))) ∙ rest-next
+      drop-after (s .pending * recordSize) x t (omega (arith, in-place)) ((i + 1) * recordSize) (omega (arith, mul-le-mul-right recordSize (c .pending-le)))
+      ∙ rest-next
 
-  counted-more : (n : ℕ) (v : Verdict) → n + suc (length (judged settings clock v (map requestOf (drop (i + 1) (entries recordSize count d))))) ≡ length (judged settings clock v (requestsIn count d))
-      → Counted settings clock v (n + 1) (map requestOf (drop (i + 1) (entries recordSize count d))) (requestsIn count d)
+  counted-more : (n : ℕ) (v : Verdict)
+      → n + suc (length (judged settings clock v (requestsFrom (i + 1) count d)))
+      ≡ length (judged settings clock v (requestsIn count d))
+      → Counted settings clock v (n + 1) (requestsFrom (i + 1) count d) (requestsIn count d)
   counted-more n v e = omega arith
 
   abbrev r : Request
@@ -134,7 +156,8 @@ module _ (settings : Settings) (clock : ℕ) (target : ℕ → ℕ) (count : ℕ
     e-bytes = bytes-of-request (entry recordSize i t) (length-entry recordSize i t in-table) (rw (← c .rest) at (entry-bytes recordSize i d f))
 
     pub turned : (v : Verdict) → verdict settings clock r ≡ v
-        → Checking settings clock target count d noted (tableAfter clock target v i (s .pending) t) (placesAfter v (s .retried) (s .pending) places) (countsAfter v s) (i + 1)
+        → Checking settings clock target count d noted (tableAfter clock target v i (s .pending) t)
+        (placesAfter v (s .retried) (s .pending) places) (countsAfter v s) (i + 1)
     unfolding judged
     turned waiting e =
         let x : List ℕ = entry recordSize i t in
@@ -147,7 +170,7 @@ module _ (settings : Settings) (clock : ℕ) (target : ℕ → ℕ) (count : ℕ
           forgotten-le = omega (arith, c .forgotten-le);
           long = length-overwritten (s .pending * recordSize) x t (omega (arith, in-place)) ∙ c .long;
           places-long = c .places-long;
-          kept = kept-next x (map requestBytes (checkedTo settings clock target (map requestOf (drop (i + 1) (entries recordSize count d))))) lx (rw (here, e, e-bytes) at (c .kept));
+          kept = kept-next x (map requestBytes (checkedTo settings clock target (requestsFrom (i + 1) count d))) lx (rw (here, e, e-bytes) at (c .kept));
           listed = rw (add-one (s .pending)) (rw (here, e) at (c .listed));
           retried-counted = rw (here, e) at (c .retried-counted);
           abandoned-counted = rw (here, e) at (c .abandoned-counted);
@@ -160,7 +183,7 @@ module _ (settings : Settings) (clock : ℕ) (target : ℕ → ℕ) (count : ℕ
         let x : List ℕ = requestBytes (restartedTo clock target r) in
         let lx : length x ≡ recordSize = restarted-long clock target (entry recordSize i t) (length-entry recordSize i t in-table) in
         let m : s .retried < length places = omega (arith, c .retried-le, c .places-long) in
-        let n : take (s .retried) places ++ (s .pending ∷ retriedPlaces settings clock (map requestOf (drop (i + 1) (entries recordSize count d))) (suc (s .pending)))
+        let n : take (s .retried) places ++ (s .pending ∷ retriedPlaces settings clock (requestsFrom (i + 1) count d) (suc (s .pending)))
         ≡ retriedPlaces settings clock (requestsIn count d) 0 = rw (here, e) at (c .listed) in
         record {
           i-le = omega arith;
@@ -170,9 +193,9 @@ module _ (settings : Settings) (clock : ℕ) (target : ℕ → ℕ) (count : ℕ
           forgotten-le = omega (arith, c .forgotten-le);
           long = length-overwritten (s .pending * recordSize) x t (omega (arith, in-place)) ∙ c .long;
           places-long = length-set places (s .retried) (s .pending) ∙ c .places-long;
-          kept = kept-next x (map requestBytes (checkedTo settings clock target (map requestOf (drop (i + 1) (entries recordSize count d))))) lx (rw (here, e) at (c .kept));
+          kept = kept-next x (map requestBytes (checkedTo settings clock target (requestsFrom (i + 1) count d))) lx (rw (here, e) at (c .kept));
           listed = rw (add-one (s .retried), add-one (s .pending), take-suc-set places (s .retried) (s .pending) m)
-              (append-snoc (take (s .retried) places) (s .pending) (retriedPlaces settings clock (map requestOf (drop (i + 1) (entries recordSize count d))) (suc (s .pending))) ∙ n);
+              (append-snoc (take (s .retried) places) (s .pending) (retriedPlaces settings clock (requestsFrom (i + 1) count d) (suc (s .pending))) ∙ n);
           retried-counted = counted-more (s .retried) retried (rw (here, e) at (c .retried-counted));
           abandoned-counted = rw (here, e) at (c .abandoned-counted);
           forgotten-counted = rw (here, e) at (c .forgotten-counted);
@@ -216,32 +239,40 @@ module _ (settings : Settings) (clock : ℕ) (target : ℕ → ℕ) (count : ℕ
     }
 
     -- by what the code has in its hands after the turn
-    pub turned-as : (made : Checked) (t′ places′ : List ℕ) → made ≡ countsAfter (verdict settings clock r) s → t′ ≡ tableAfter clock target (verdict settings clock r) i (s .pending) t
-        → places′ ≡ placesAfter (verdict settings clock r) (s .retried) (s .pending) places → Checking settings clock target count d noted t′ places′ made (i + 1)
-    turned-as made t′ places′ a b e = rw (a, b, e) (turned (verdict settings clock r) refl)
+    pub turned-as : {made : Checked} {t′ places′ : List ℕ}
+        → (made ≡ countsAfter (verdict settings clock r) s)
+        × ((t′ ≡ tableAfter clock target (verdict settings clock r) i (s .pending) t)
+        × (places′ ≡ placesAfter (verdict settings clock r) (s .retried) (s .pending) places))
+        → Checking settings clock target count d noted t′ places′ made (i + 1)
+    turned-as e = rw (e .0, e .1 .0, e .1 .1) (turned (verdict settings clock r) refl)
 
-pub ends : (settings : Settings) (clock : ℕ) (target : ℕ → ℕ) (count : ℕ) (d noted t y places : List ℕ) (s : Checked) (i : ℕ) (gate : Bool) (peers : List ℕ)
-    → Checking settings clock target count d noted t places s i → count ≤ i → count * recordSize ≤ length d → rising idSize (entries recordSize count d) ≡ true
-    → ((failed : ℕ) → target failed ≡ cond gate (retryTarget peers failed) failed)
+pub ends : {settings : Settings} {clock : ℕ} {target : ℕ → ℕ} {count : ℕ} {d noted t y places : List ℕ} {s : Checked} {i : ℕ}
+    → Checking settings clock target count d noted t places s i → count ≤ i → count * recordSize ≤ length d
+    → rising idSize (entries recordSize count d) ≡ true
+    → (gate : Bool) (peers : List ℕ) → ((failed : ℕ) → target failed ≡ cond gate (retryTarget peers failed) failed)
     → y ≡ overwritten (s .pending * recordSize) (zeros ((count - s .pending) * recordSize)) t
     → (s ≡ checkedAs settings clock (requestsIn count d))
     × ((y ≡ holding count (pendingAfterCheck gate settings clock peers (requestsIn count d)) d)
     × (take (s .retried) places ≡ retriedPlaces settings clock (requestsIn count d) 0))
 unfolding checkedAs holding
-ends settings clock target count d noted t y places s i gate peers c h l rise aims q =
+ends {settings} {clock} {target} {count} {d} {noted} {t} {y} {places} {s} {i} c h l rise gate peers aims q =
     let rs : List Request = requestsIn count d in
     let e : i ≡ count = omega (arith, c .i-le) in
     let z : drop i (entries recordSize count d) ≡ [] = drop-of-length-le (entries recordSize count d) {i = i} (rw length-entries h) in
     let after : pendingAfterCheck gate settings clock peers rs ≡ checkedTo settings clock target rs =
     pending-after settings clock gate peers target aims rs (ids-rise (entries recordSize count d) (rising-ascending 32 (entries recordSize count d) rise)) in
     let k : entries recordSize (s .pending) t ≡ map requestBytes (checkedTo settings clock target rs) = rw (z, append-nil) at (c .kept) in
-    let cut = cut-down recordSize count (s .pending) (map requestBytes (checkedTo settings clock target rs)) d t y (omega (arith, c .pending-le)) (omega (arith, c .long)) k (rw e at (c .rest)) q in
-    let p : s .pending ≡ length (checkTimeouts settings clock rs) = cut .0 ∙ length-map (checkedTo settings clock target rs) requestBytes ∙ length-checked settings clock target rs in
+    let cut =
+    cut-down recordSize count (s .pending) (map requestBytes (checkedTo settings clock target rs)) d t y (omega (arith, c .pending-le))
+    (omega (arith, c .long)) k (rw e at (c .rest)) q in
+    let p : s .pending ≡ length (checkTimeouts settings clock rs) =
+    cut .0 ∙ length-map (checkedTo settings clock target rs) requestBytes ∙ length-checked settings clock target rs in
     let a : s .retried ≡ length (judged settings clock retried rs) = none-left retried (s .retried) z (c .retried-counted) in
     let b : s .abandoned ≡ length (judged settings clock abandoned rs) = none-left abandoned (s .abandoned) z (c .abandoned-counted) in
     let f : s .forgotten ≡ length (judged settings clock forgotten rs) = none-left forgotten (s .forgotten) z (c .forgotten-counted) in
     (rw (← p, ← a, ← b, ← f), (rw after (cut .1), rw (z, append-nil) at (c .listed)))
   where
-    none-left : (v : Verdict) (n : ℕ) → drop i (entries recordSize count d) ≡ [] → Counted settings clock v n (map requestOf (drop i (entries recordSize count d))) (requestsIn count d)
+    none-left : (v : Verdict) (n : ℕ) → drop i (entries recordSize count d) ≡ []
+        → Counted settings clock v n (requestsFrom i count d) (requestsIn count d)
         → n ≡ length (judged settings clock v (requestsIn count d))
     none-left v n z g = none-counted settings clock v n (requestsIn count d) (rw z at g)

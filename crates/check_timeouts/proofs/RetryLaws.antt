@@ -29,17 +29,18 @@ use Rattle.check_timeouts.specs.declared.check.Aim.the-variants.{Same, O
 pub aim-shut : (peers : List ℕ) (gate : Bool) → gate ≡ false → (failed : ℕ) → aimedAt Same failed ≡ cond gate (retryTarget peers failed) failed
 aim-shut peers gate e failed = rw e
 
-pub aim-nobody : (peers : List ℕ) (gate : Bool) → none ≡ firstOf peers → (failed : ℕ) → aimedAt Same failed ≡ cond gate (retryTarget peers failed) failed
+pub aim-nobody : (peers : List ℕ) (gate : Bool) → none ≡ firstOf peers → (failed : ℕ)
+    → aimedAt Same failed ≡ cond gate (retryTarget peers failed) failed
 unfolding retryTarget
 aim-nobody [] true e failed = refl
 aim-nobody [] false e failed = refl
 aim-nobody (peer ∷ peers) gate e failed = let z : _≡_ {A = ℕ} 0 1 = cc in absurd (lt-irrefl 0 (omega arith))
 
-pub aim-other : (peers : List ℕ) (gate : Bool) (first other : ℕ) → gate ≡ true → some first ≡ firstOf peers → other ≡ retryTarget peers first
+pub aim-other : (peers : List ℕ) (gate : Bool) {first other : ℕ} → gate ≡ true → some first ≡ firstOf peers → other ≡ retryTarget peers first
     → (failed : ℕ) → aimedAt (Other first other) failed ≡ cond gate (retryTarget peers failed) failed
 unfolding retryTarget
-aim-other [] gate first other g e o failed = let z : _≡_ {A = ℕ} 0 1 = cc in absurd (lt-irrefl 0 (omega arith))
-aim-other (peer ∷ peers) gate first other g e o failed =
+aim-other [] gate g e o failed = let z : _≡_ {A = ℕ} 0 1 = cc in absurd (lt-irrefl 0 (omega arith))
+aim-other (peer ∷ peers) gate {first} g e o failed =
     let s : first ≡ peer = cc in
     rw (g, o, s, eq-eqb peer peer refl) (go (eqb failed peer) refl)
   where
@@ -143,21 +144,25 @@ module _ (settings : Settings) (clock : ℕ) where
   marked-checked peers (r ∷ rs) h =
       let n : isAmong (r .id) (idsOf rs) ≡ false = not-among-later (r .id) (idsOf rs) (h .0) in
       let j : isAmong (r .id) (map (λ (i : Item). i .id) (map (retryOf peers) (judged settings clock retried rs))) ≡ false =
-      rw (retry-ids peers (judged settings clock retried rs)) (not-among-kept (λ (q : Request). q .id) (λ (q : Request). eqb (verdictNumber (verdict settings clock q)) 1) (r .id) rs n) in
+      rw (retry-ids peers (judged settings clock retried rs))
+      (not-among-kept (λ (q : Request). q .id) (λ (q : Request). eqb (verdictNumber (verdict settings clock q)) 1) (r .id) rs n) in
       go (verdict settings clock r) refl (not-among-checked (r .id) rs n) j (marked-checked peers rs (h .1))
     where
       go : (v : Verdict) → verdict settings clock r ≡ v → isAmong (r .id) (idsOf (checkTimeouts settings clock rs)) ≡ false
           → isAmong (r .id) (map (λ (i : Item). i .id) (map (retryOf peers) (judged settings clock retried rs))) ≡ false
           → markAllRetried (map (retryOf peers) (judged settings clock retried rs)) (checkTimeouts settings clock rs) ≡ checkedTo (retryTarget peers) rs
-          → markAllRetried (map (retryOf peers) (judged settings clock retried (r ∷ rs))) (checkTimeouts settings clock (r ∷ rs)) ≡ checkedTo (retryTarget peers) (r ∷ rs)
+          → markAllRetried (map (retryOf peers) (judged settings clock retried (r ∷ rs))) (checkTimeouts settings clock (r ∷ rs))
+          ≡ checkedTo (retryTarget peers) (r ∷ rs)
       go waiting e c j q = rw e (mark-past (map (retryOf peers) (judged settings clock retried rs)) r (checkTimeouts settings clock rs) j ∙ rw q)
       go retried e c j q =
           rw (e, same-refl (r .id), mark-none (retryTarget peers (r .peer)) (r .id) (checkTimeouts settings clock rs) c)
-          (mark-past (map (retryOf peers) (judged settings clock retried rs)) (restartedTo clock (retryTarget peers) r) (checkTimeouts settings clock rs) j ∙ rw q)
+          (mark-past (map (retryOf peers) (judged settings clock retried rs)) (restartedTo clock (retryTarget peers) r) (checkTimeouts settings clock rs) j
+          ∙ rw q)
       go abandoned e c j q = rw e q
       go forgotten e c j q = rw e q
 
-  pub pending-after : (gate : Bool) (peers : List ℕ) (target : ℕ → ℕ) → ((failed : ℕ) → target failed ≡ cond gate (retryTarget peers failed) failed)
+  pub pending-after : (gate : Bool) (peers : List ℕ) (target : ℕ → ℕ)
+      → ((failed : ℕ) → target failed ≡ cond gate (retryTarget peers failed) failed)
       → (rs : List Request) → RisingIds (idsOf rs) → pendingAfterCheck gate settings clock peers rs ≡ checkedTo target rs
   unfolding pendingAfterCheck retries
   pending-after true peers target e rs h = marked-checked peers rs h ∙ sym (checked-alike target (retryTarget peers) e rs)

@@ -7,7 +7,7 @@ use native.Mathlib.Omega.{arith}
 use lib.ListN.{length, take, drop, getD, drop-of-length-le}
 use Rattle.fields.specs.Facts.{Bytes, All}
 use Rattle.fields.specs.Entries.{entries, rising}
-use Rattle.model.specs.Requests.{Pair, Act, ask, perform, Done}
+use Rattle.model.specs.Requests.{Act, ask, perform, Done}
 use Rattle.model.specs.Lists.{idsIn, pairsIn, pairsFit, entriesOf}
 use Rattle.commands.specs.Pending.{requestsIn}
 use Rattle.mark_requested.specs.Marking.{heldWithin}
@@ -54,9 +54,11 @@ pub record Turn (r : Run) (i typeId next : ℕ) : Type 0 where
 -- what `request_announced` asks, and what it ensures
 abbrev RequestAsks : Run → List ℕ → List ℕ → List ℕ → List ℕ → Written → Type 0
 RequestAsks r ids table rest out done =
-    ((length ids % idSize ≡ 0) × ((length ids ≤ idListSize) × ((done .count ≤ r.most) × ((r.most ≤ trackedLimit) × (r.most * recordSize ≤ length table)))))
+    ((length ids % idSize ≡ 0)
+    × ((length ids ≤ idListSize) × ((done .count ≤ r.most) × ((r.most ≤ trackedLimit) × (r.most * recordSize ≤ length table)))))
     × ((rising idSize (entries recordSize (done .count) table) ≡ true)
-    × ((pairsFit r.stored ≡ true) × ((length ids ≤ length rest) × ((done .at + length ids / idSize * commandSize ≤ length out) × (done .batch + 1 < 65536)))))
+    × ((pairsFit r.stored ≡ true)
+    × ((length ids ≤ length rest) × ((done .at + length ids / idSize * commandSize ≤ length out) × (done .batch + 1 < 65536)))))
 
 abbrev RequestSays : Run → Done → Written → List ℕ → List ℕ → Requested → List ℕ → List ℕ → Type 0
 RequestSays r did done table out answer table′ out′ =
@@ -67,7 +69,8 @@ module _ {r : Run} (ready : Ready r) where
   pub within : All (Within r.pairs) r.places
   within = sorted-within r.pairs r.places (ready .byType)
 
-  pub ask-starts : Bytes r.table → Bytes r.pairs → r.peer < 2 ^ 64 → Asking r r.table r.rest r.out (record { count = r.count; at = r.at; batch = r.batch }) 0
+  pub ask-starts : Bytes r.table → Bytes r.pairs → r.peer < 2 ^ 64
+      → Asking r r.table r.rest r.out (record { count = r.count; at = r.at; batch = r.batch }) 0
   ask-starts f fp hp =
       let w = asks-weight r.peer (pairsIn r.stored) r.pairs in
       let c = asks-count r.peer (pairsIn r.stored) r.pairs in
@@ -86,8 +89,7 @@ module _ {r : Run} (ready : Ready r) where
     pub ask-ends : length r.places ≤ i → Asked r (Finished (record { count = done .count; at = done .at; batch = done .batch })) table out
     unfolding asksOf
     ask-ends h =
-        let e = perform-ends r.gate r.clock r.most r.count r.at r.batch (asks r) r.table r.out (asksFrom r i) table out (done .count) (done .at) (done .batch) (s .acts)
-        (none (drop-of-length-le r.places {i = i} h)) in
+        let e = perform-ends (s .acts) (none (drop-of-length-le r.places {i = i} h)) in
         record { answered = e .0; left = e .1 .0; written = e .1 .1 }
       where
         none : drop i r.places ≡ [] → asksFrom r i ≡ []
@@ -104,7 +106,8 @@ module _ {r : Run} (ready : Ready r) where
       goes-on = run-within r.peer (pairsIn r.stored) r.pairs r.places r.ids within (ready .gathered) i next typeId (turn .here) (turn .typed) (turn .ends) .0
 
       pub stays-within : next ≤ length r.places
-      stays-within = run-within r.peer (pairsIn r.stored) r.pairs r.places r.ids within (ready .gathered) i next typeId (turn .here) (turn .typed) (turn .ends) .1
+      stays-within =
+          run-within r.peer (pairsIn r.stored) r.pairs r.places r.ids within (ready .gathered) i next typeId (turn .here) (turn .typed) (turn .ends) .1
 
       pub places-few : length r.places ≤ trackedLimit
       places-few = omega (arith, sorted-long r.pairs r.places (ready .byType), ready .few)
@@ -114,21 +117,24 @@ module _ {r : Run} (ready : Ready r) where
 
       part-room : done .at + length (part r i next) / idSize * commandSize ≤ length out
       part-room =
-          let a = act-room r.gate r.clock r.most r.count r.at r.batch (asks r) r.table r.out (asksFrom r i) table out (done .count) (done .at) (done .batch) (s .acts)
-          (askOf r i typeId next) (asksFrom r next) asked-here (ready .fits) in
+          let a = act-room (s .acts) asked-here (ready .fits) in
           let l = write.length-ids (part r i next) in
           omega arith
 
       part-number : done .batch + 1 < 65536
-      part-number =
-          act-number r.gate r.clock r.most r.count r.at r.batch (asks r) r.table r.out (asksFrom r i) table out (done .count) (done .at) (done .batch) (s .acts)
-          (askOf r i typeId next) (asksFrom r next) asked-here (ready .fits)
+      part-number = act-number (s .acts) asked-here (ready .fits)
 
       pub request-asks : RequestAsks r (part r i next) table rest out done
       request-asks =
           let q = s .acts in (
-            (rw part-long (omega (arith, goes-on)), (rw part-long (omega (arith, stays-within, places-few)), (q .few, (ready .limit, omega (arith, q .grown .long, ready .fits))))),
-            (q .grown .rise, (ready .storedFit, (rw part-long (omega (arith, stays-within, ids-long, s .rest-long, ready .restLong)), (part-room, part-number)))),
+            (
+              rw part-long (omega (arith, goes-on)),
+              (rw part-long (omega (arith, stays-within, places-few)), (q .few, (ready .limit, omega (arith, q .grown .long, ready .fits)))),
+            ),
+            (
+              q .grown .rise,
+              (ready .storedFit, (rw part-long (omega (arith, stays-within, ids-long, s .rest-long, ready .restLong)), (part-room, part-number))),
+            ),
           )
 
       -- what this ask does
@@ -139,21 +145,19 @@ module _ {r : Run} (ready : Ready r) where
         pub ask-full : {table″ out″ : List ℕ} → answer ≡ Full → Asked r Full table″ out″
         ask-full full =
             let q : Full ≡ requestedAs r.most (done .at) (done .batch) did = rw full at (says .0) in
-            let m = perform-full r.gate r.clock r.most r.count r.at r.batch (asks r) r.table r.out (asksFrom r i) table out (done .count) (done .at) (done .batch) (s .acts)
-            (askOf r i typeId next) (asksFrom r next) asked-here (ready .fits) q in
+            let m = perform-full (s .acts) asked-here (ready .fits) q in
             record {
               answered = sym (many-requested r.most r.at r.batch (askedOf r) m);
               left = λ y. absurd (false≢true (sym m ∙ y));
               written = λ y. absurd (false≢true (sym m ∙ y));
             }
 
-        pub ask-turn : {rest′ : List ℕ} (w : Written) → answer ≡ Finished w → r.clock < 2 ^ 64 → Bytes table′ → length rest′ ≡ length rest → Asking r table′ rest′ out′ w next
+        pub ask-turn : {rest′ : List ℕ} (w : Written) → answer ≡ Finished w → r.clock < 2 ^ 64 → Bytes table′ → length rest′ ≡ length rest
+            → Asking r table′ rest′ out′ w next
         ask-turn w is hc f′ lr =
             let er : Finished w ≡ requestedAs r.most (done .at) (done .batch) did = rw is at (says .0) in
             record {
               i-le = stays-within;
               rest-long = lr ∙ s .rest-long;
-              acts =
-                  perform-turn r.gate r.clock r.most r.count r.at r.batch (asks r) r.table r.out (asksFrom r i) table out (done .count) (done .at) (done .batch) (s .acts)
-                  (askOf r i typeId next) (asksFrom r next) asked-here (ready .fits) hc w table′ out′ er (says .1 .0) (says .1 .1) f′;
+              acts = perform-turn (s .acts) asked-here (ready .fits) hc w er (says .1 .0) (says .1 .1) f′;
             }

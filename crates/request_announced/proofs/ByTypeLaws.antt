@@ -48,14 +48,17 @@ module _ (peer : ℕ) where
   behind x xs = drop (ofType (getD x 0 0) xs) xs
 
   adjacent-turn : (x : List ℕ) (xs : List (List ℕ))
-      → adjacent (map (pairItem peer) (x ∷ xs)) ≡ record { typeId = getD x 0 0; peer = peer; ids = ids-with x xs } ∷ adjacent (map (pairItem peer) (behind x xs))
+      → adjacent (map (pairItem peer) (x ∷ xs))
+      ≡ record { typeId = getD x 0 0; peer = peer; ids = ids-with x xs } ∷ adjacent (map (pairItem peer) (behind x xs))
   adjacent-turn x [] = refl
   adjacent-turn x (y ∷ ys) = rw (adjacent-turn y ys, eq-eqb peer peer refl) (go (eqb (getD x 0 0) (getD y 0 0)) refl (adjacent-turn y ys))
     where
       go : (t : Bool) → eqb (getD x 0 0) (getD y 0 0) ≡ t
-          → adjacent (map (pairItem peer) (y ∷ ys)) ≡ record { typeId = getD y 0 0; peer = peer; ids = ids-with y ys } ∷ adjacent (map (pairItem peer) (behind y ys))
+          → adjacent (map (pairItem peer) (y ∷ ys))
+          ≡ record { typeId = getD y 0 0; peer = peer; ids = ids-with y ys } ∷ adjacent (map (pairItem peer) (behind y ys))
           → cond (t && true) (record { typeId = getD y 0 0; peer = peer; ids = drop 1 x ∷ ids-with y ys } ∷ adjacent (map (pairItem peer) (behind y ys)))
-          (record { typeId = getD x 0 0; peer = peer; ids = drop 1 x ∷ [] } ∷ (record { typeId = getD y 0 0; peer = peer; ids = ids-with y ys } ∷ adjacent (map (pairItem peer) (behind y ys))))
+          (record { typeId = getD x 0 0; peer = peer; ids = drop 1 x ∷ [] }
+          ∷ (record { typeId = getD y 0 0; peer = peer; ids = ids-with y ys } ∷ adjacent (map (pairItem peer) (behind y ys))))
           ≡ record { typeId = getD x 0 0; peer = peer; ids = ids-with x (y ∷ ys) } ∷ adjacent (map (pairItem peer) (behind x (y ∷ ys)))
       go true e q =
           let a : getD x 0 0 ≡ getD y 0 0 = eqb-true (getD x 0 0) (getD y 0 0) e in
@@ -64,7 +67,8 @@ module _ (peer : ℕ) where
           let n : eqb (getD y 0 0) (getD x 0 0) ≡ false = ne-eqb (getD y 0 0) (getD x 0 0) (λ z. eqb-false (getD x 0 0) (getD y 0 0) e (sym z)) in
           rw (n, q)
 
-  pub asks-turn : (stored : List Pair) (x : List ℕ) (xs : List (List ℕ)) → asksOf peer stored (x ∷ xs) ≡ ask (getD x 0 0) peer stored (ids-with x xs) ∷ asksOf peer stored (behind x xs)
+  pub asks-turn : (stored : List Pair) (x : List ℕ) (xs : List (List ℕ))
+      → asksOf peer stored (x ∷ xs) ≡ ask (getD x 0 0) peer stored (ids-with x xs) ∷ asksOf peer stored (behind x xs)
   unfolding asksOf
   asks-turn stored x xs = rw (adjacent-turn x xs)
 
@@ -92,7 +96,8 @@ module _ (peer : ℕ) (stored : List Pair) (pairs places ids : List ℕ) (w : Al
       (ee : end ≡ i + suc (ofType (typeAt pairs (getD places i 0)) (pairsAt pairs (drop (i + 1) places)))) where
     pub run-within : (i < end) × (end ≤ length places)
     run-within =
-        let l : length (pairsAt pairs (drop (i + 1) places)) ≡ length (drop (i + 1) places) = length-map (drop (i + 1) places) (λ (place : ℕ). entry pairSize place pairs) in
+        let l : length (pairsAt pairs (drop (i + 1) places)) ≡ length (drop (i + 1) places) =
+        length-map (drop (i + 1) places) (λ (place : ℕ). entry pairSize place pairs) in
         let d : length (drop (i + 1) places) ≡ length places - (i + 1) = length-drop (i + 1) places in
         let t = type-within (typeAt pairs (getD places i 0)) (pairsAt pairs (drop (i + 1) places)) in
         (omega arith, omega arith)
@@ -118,7 +123,8 @@ module _ (peer : ℕ) (stored : List Pair) (pairs places ids : List ℕ) (w : Al
         let b : drop i (idsAt pairs places) ≡ map (drop 1) (x ∷ xs) =
         drop-map (λ (place : ℕ). drop 1 (entry pairSize place pairs)) i places ∙ map-both (drop i places) ∙ ap (map (drop 1)) here in
         let c : idsIn (take (k * idSize) (drop (i * idSize) ids)) ≡ drop 1 x ∷ map (drop 1) (take (ofType (getD x 0 0) xs) xs) =
-        sym (take-ids k (drop (i * idSize) ids) v) ∙ ap (take k) (sym (drop-ids i ids (rw l (whole-ids (length places)))) ∙ ap (drop i) a ∙ b) ∙ take-map (drop 1) k (x ∷ xs) in
+        sym (take-ids k (drop (i * idSize) ids) v) ∙ ap (take k) (sym (drop-ids i ids (rw l (whole-ids (length places)))) ∙ ap (drop i) a ∙ b)
+        ∙ take-map (drop 1) k (x ∷ xs) in
         let q : drop end places ≡ drop (ofType (getD x 0 0) xs) (drop (i + 1) places) =
         let n : end ≡ (i + 1) + ofType (getD x 0 0) xs = omega arith in
         rw n (sym (drop-drop (ofType (getD x 0 0) xs) (i + 1) places)) in
@@ -150,7 +156,8 @@ module _ (peer : ℕ) (pairs : List ℕ) where
       go false true = refl
       go false false = refl
 
-  keys-agree : (p q : ℕ) → Within pairs p → Within pairs q → keyBelow pairSize 0 1 pairs p q ≡ itemBelow (pairItem peer (entry pairSize p pairs)) (pairItem peer (entry pairSize q pairs))
+  keys-agree : (p q : ℕ) → Within pairs p → Within pairs q
+      → keyBelow pairSize 0 1 pairs p q ≡ itemBelow (pairItem peer (entry pairSize p pairs)) (pairItem peer (entry pairSize q pairs))
   unfolding keyBelow itemBelow typeAt
   keys-agree p q hp hq = rw (key-is p hp, key-is q hq) (one-before (typeAt pairs p) (typeAt pairs q))
 
@@ -161,9 +168,11 @@ module _ (peer : ℕ) (pairs : List ℕ) where
   items-sorted : map (pairItem peer) (pairsAt pairs (placesByType pairs)) ≡ sorted itemBelow (map (pairItem peer) (entriesOf pairSize pairs))
   unfolding placesByType
   items-sorted =
-      let u : pairsAt pairs (numbersFrom 0 (length pairs / pairSize)) ≡ entriesOf pairSize pairs = numbered-entries pairSize pairs 0 (length pairs / pairSize) in
+      let u : pairsAt pairs (numbersFrom 0 (length pairs / pairSize)) ≡ entriesOf pairSize pairs =
+      numbered-entries pairSize pairs 0 (length pairs / pairSize) in
       sym (map-items (placesByType pairs))
-      ∙ map-sorted (keyBelow pairSize 0 1 pairs) itemBelow (λ (place : ℕ). pairItem peer (entry pairSize place pairs)) (Within pairs) keys-agree (numbersFrom 0 (length pairs / pairSize)) (all-within pairs)
+      ∙ map-sorted (keyBelow pairSize 0 1 pairs) itemBelow (λ (place : ℕ). pairItem peer (entry pairSize place pairs)) (Within pairs) keys-agree
+      (numbersFrom 0 (length pairs / pairSize)) (all-within pairs)
       ∙ ap (sorted itemBelow) (map-items (numbersFrom 0 (length pairs / pairSize)) ∙ ap (map (pairItem peer)) u)
 
   pub asks-of-places : (stored : List Pair) → asksOf peer stored (pairsAt pairs (placesByType pairs)) ≡ asksByType peer stored (entriesOf pairSize pairs)
@@ -176,13 +185,15 @@ module _ (peer : ℕ) (stored : List Pair) (pairs : List ℕ) where
   pub asks-weight : total actWeight (asksByType peer stored (entriesOf pairSize pairs)) ≡ 48 * (length pairs / pairSize)
   unfolding asksByType
   asks-weight =
-      let l : length (map (pairItem peer) (entriesOf pairSize pairs)) ≡ length pairs / pairSize = length-map (entriesOf pairSize pairs) (pairItem peer) ∙ length-entries pairSize (length pairs / pairSize) pairs in
+      let l : length (map (pairItem peer) (entriesOf pairSize pairs)) ≡ length pairs / pairSize =
+      length-map (entriesOf pairSize pairs) (pairItem peer) ∙ length-entries pairSize (length pairs / pairSize) pairs in
       batches-weight (λ (b : Batch). ask (b .typeId) (b .peer) stored (b .ids)) (λ b. refl) (map (pairItem peer) (entriesOf pairSize pairs)) ∙ rw l
 
   pub asks-count : length (asksByType peer stored (entriesOf pairSize pairs)) ≤ length pairs / pairSize
   unfolding asksByType
   asks-count =
-      let l : length (map (pairItem peer) (entriesOf pairSize pairs)) ≡ length pairs / pairSize = length-map (entriesOf pairSize pairs) (pairItem peer) ∙ length-entries pairSize (length pairs / pairSize) pairs in
+      let l : length (map (pairItem peer) (entriesOf pairSize pairs)) ≡ length pairs / pairSize =
+      length-map (entriesOf pairSize pairs) (pairItem peer) ∙ length-entries pairSize (length pairs / pairSize) pairs in
       let a = length-map (batchesOf (map (pairItem peer) (entriesOf pairSize pairs))) (λ (b : Batch). ask (b .typeId) (b .peer) stored (b .ids)) in
       let b = batches-count (map (pairItem peer) (entriesOf pairSize pairs)) in
       omega arith
@@ -190,7 +201,8 @@ module _ (peer : ℕ) (stored : List Pair) (pairs : List ℕ) where
   pub asks-well : peer < 2 ^ 64 → Bytes pairs → All WellAct (asksByType peer stored (entriesOf pairSize pairs))
   unfolding asksByType
   asks-well hp f =
-      all-map WellBatch WellAct (λ (b : Batch). ask (b .typeId) (b .peer) stored (b .ids)) (λ b p. p) (batchesOf (map (pairItem peer) (entriesOf pairSize pairs)))
+      all-map WellBatch WellAct (λ (b : Batch). ask (b .typeId) (b .peer) stored (b .ids)) (λ b p. p)
+      (batchesOf (map (pairItem peer) (entriesOf pairSize pairs)))
       (batches-well (map (pairItem peer) (entriesOf pairSize pairs))
       (all-map (λ (e : List ℕ). (length e ≡ pairSize) × Bytes e) WellItem (pairItem peer)
       (λ e p.

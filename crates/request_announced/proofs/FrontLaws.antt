@@ -28,9 +28,10 @@ module _ (pairs : List ℕ) where
   unfolding placesByType
   length-places = length-sorted (keyBelow pairSize 0 1 pairs) (numbersFrom 0 (length pairs / pairSize)) ∙ length-numbers 0 (length pairs / pairSize)
 
-  pub sorted-places : (numbers places : List ℕ) (n : ℕ) → n ≡ length pairs / pairSize → numbers ≡ numbersFrom 0 n → places ≡ sorted (keyBelow pairSize 0 1 pairs) numbers → places ≡ placesByType pairs
+  pub sorted-places : {numbers places : List ℕ} {n : ℕ} → n ≡ length pairs / pairSize → numbers ≡ numbersFrom 0 n
+      → places ≡ sorted (keyBelow pairSize 0 1 pairs) numbers → places ≡ placesByType pairs
   unfolding placesByType
-  sorted-places numbers places n en e₁ e₂ = e₂ ∙ rw (e₁, en)
+  sorted-places en e₁ e₂ = e₂ ∙ rw (e₁, en)
 
 module _ (pairs places : List ℕ) (e : places ≡ placesByType pairs) where
   pub sorted-within : All (Within pairs) places
@@ -43,7 +44,8 @@ module _ (pairs places : List ℕ) (e : places ≡ placesByType pairs) where
   front-places rest = take-at places rest (length pairs / pairSize) sorted-long ∙ e
 
   pub front-ids-at : (ids : List ℕ) → take (length places * idSize) ids ≡ joined (idsAt pairs places)
-      → (take (length pairs / pairSize * idSize) ids ≡ joined (idsAt pairs places)) × (length (take (length pairs / pairSize * idSize) ids) ≡ length pairs / pairSize * idSize)
+      → (take (length pairs / pairSize * idSize) ids ≡ joined (idsAt pairs places))
+      × (length (take (length pairs / pairSize * idSize) ids) ≡ length pairs / pairSize * idSize)
   front-ids-at ids f =
       let q : take (length pairs / pairSize * idSize) ids ≡ joined (idsAt pairs places) = rw sorted-long at f in
       (q, ap length q ∙ length-ids pairs places sorted-within ∙ rw sorted-long)

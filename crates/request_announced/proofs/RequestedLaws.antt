@@ -7,20 +7,20 @@ use native.Mathlib.Omega.{arith}
 use native.Mathlib.Nat.{add-zero, mul-le-mul-right}
 use lib.Dec.{leb}
 use lib.ListN.{length, take}
-use borrow.Author.Tests.{le-leb}
+use borrow.Author.Tests.{le-leb, not-true, not-false}
 use Rattle.fields.specs.Facts.{Bytes}
-use Rattle.fields.specs.Entries.{joined}
+use Rattle.fields.specs.Entries.{entries, joined, rising}
 use Rattle.fields.specs.Filter.{kept}
 use Rattle.fields.specs.Overwrite.{overwritten}
 use Rattle.fields.proofs.OverwriteLaws.{overwritten-nil, front-read-back}
 use Rattle.fields.proofs.FilterLaws.{length-kept}
 use Rattle.fields.proofs.EntriesLaws.{Wide, entries-joined, length-joined}
-use Rattle.model.specs.Protocol.{Id}
+use Rattle.model.specs.Protocol.{Id, trackedLimit}
 use Rattle.model.specs.Delivery.{Request, isPending, markRequested}
-use Rattle.model.specs.Requests.{Pair, isStored, request, commandsOf, requestOf, wanted, requestAnnounced, perform, ask}
+use Rattle.model.specs.Requests.{isStored, request, commandsOf, requestOf, wanted, requestAnnounced, perform, ask}
 use Rattle.model.specs.Requests as model
 use Rattle.model.specs.Commands.{allCommandBytes}
-use Rattle.model.specs.Lists.{idsIn}
+use Rattle.model.specs.Lists.{idsIn, pairsIn}
 use Rattle.model.proofs.Widths.{WellList}
 use Rattle.model.proofs.PendingLaws.{wanted-well}
 use Rattle.model.proofs.CommandLaws.{ids-wide}
@@ -35,14 +35,20 @@ use Rattle.mark_requested.proofs.AnswerLaws.{marked-pending, marked-full, few-h
 use Rattle.commands.proofs.RecordedLaws.{well-ids}
 use Rattle.commands.proofs.HoldingLaws.{length-requests, holding-same}
 use Rattle.request_announced.specs.Requested.{requestedAs, sentWithin}
+use Rattle.request_announced.specs.declared.request.Requested.{Requested}
+use Rattle.request_announced.specs.declared.request.Written.{Written}
 use Rattle.request_announced.specs.declared.request.Requested.the-variants.{Done, Full}
-use Rattle.model.specs.Layout.{commandSize, idSize, recordSize}
+use Rattle.model.specs.Layout.{commandSize, idListSize, idSize, recordSize}
 
 -- ---- the answer, by how many would be pending
 
+-- what is answered of acts for which there is room
+abbrev pub writtenTo : ℕ → ℕ → model.Done → Written
+writtenTo at batch done =
+    record { count = length (done .pending); at = at + length (sentBytes batch (done .sendings)); batch = batch + length (done .sendings) }
+
 module _ (most at batch : ℕ) (done : model.Done) where
-  pub few-requested : leb (length (done .pending)) most ≡ true
-      → requestedAs most at batch done ≡ Done (record { count = length (done .pending); at = at + length (sentBytes batch (done .sendings)); batch = batch + length (done .sendings) })
+  pub few-requested : leb (length (done .pending)) most ≡ true → requestedAs most at batch done ≡ Done (writtenTo at batch done)
   unfolding requestedAs
   few-requested h = rw h
 
@@ -50,7 +56,8 @@ module _ (most at batch : ℕ) (done : model.Done) where
   unfolding requestedAs
   many-requested h = rw h
 
-  pub few-sent : (o : List ℕ) → leb (length (done .pending)) most ≡ true → sentWithin most at batch done o ≡ overwritten at (sentBytes batch (done .sendings)) o
+  pub few-sent : (o : List ℕ) → leb (length (done .pending)) most ≡ true
+      → sentWithin most at batch done o ≡ overwritten at (sentBytes batch (done .sendings)) o
   unfolding sentWithin
   few-sent o h = rw h
 
@@ -58,42 +65,94 @@ module _ (most at batch : ℕ) (done : model.Done) where
   unfolding sentWithin
   many-sent o h = rw h
 
--- ---- nothing done
+-- ---- what a list goes through rule 3 with: the parameters of `mark_and_send`
 
-untouched : (most count at batch : ℕ) (t o : List ℕ) (done : model.Done) → done ≡ record { pending = requestsIn count t; sendings = [] } → count ≤ most → most * recordSize ≤ length t → Bytes t
-    → (Done (record { count = count; at = at; batch = batch }) ≡ requestedAs most at batch done)
-    × ((t ≡ heldWithin most count (done .pending) t) × (o ≡ sentWithin most at batch done o))
-unfolding sentBytes
-untouched most count at batch t o done e le room f =
-    let none : model.Done = record { pending = requestsIn count t; sendings = [] } in
-    let l : length (requestsIn count t) ≡ count = length-requests count t in
-    let b : leb (length (requestsIn count t)) most ≡ true = le-leb (length (requestsIn count t)) most (omega arith) in
-    let fits : count * recordSize ≤ length t = omega (arith, mul-le-mul-right recordSize le) in
-    rw e (
-      sym (few-requested most at batch none b ∙ rw (l, add-zero at, add-zero batch)),
-      (sym (few-held most count (requestsIn count t) t b ∙ holding-same count t fits f), sym (few-sent most at batch none o b ∙ overwritten-nil at o)),
-    )
+pub record Given : Type 0 where
+  pub table : List ℕ
+  pub count : ℕ
+  pub most : ℕ
+  pub clock : ℕ
+  pub typeid : ℕ
+  pub peer : ℕ
+  pub ids : List ℕ
+  pub out : List ℕ
+  pub at : ℕ
+  pub batch : ℕ
+
+-- what is required of it, and what its types say
+pub record Entered (g : Given) : Type 0 where
+  pub whole : length g.ids % idSize ≡ 0
+  pub few : length g.ids ≤ idListSize
+  pub held : g.count ≤ g.most
+  pub limit : g.most ≤ trackedLimit
+  pub room : g.most * recordSize ≤ length g.table
+  pub rise : rising idSize (entries recordSize g.count g.table) ≡ true
+  pub table-bytes : Bytes g.table
+  pub ids-bytes : Bytes g.ids
+  pub type-fits : g.typeid < 2 ^ 8
+  pub peer-fits : g.peer < 2 ^ 64
+
+-- the answer, the table and the area are as this says
+abbrev pub Answers : Given → model.Done → Requested → List ℕ → List ℕ → Type 0
+Answers g done answer table out =
+    (answer ≡ requestedAs g.most g.at g.batch done)
+    × ((table ≡ heldWithin g.most g.count (done .pending) g.table) × (out ≡ sentWithin g.most g.at g.batch done g.out))
+
+-- the ids that the rule leaves, and what it does
+abbrev pub wantedOf : List ℕ → Given → List Id
+wantedOf stored g = wanted (requestsIn g.count g.table) g.typeid (pairsIn stored) (idsIn g.ids)
+
+abbrev pub askedOf : Bool → List ℕ → Given → model.Done
+askedOf gate stored g = perform gate g.clock (ask g.typeid g.peer (pairsIn stored) (idsIn g.ids)) (requestsIn g.count g.table)
+
+-- all ids marked, then sent
+abbrev pub markedOf : Given → List Request
+markedOf g = markRequested g.clock g.typeid g.peer (idsIn g.ids) (requestsIn g.count g.table)
+
+abbrev pub announcedOf : Given → model.Done
+announcedOf g = requestAnnounced true g.clock g.typeid g.peer (idsIn g.ids) (requestsIn g.count g.table)
+
+abbrev pub batchOf : Given → List ℕ
+batchOf g = allCommandBytes (commandsOf g.batch (request g.typeid g.peer (idsIn g.ids)))
+
+-- the wanted ids, n of them, at the front of the room
+pub record Left (stored : List ℕ) (g : Given) (d rest : List ℕ) (n : ℕ) : Type 0 where
+  pub written : rest ≡ overwritten 0 (joined (wantedOf stored g)) d
+  pub number : n ≡ length (wantedOf stored g)
+
+-- ---- nothing done
 
 none-left : (ids : List Id) → length ids < 1 → ids ≡ []
 none-left [] h = refl
 none-left (id ∷ ids) h = absurd (omega arith)
 
-module _ (gate : Bool) (clock typeId peer most count at batch : ℕ) (pairs : List Pair) (ids : List Id) (t o : List ℕ) (le : count ≤ most) (room : most * recordSize ≤ length t) (f : Bytes t) where
-  abbrev asked : model.Done
-  asked = perform gate clock (ask typeId peer pairs ids) (requestsIn count t)
+module _ {g : Given} (e : Entered g) where
+  untouched : (done : model.Done) → done ≡ record { pending = requestsIn g.count g.table; sendings = [] }
+      → Answers g done (Done (record { count = g.count; at = g.at; batch = g.batch })) g.table g.out
+  unfolding sentBytes
+  untouched done q =
+      let rs : List Request = requestsIn g.count g.table in
+      let none : model.Done = record { pending = rs; sendings = [] } in
+      let l : length rs ≡ g.count = length-requests g.count g.table in
+      let b : leb (length rs) g.most ≡ true = le-leb (length rs) g.most (omega (arith, e .held)) in
+      let fits : g.count * recordSize ≤ length g.table = omega (arith, mul-le-mul-right recordSize (e .held), e .room) in
+      rw q (
+        sym (few-requested g.most g.at g.batch none b ∙ rw (l, add-zero g.at, add-zero g.batch)),
+        (
+          sym (few-held g.most g.count rs g.table b ∙ holding-same g.count g.table fits (e .table-bytes)),
+          sym (few-sent g.most g.at g.batch none g.out b ∙ overwritten-nil g.at g.out),
+        ),
+      )
 
-  -- "gate shut, nothing"
-  pub gate-shut : gate ≡ false
-      → (Done (record { count = count; at = at; batch = batch }) ≡ requestedAs most at batch asked) × ((t ≡ heldWithin most count (asked .pending) t) × (o ≡ sentWithin most at batch asked o))
-  gate-shut g =
-      let e : asked ≡ record { pending = requestsIn count t; sendings = [] } = rw g in
-      untouched most count at batch t o asked e le room f
+  module _ (gate : Bool) (stored : List ℕ) where
+    -- "gate shut, nothing"
+    pub gate-shut : not gate ≡ true → Answers g (askedOf gate stored g) (Done (record { count = g.count; at = g.at; batch = g.batch })) g.table g.out
+    gate-shut shut = untouched (askedOf gate stored g) (rw (not-true gate shut))
 
-  pub none-wanted : gate ≡ true → (n : ℕ) → n ≡ length (wanted (requestsIn count t) typeId pairs ids) → n < 1
-      → (Done (record { count = count; at = at; batch = batch }) ≡ requestedAs most at batch asked) × ((t ≡ heldWithin most count (asked .pending) t) × (o ≡ sentWithin most at batch asked o))
-  none-wanted g n en h =
-      let e : asked ≡ record { pending = requestsIn count t; sendings = [] } = rw (g, none-left (wanted (requestsIn count t) typeId pairs ids) (omega arith)) in
-      untouched most count at batch t o asked e le room f
+    pub none-wanted : not gate ≡ false → {d rest : List ℕ} {n : ℕ} → Left stored g d rest n → n < 1
+        → Answers g (askedOf gate stored g) (Done (record { count = g.count; at = g.at; batch = g.batch })) g.table g.out
+    none-wanted ajar w h =
+        untouched (askedOf gate stored g) (rw (not-false gate ajar, none-left (wantedOf stored g) (omega (arith, w .number))))
 
 -- ---- some wanted
 
@@ -104,81 +163,94 @@ all-ids es w =
     let n : length (joined es) / idSize ≡ length es = omega arith in
     rw n (rw (append-nil (joined es)) at (entries-joined 32 es [] w))
 
-module _ (typeId peer n : ℕ) (pairs : List Pair) (ids : List ℕ) (rs : List Request) (d rest : List ℕ) (ht : typeId < 2 ^ 8) (hp : peer < 2 ^ 64) (f : Bytes ids)
-    (er : rest ≡ overwritten 0 (joined (wanted rs typeId pairs (idsIn ids))) d) (en : n ≡ length (wanted rs typeId pairs (idsIn ids))) where
-  list-well : WellList typeId peer (idsIn ids)
-  list-well = record { typeId = ht; peer = hp; ids = well-ids ids f }
+module _ {stored : List ℕ} {g : Given} {d rest : List ℕ} {n : ℕ} (e : Entered g) (w : Left stored g d rest n) where
+  wide : Wide idSize (wantedOf stored g)
+  wide =
+      let list : WellList g.typeid g.peer (idsIn g.ids) =
+      record { typeId = e .type-fits; peer = e .peer-fits; ids = well-ids g.ids (e .ids-bytes) } in
+      ids-wide (wantedOf stored g) (wanted-well (requestsIn g.count g.table) g.typeid g.peer (pairsIn stored) (idsIn g.ids) list .ids)
 
-  wide : Wide idSize (wanted rs typeId pairs (idsIn ids))
-  wide = ids-wide (wanted rs typeId pairs (idsIn ids)) (wanted-well rs typeId peer pairs (idsIn ids) list-well .ids)
+  long : length (joined (wantedOf stored g)) ≡ n * idSize
+  long = length-joined 32 (wantedOf stored g) wide ∙ rw (← w .number)
 
-  long : length (joined (wanted rs typeId pairs (idsIn ids))) ≡ n * idSize
-  long = length-joined 32 (wanted rs typeId pairs (idsIn ids)) wide ∙ rw (← en)
+  front : take (n * idSize) rest ≡ joined (wantedOf stored g)
+  front = rw (w .written, ← long) (front-read-back (joined (wantedOf stored g)) d)
 
-  -- the wanted ids at the front of the room
-  front : take (n * idSize) rest ≡ joined (wanted rs typeId pairs (idsIn ids))
-  front = rw (er, ← long) (front-read-back (joined (wanted rs typeId pairs (idsIn ids))) d)
-
-  pub front-ids : idsIn (take (n * idSize) rest) ≡ wanted rs typeId pairs (idsIn ids)
-  front-ids = ap idsIn front ∙ all-ids (wanted rs typeId pairs (idsIn ids)) wide
+  pub front-ids : idsIn (take (n * idSize) rest) ≡ wantedOf stored g
+  front-ids = ap idsIn front ∙ all-ids (wantedOf stored g) wide
 
   pub front-long : length (take (n * idSize) rest) ≡ n * idSize
   front-long = ap length front ∙ long
 
-  pub few-wanted : n ≤ length ids / idSize
+  pub few-wanted : n ≤ length g.ids / idSize
   unfolding wanted
   few-wanted =
-      let new : Id → Bool = λ (id : Id). not (isPending id rs) in
-      let a = length-kept new (idsIn ids) in
-      let b = length-kept (λ (id : Id). not (isStored pairs typeId id)) (kept new (idsIn ids)) in
-      omega (arith, length-ids ids)
+      let new : Id → Bool = λ (id : Id). not (isPending id (requestsIn g.count g.table)) in
+      let a = length-kept new (idsIn g.ids) in
+      let b = length-kept (λ (id : Id). not (isStored (pairsIn stored) g.typeid id)) (kept new (idsIn g.ids)) in
+      omega (arith, length-ids g.ids, w .number)
+
+  -- what `mark_and_send` asks
+  pub send-asks : 1 ≤ n → g.at + length g.ids / idSize * commandSize ≤ length g.out → g.batch + 1 < 65536
+      → let ids = take (n * idSize) rest in
+      ((length ids % idSize ≡ 0)
+      × ((length ids ≤ idListSize) × ((g.count ≤ g.most) × ((g.most ≤ trackedLimit) × (g.most * recordSize ≤ length g.table)))))
+      × ((rising idSize (entries recordSize g.count g.table) ≡ true)
+      × ((0 < length ids) × ((g.at + length ids / idSize * commandSize ≤ length g.out) × (g.batch + 1 < 65536))))
+  send-asks more room number =
+      let l = front-long in
+      let few = few-wanted in (
+        (rw l (omega arith), (rw l (omega (arith, e .few, few)), (e .held, (e .limit, e .room)))),
+        (e .rise, (rw l (omega arith), (rw l (omega (arith, few)), number))),
+      )
+
+  -- the wanted ids, marked and sent, are what rule 3 does
+  pub wanted-sent : (gate : Bool) → not gate ≡ false → {answer : Requested} {table out : List ℕ}
+      → Answers g (requestAnnounced true g.clock g.typeid g.peer (idsIn (take (n * idSize) rest)) (requestsIn g.count g.table)) answer table out
+      → Answers g (askedOf gate stored g) answer table out
+  wanted-sent gate ajar r =
+      let q : requestAnnounced true g.clock g.typeid g.peer (idsIn (take (n * idSize) rest)) (requestsIn g.count g.table) ≡ askedOf gate stored g =
+      rw (not-false gate ajar, front-ids) in (
+        r .0 ∙ ap (requestedAs g.most g.at g.batch) q,
+        (
+          r .1 .0 ∙ ap (λ (done : model.Done). heldWithin g.most g.count (done .pending) g.table) q,
+          r .1 .1 ∙ ap (λ (done : model.Done). sentWithin g.most g.at g.batch done g.out) q,
+        ),
+      )
 
 -- ---- marked, then sent
 
 sent-one : (batch typeId peer : ℕ) (ids : List Id) → 0 < length ids
-    → (sentBytes batch (requestOf typeId peer ids) ≡ allCommandBytes (commandsOf batch (request typeId peer ids))) × (length (requestOf typeId peer ids) ≡ 1)
+    → (sentBytes batch (requestOf typeId peer ids) ≡ allCommandBytes (commandsOf batch (request typeId peer ids)))
+    × (length (requestOf typeId peer ids) ≡ 1)
 unfolding sentBytes
 sent-one batch typeId peer [] h = absurd (omega arith)
 sent-one batch typeId peer (id ∷ ids) h = (rw append-nil, refl)
 
-module _ (clock typeId peer most count at batch : ℕ) (ids t : List ℕ) (some : 0 < length ids) (whole : length ids % idSize ≡ 0) where
-  some-ids : 0 < length (idsIn ids)
-  some-ids = omega (arith, length-ids ids)
+module _ {g : Given} (e : Entered g) where
+  -- what `put_requests` asks
+  pub put-asks : g.at + length g.ids / idSize * commandSize ≤ length g.out
+      → (length g.ids % idSize ≡ 0) × ((length g.ids ≤ idListSize) × (g.at + length (batchOf g) ≤ length g.out))
+  put-asks room =
+      let one = request g.typeid g.peer (idsIn g.ids) in
+      let a = sendings-bytes g.batch (one ∷ []) (record { typeId = e .type-fits; peer = e .peer-fits; ids = well-ids g.ids (e .ids-bytes) }, tt) in
+      let q : allCommandBytes (commandsOf g.batch one ++ []) ≡ batchOf g = rw append-nil in
+      let l = length-ids g.ids in
+      (e .whole, (e .few, omega (arith, ap length q)))
 
-  pub send-room : (o : List ℕ) → typeId < 2 ^ 8 → peer < 2 ^ 64 → Bytes ids → at + length ids / idSize * commandSize ≤ length o
-      → at + length (allCommandBytes (commandsOf batch (request typeId peer (idsIn ids)))) ≤ length o
-  send-room o ht hp f room =
-      let a = sendings-bytes batch (request typeId peer (idsIn ids) ∷ []) (record { typeId = ht; peer = hp; ids = well-ids ids f }, tt) in
-      let e : allCommandBytes (commandsOf batch (request typeId peer (idsIn ids)) ++ []) ≡ allCommandBytes (commandsOf batch (request typeId peer (idsIn ids))) = rw append-nil in
-      let l = length-ids ids in
-      omega (arith, ap length e)
+  module _ {answer : Marked} {table : List ℕ}
+      (m : (answer ≡ markedAs g.most (markedOf g)) × (table ≡ heldWithin g.most g.count (markedOf g) g.table)) where
+    pub marked-too-many : answer ≡ marked.Full → Answers g (announcedOf g) Full table g.out
+    marked-too-many full =
+        let many : leb (length (markedOf g)) g.most ≡ false = marked-full g.most (markedOf g) (rw full at (m .0)) in
+        (sym (many-requested g.most g.at g.batch (announcedOf g) many), (m .1, sym (many-sent g.most g.at g.batch (announcedOf g) g.out many)))
 
-  pub marked-too-many : (answer : Marked) (t′ o : List ℕ) → answer ≡ marked.Full → answer ≡ markedAs most (markRequested clock typeId peer (idsIn ids) (requestsIn count t))
-      → t′ ≡ heldWithin most count (markRequested clock typeId peer (idsIn ids) (requestsIn count t)) t
-      → (Full ≡ requestedAs most at batch (requestAnnounced true clock typeId peer (idsIn ids) (requestsIn count t)))
-      × ((t′ ≡ heldWithin most count (markRequested clock typeId peer (idsIn ids) (requestsIn count t)) t)
-      × (o ≡ sentWithin most at batch (requestAnnounced true clock typeId peer (idsIn ids) (requestsIn count t)) o))
-  marked-too-many answer t′ o full told et =
-      let done : model.Done = requestAnnounced true clock typeId peer (idsIn ids) (requestsIn count t) in
-      let m : leb (length (done .pending)) most ≡ false = marked-full most (done .pending) (rw full at told) in
-      (sym (many-requested most at batch done m), (et, sym (many-sent most at batch done o m)))
-
-  pub marked-then-sent : (answer : Marked) (held place : ℕ) (t′ o o′ : List ℕ) → answer ≡ marked.Pending held → answer ≡ markedAs most (markRequested clock typeId peer (idsIn ids) (requestsIn count t))
-      → t′ ≡ heldWithin most count (markRequested clock typeId peer (idsIn ids) (requestsIn count t)) t
-      → o′ ≡ overwritten at (allCommandBytes (commandsOf batch (request typeId peer (idsIn ids)))) o
-      → place ≡ at + length (allCommandBytes (commandsOf batch (request typeId peer (idsIn ids))))
-      → (Done (record { count = held; at = place; batch = batch + 1 }) ≡ requestedAs most at batch (requestAnnounced true clock typeId peer (idsIn ids) (requestsIn count t)))
-      × ((t′ ≡ heldWithin most count (markRequested clock typeId peer (idsIn ids) (requestsIn count t)) t)
-      × (o′ ≡ sentWithin most at batch (requestAnnounced true clock typeId peer (idsIn ids) (requestsIn count t)) o))
-  marked-then-sent answer held place t′ o o′ pending told et eo ep =
-      let done : model.Done = requestAnnounced true clock typeId peer (idsIn ids) (requestsIn count t) in
-      let p = marked-pending most held (done .pending) (rw pending at told) in
-      let s = sent-one batch typeId peer (idsIn ids) some-ids in (
-        sym (few-requested most at batch done (p .0) ∙ rw (s .0, s .1, ← ep, ← p .1)),
-        (et, sym (few-sent most at batch done o (p .0) ∙ rw (s .0) (sym eo))),
-      )
-
--- the wanted ids, marked and sent, are what rule 3 does
-pub wanted-done : (gate : Bool) (clock typeId peer : ℕ) (pairs : List Pair) (ids front : List Id) (rs : List Request) → gate ≡ true → front ≡ wanted rs typeId pairs ids
-    → requestAnnounced true clock typeId peer front rs ≡ perform gate clock (ask typeId peer pairs ids) rs
-wanted-done gate clock typeId peer pairs ids front rs g e = rw (g, e)
+    pub marked-then-sent : 0 < length g.ids → {held place : ℕ} {out : List ℕ} → answer ≡ marked.Pending held
+        → (out ≡ overwritten g.at (batchOf g) g.out) × (place ≡ g.at + length (batchOf g))
+        → Answers g (announcedOf g) (Done (record { count = held; at = place; batch = g.batch + 1 })) table out
+    marked-then-sent some {held} {place} {out} pending sent =
+        let p = marked-pending g.most held (markedOf g) (rw pending at (m .0)) in
+        let s = sent-one g.batch g.typeid g.peer (idsIn g.ids) (omega (arith, length-ids g.ids, e .whole)) in (
+          sym (few-requested g.most g.at g.batch (announcedOf g) (p .0) ∙ rw (s .0, s .1, ← sent .1, ← p .1)),
+          (m .1, sym (few-sent g.most g.at g.batch (announcedOf g) g.out (p .0) ∙ rw (s .0) (sym (sent .0)))),
+        )

@@ -31,7 +31,8 @@ pub clock-is : (r : Sent) (vs : List Val) → Is S.the-row r vs → Is T.the-row
 clock-is r vs is = LL.owed S.the-type S′.the-laws r vs is .0
 
 -- what whoever has a clock and a bool owes of the answer made of them
-pub sent-is : (c : SendClock) (g : Bool) → Is T.the-row c (mach c ∷ []) → Is S.the-row (record { clock = c; sent = g }) (mach-sent (record { clock = c; sent = g }) ∷ [])
+pub sent-is : (c : SendClock) (g : Bool) → Is T.the-row c (mach c ∷ [])
+    → Is S.the-row (record { clock = c; sent = g }) (mach-sent (record { clock = c; sent = g }) ∷ [])
 sent-is c g is = LL.owes S.the-type S′.the-laws (record { clock = c; sent = g }) (is, (refl, tt))
 
 -- rule 2 of the clock h: what the clock c is then, and whether a sync info goes out

@@ -20,10 +20,14 @@ same-length : tie.Need-same-length
 same-length c = search needs
 
 returns : tie.Need-returns
-returns c = let s = c .before .before .before .before .before in
-    let bytes : Bytes (s .args .table .now) = λ i. omega (arith, c .before .before .before .before .slice-known .given i) in
-    let w = marks (s .args .i) (s .args .peer) (s .args .table .now) (c .before .before .write-u64 .last .0) (s .pre) bytes (c .before .before .write-u64 .ensures) in
-    (w, marked-as (s .args .i) (s .args .peer) (s .args .table .now) (c .before .before .write-u64 .last .0) bytes (omega (arith, s .good)) w)
+returns c =
+    let s : tie.Start = search in
+    let known : tie.After-slice-known = search in
+    let written : tie.After-write-u64 = search in
+    let a = s .args in
+    let bytes : Bytes (a .table .now) = λ i. omega (arith, known .slice-known .given i) in
+    let w = marks (a .i) (a .peer) (a .table .now) (s .pre) bytes (written .write-u64 .ensures) in
+    (w, marked-as (a .i) (a .peer) (a .table .now) bytes (omega (arith, s .good)) w)
 
 pub mark-retried-spec : {M : Type 1} → statement M
 mark-retried-spec =

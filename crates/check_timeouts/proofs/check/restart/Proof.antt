@@ -26,7 +26,10 @@ add-write-u32 : tie.Need-add-write-u32
 add-write-u32 c = search needs
 
 add-write-u32-2 : tie.Need-add-write-u32-2
-add-write-u32-2 c = let s = c .before .before .before .before .before .before .before .before in omega (arith, c .before .before .before .before .before .read-u32 .ensures ∙ checks-read (s .args .i) (s .args .table .now), s .pre .1)
+add-write-u32-2 c =
+    let s : tie.Start = search in
+    let read : tie.After-read-u32 = search in
+    omega (arith, read .read-u32 .ensures ∙ checks-read (s .args .i) (s .args .table .now), s .pre .1)
 
 write-u32-requires : tie.Need-write-u32-requires
 write-u32-requires c κs = search needs
@@ -35,10 +38,15 @@ same-length : tie.Need-same-length
 same-length c = search needs
 
 returns : tie.Need-returns
-returns c = let s = c .before .before .before .before .before .before .before .before .before .before .before in
-    let bytes : Bytes (s .args .table .now) = λ i. omega (arith, c .before .before .before .before .before .before .before .before .before .before .slice-known .given i) in
-    restarts (s .args .i) (s .args .clock) (s .args .table .now) (c .before .before .before .before .before .before .write-u64 .last .0) (c .before .before .write-u32 .last .0) (c .before .before .before .before .before .before .before .before .read-u32 .result) (s .pre .0) bytes
-    (c .before .before .before .before .before .before .before .before .read-u32 .ensures) (c .before .before .before .before .before .before .write-u64 .ensures) (c .before .before .write-u32 .ensures)
+returns c =
+    let s : tie.Start = search in
+    let known : tie.After-slice-known = search in
+    let read : tie.After-read-u32 = search in
+    let stamped : tie.After-write-u64 = search in
+    let counted : tie.After-write-u32 = search in
+    let a = s .args in
+    let bytes : Bytes (a .table .now) = λ i. omega (arith, known .slice-known .given i) in
+    restarts (a .i) (a .clock) (a .table .now) (s .pre .0) bytes (read .read-u32 .ensures) (stamped .write-u64 .ensures) (counted .write-u32 .ensures)
 
 pub restart-spec : {M : Type 1} → statement M
 restart-spec =

@@ -29,10 +29,17 @@ same-length : tie.Need-same-length
 same-length c = search needs
 
 returns : tie.Need-returns
-returns c = let s = c .before .before .before .before .before .before .before .before .before .before .before .before in
-    let bytes : Bytes (s .args .table .now) = λ i. omega (arith, c .before .before .before .before .before .before .before .before .before .before .before .slice-known .given i) in
-    retries-as (s .args .i) (s .args .clock) (aimedAt (s .args .aim)) (s .args .table .now) (c .before .before .before .before .before .before .before .before .before .restart .last .0) (c .before .before .mark-retried .last .0) (c .before .before .before .before .before .read-u64 .result) (c .before .before .before .target .result) (s .pre .0) bytes (omega (arith, s .good)) (s .pre .1)
-    (c .before .before .before .before .before .before .before .before .before .restart .ensures) (c .before .before .before .before .before .read-u64 .ensures) (c .before .before .before .target .ensures) (c .before .before .mark-retried .ensures .0)
+returns c =
+    let s : tie.Start = search in
+    let known : tie.After-slice-known = search in
+    let begun : tie.After-restart = search in
+    let read : tie.After-read-u64 = search in
+    let aimed : tie.After-target = search in
+    let marked : tie.After-mark-retried = search in
+    let a = s .args in
+    let bytes : Bytes (a .table .now) = λ i. omega (arith, known .slice-known .given i) in
+    retries-as (a .i) (a .clock) (aimedAt (a .aim)) (a .table .now) (s .pre .0) bytes (omega (arith, s .good)) (s .pre .1)
+    (begun .restart .ensures) (read .read-u64 .ensures) (aimed .target .ensures) (marked .mark-retried .ensures .0)
 
 pub retry-spec : {M : Type 1} → statement M
 retry-spec =

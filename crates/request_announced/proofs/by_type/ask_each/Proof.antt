@@ -1,13 +1,12 @@
 -- The loop: the asks of the places that are left bring the table and the area to what all bring the first ones to (`Asking`).
 use borrow.Author.Needs.{needs}
 use native.Mathlib.Omega.{arith}
-use Prim.Native.Nat.{ℕ, _-_}
-use mathlib.Core.List.{List}
+use Prim.Native.Nat.{_-_}
 use lib.ListN.{length}
 use Rattle.fields.specs.Facts.{Bytes}
 use Rattle.fields.proofs.AllLaws.{all-at}
 use Rattle.request_announced.specs.Pairs.{Within}
-use Rattle.request_announced.specs.Run.{Run, run, Ready}
+use Rattle.request_announced.specs.Run.{Run, run}
 use Rattle.request_announced.proofs.AskLaws.{Asking, Turn, within, ask-starts, ask-ends, ids-long, goes-on, stays-within, places-few, request-asks, ask-full, ask-turn}
 use Rattle.request_announced.proofs.by_type.ask_each.Statement.{statement}
 use Rattle.request_announced.proofs.by_type.ask_each.Tie as tie
@@ -43,8 +42,8 @@ Requested = tie.After-request-announced Inv-loop μ-loop
 abbrev runs : Start → Run
 runs s =
     let a = s .args in
-    run (a .table .now) (a .count) (a .most) (a .gate) (a .clock) (a .peer) (a .stored .now) (a .pairs .now) (a .places .now) (a .ids .now) (a .rest .now) (a .out .now)
-    (a .at) (a .batch)
+    run (a .table .now) (a .count) (a .most) (a .gate) (a .clock) (a .peer) (a .stored .now) (a .pairs .now) (a .places .now)
+    (a .ids .now) (a .rest .now) (a .out .now) (a .at) (a .batch)
 
 -- the places of one type, from the loop's i on
 module _ (c : Ended) where

@@ -12,10 +12,12 @@ slice-aggregate-gather : tie.Need-slice-aggregate-gather
 slice-aggregate-gather c = search needs
 
 gather-requires : tie.Need-gather-requires
-gather-requires c κs = let s = c .before .before .before in (s .pre .0, (omega arith, omega (arith, s .pre .1, length-zeros idListSize)))
+gather-requires c κs = let s : tie.Start = search in (s .pre .0, (omega arith, omega (arith, s .pre .1, length-zeros idListSize)))
 
 returns : tie.Need-returns
-returns c = let s = c .before .before .before .before .before in ids-in-front (s .args .pairs .now) (s .args .places .now) (zeros idListSize) (c .before .gather .last .1 .1 .1 .1 .0) (s .pre .0) (c .before .gather .ensures)
+returns c =
+    let s : tie.Start = search in
+    ids-in-front (s .args .pairs .now) (s .args .places .now) (zeros idListSize) (s .pre .0) (c .before .gather .ensures)
 
 pub ids-at-spec : {M : Type 1} → statement M
 ids-at-spec = tie.close (tie.spec slice-aggregate-gather gather-requires returns)

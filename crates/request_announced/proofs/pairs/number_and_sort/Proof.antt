@@ -15,10 +15,14 @@ slice-relend-prefix-sort : tie.Need-slice-relend-prefix-sort
 slice-relend-prefix-sort c = search needs
 
 slice-aggregate-sort : tie.Need-slice-aggregate-sort
-slice-aggregate-sort c = let s = c .before .before .before .before .before .before .before .before .before in sym (length-take-le (length (s .args .places .now)) (s .args .spare .now) (s .pre .1 .1))
+slice-aggregate-sort c = let s : tie.Start = search in sym (length-take-le (length (s .args .places .now)) (s .args .spare .now) (s .pre .1 .1))
 
 sort-requires : tie.Need-sort-requires
-sort-requires c κs = let s = c .before .before .before .before .before .before .before .before .before in (omega arith, (omega arith, omega (arith, length-take-le (length (s .args .places .now)) (s .args .spare .now) (s .pre .1 .1), c .before .before .before .before .number .kept .0)))
+sort-requires c κs =
+    let s : tie.Start = search in
+    let numbered : tie.After-number = search in
+    let l = length-take-le (length (s .args .places .now)) (s .args .spare .now) (s .pre .1 .1) in
+    (omega arith, (omega arith, omega (arith, l, numbered .number .kept .0)))
 
 same-length : tie.Need-same-length
 same-length c = search needs
@@ -27,10 +31,11 @@ same-length-2 : tie.Need-same-length-2
 same-length-2 c = search needs
 
 returns : tie.Need-returns
-returns c = let s = c .before .before .before .before .before .before .before .before .before .before .before .before .before .before in
-    let u = c .before .before .before .before .before .before .before .before .before .number in
-    let v = c .before .before .before .before .sort in
-    sorted-places (s .args .pairs .now) (u .last .0) (v .last .1 .1 .1 .1 .0) (length (s .args .places .now)) (s .pre .0) (u .ensures) (v .ensures)
+returns c =
+    let s : tie.Start = search in
+    let numbered : tie.After-number = search in
+    let done : tie.After-sort = search in
+    sorted-places (s .args .pairs .now) (s .pre .0) (numbered .number .ensures) (done .sort .ensures)
 
 pub number-and-sort-spec : {M : Type 1} → statement M
 number-and-sort-spec =

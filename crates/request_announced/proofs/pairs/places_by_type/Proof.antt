@@ -17,15 +17,18 @@ array-borrow-prefix-places : tie.Need-array-borrow-prefix-places
 array-borrow-prefix-places c = search needs
 
 slice-aggregate-fill : tie.Need-slice-aggregate-fill
-slice-aggregate-fill c = let s = c .before .before in sym (length-take-le (length (s .args .pairs .now) / pairSize) (zeros trackedLimit) (omega (arith, s .pre, length-zeros trackedLimit)))
+slice-aggregate-fill c =
+    let s : tie.Start = search in
+    sym (length-take-le (length (s .args .pairs .now) / pairSize) (zeros trackedLimit) (omega (arith, s .pre, length-zeros trackedLimit)))
 
 fill-requires : tie.Need-fill-requires
-fill-requires c κs = let s = c .before .before in
+fill-requires c κs =
+    let s : tie.Start = search in
     let l = length-take-le (length (s .args .pairs .now) / pairSize) (zeros trackedLimit) (omega (arith, s .pre, length-zeros trackedLimit)) in
     (l, omega (arith, l, s .pre))
 
 returns : tie.Need-returns
-returns c = front-places (c .before .before .before .before .args .pairs .now) (c .before .fill .last .1 .0) (c .before .fill .ensures) _
+returns c = let s : tie.Start = search in front-places (s .args .pairs .now) (c .before .fill .last .1 .0) (c .before .fill .ensures) _
 
 pub places-by-type-spec : {M : Type 1} → statement M
 places-by-type-spec =

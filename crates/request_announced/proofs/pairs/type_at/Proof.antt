@@ -14,7 +14,7 @@ shared-slice-read-result : tie.Need-shared-slice-read-result
 shared-slice-read-result c = search needs
 
 returns : tie.Need-returns
-returns c = let a = c .before .before .before .args in type-read (a .pairs .now) (a .place) (c .before .wide .result) (c .before .wide .ensures)
+returns c = let s : tie.Start = search in type-read (s .args .pairs .now) (s .args .place) (c .before .wide .result) (c .before .wide .ensures)
 
 pub type-at-spec : {M : Type 1} → statement M
 type-at-spec = tie.close (tie.spec wide-requires mul-at shared-slice-read-result returns)

@@ -1,10 +1,51 @@
 -- What is marked is sent as one batch: `marked-then-sent`; too many, and neither is done.
 use borrow.Author.Needs.{needs}
 use native.Mathlib.Omega.{arith}
-use Rattle.fields.specs.Facts.{Bytes}
-use Rattle.request_announced.proofs.RequestedLaws.{send-room, marked-too-many, marked-then-sent}
+use Rattle.request_announced.proofs.RequestedLaws.{Given, Entered, put-asks, marked-too-many, marked-then-sent}
 use Rattle.request_announced.proofs.request.mark_and_send.Statement.{statement}
 use Rattle.request_announced.proofs.request.mark_and_send.Tie as tie
+
+-- ---- the entry
+
+module _ (c : tie.After-slice-known2) where
+  abbrev start : tie.Start
+  start = search
+
+  abbrev given : Given
+  given =
+      let a = start .args in
+      record {
+        table = a .table .now;
+        count = a .count;
+        most = a .most;
+        clock = a .clock;
+        typeid = a .typeid;
+        peer = a .peer;
+        ids = a .ids .now;
+        out = a .out .now;
+        at = a .at;
+        batch = a .batch;
+      }
+
+  entered : Entered given
+  entered =
+      let table : tie.After-slice-known = search in
+      let ids : tie.After-shared-slice-known = search in
+      let p = start .pre .0 in
+      record {
+        whole = p .0;
+        few = p .1 .0;
+        held = p .1 .1 .0;
+        limit = p .1 .1 .1 .0;
+        room = p .1 .1 .1 .1;
+        rise = start .pre .1 .0;
+        table-bytes = λ i. omega (arith, table .slice-known .given i);
+        ids-bytes = λ i. omega (arith, ids .shared-slice-known .given i);
+        type-fits = omega (arith, start .fits);
+        peer-fits = omega (arith, start .fits);
+      }
+
+-- ---- the needs
 
 mark-requested-requires : tie.Need-mark-requested-requires
 mark-requested-requires c κs = search needs
@@ -16,10 +57,9 @@ enum-known-held : tie.Need-enum-known-held
 enum-known-held c = search needs
 
 put-requests-requires : tie.Need-put-requests-requires
-put-requests-requires c κs = let s = c .before .before .before .before .before .before .before .before .before .before .before in
-    let a = s .args in
-    let f : Bytes (a .ids .now) = λ i. omega (arith, c .before .before .before .before .before .before .before .before .before .shared-slice-known .given i) in
-    (s .pre .0 .0, (s .pre .0 .1 .0, send-room (a .clock) (a .typeid) (a .peer) (a .most) (a .count) (a .at) (a .batch) (a .ids .now) (a .table .now) (s .pre .1 .1 .0) (s .pre .0 .0) (a .out .now) (omega (arith, s .fits)) (omega (arith, s .fits)) f (s .pre .1 .1 .1 .0)))
+put-requests-requires c κs =
+    let here : tie.After-slice-known2 = search in
+    put-asks (entered here) (start here .pre .1 .1 .1 .0)
 
 add-t19 : tie.Need-add-t19
 add-t19 c = search needs
@@ -28,10 +68,10 @@ same-length : tie.Need-same-length
 same-length c = search needs
 
 returns : tie.Need-returns
-returns c = let s = c .before .before .before .before .before .before .before .before .before in
-    let a = s .args in
-    let m = c .before .before .before .before .mark-requested in
-    marked-too-many (a .clock) (a .typeid) (a .peer) (a .most) (a .count) (a .at) (a .batch) (a .ids .now) (a .table .now) (s .pre .1 .1 .0) (s .pre .0 .0) (m .result) (m .last .0) (a .out .now) (c .enum-told .given .1) (m .ensures .0) (m .ensures .1)
+returns c =
+    let here : tie.After-slice-known2 = search in
+    let marked : tie.After-mark-requested = search in
+    marked-too-many (entered here) (marked .mark-requested .ensures) (c .enum-told .given .1)
 
 same-length-2 : tie.Need-same-length-2
 same-length-2 c = search needs
@@ -40,11 +80,13 @@ same-length-3 : tie.Need-same-length-3
 same-length-3 c = search needs
 
 returns-2 : tie.Need-returns-2
-returns-2 c = let s = c .before .before .before .before .before .before .before .before .before .before .before .before .before .before in
-    let a = s .args in
-    let m = c .before .before .before .before .before .before .before .before .before .mark-requested in
-    let p = c .before .before .put-requests in
-    marked-then-sent (a .clock) (a .typeid) (a .peer) (a .most) (a .count) (a .at) (a .batch) (a .ids .now) (a .table .now) (s .pre .1 .1 .0) (s .pre .0 .0) (m .result) (c .before .before .before .before .before .held .given .0 .0) (p .result) (m .last .0) (a .out .now) (p .last .0) (c .before .before .before .before .before .held .given .1) (m .ensures .0) (m .ensures .1) (p .ensures .0) (p .ensures .1)
+returns-2 c =
+    let here : tie.After-slice-known2 = search in
+    let marked : tie.After-mark-requested = search in
+    let told : tie.After-held = search in
+    let sent : tie.After-put-requests = search in
+    let some = start here .pre .1 .1 .0 in
+    marked-then-sent (entered here) (marked .mark-requested .ensures) some (told .held .given .1) (sent .put-requests .ensures)
 
 pub mark-and-send-spec : {M : Type 1} → statement M
 mark-and-send-spec =

@@ -1,26 +1,67 @@
--- Shut or nothing wanted: `gate-shut`, `none-wanted`; else the wanted ids stand at the front of the room (`front-ids`).
+-- Shut or nothing wanted: `gate-shut`, `none-wanted`; else the wanted ids at the front of the room are marked and sent (`wanted-sent`).
 use borrow.Author.Needs.{needs}
 use native.Mathlib.Omega.{arith}
-use Prim.Native.Nat.{_*_}
-use mathlib.Core.Path.{sym, ap, _∙_}
-use lib.ListN.{take}
-use borrow.Author.Tests.{not-true, not-false}
-use Rattle.fields.specs.Facts.{Bytes}
-use Rattle.model.specs.Lists.{idsIn, pairsIn}
-use Rattle.model.specs.Requests.{Done}
-use Rattle.commands.specs.Pending.{requestsIn}
-use Rattle.mark_requested.specs.Marking.{heldWithin}
-use Rattle.request_announced.specs.Requested.{requestedAs, sentWithin}
-use Rattle.request_announced.proofs.RequestedLaws.{gate-shut, none-wanted, front-ids, front-long, few-wanted, wanted-done}
+use mathlib.Core.Path.{sym}
+use Rattle.request_announced.proofs.RequestedLaws.{Given, Entered, Left, gate-shut, none-wanted, few-wanted, front-long, send-asks, wanted-sent}
 use Rattle.request_announced.proofs.request.request_announced.Statement.{statement}
 use Rattle.request_announced.proofs.request.request_announced.Tie as tie
-use Rattle.model.specs.Layout.{idSize}
+
+-- ---- the entry
+
+module _ (c : tie.After-slice-known3) where
+  abbrev start : tie.Start
+  start = search
+
+  abbrev given : Given
+  given =
+      let a = start .args in
+      record {
+        table = a .table .now;
+        count = a .count;
+        most = a .most;
+        clock = a .clock;
+        typeid = a .typeid;
+        peer = a .peer;
+        ids = a .ids .now;
+        out = a .out .now;
+        at = a .at;
+        batch = a .batch;
+      }
+
+  entered : Entered given
+  entered =
+      let table : tie.After-slice-known = search in
+      let ids : tie.After-shared-slice-known2 = search in
+      let p = start .pre .0 in
+      record {
+        whole = p .0;
+        few = p .1 .0;
+        held = p .1 .1 .0;
+        limit = p .1 .1 .1 .0;
+        room = p .1 .1 .1 .1;
+        rise = start .pre .1 .0;
+        table-bytes = λ i. omega (arith, table .slice-known .given i);
+        ids-bytes = λ i. omega (arith, ids .shared-slice-known2 .given i);
+        type-fits = omega (arith, start .fits);
+        peer-fits = omega (arith, start .fits);
+      }
+
+-- ---- the wanted ids, at the front of the room
+
+module _ (c : tie.After-wanted) where
+  abbrev entry : tie.After-slice-known3
+  entry = search
+
+  left : let a = start entry .args in Left (a .stored .now) (given entry) (a .rest .now) (c .wanted .last .1 .1 .1 .1 .1 .0) (c .wanted .result)
+  left = record { written = c .wanted .ensures .0; number = c .wanted .ensures .1 }
+
+-- ---- the needs
 
 returns : tie.Need-returns
-returns c = let s = c .before .before .before .before .before .before in
-    let a = s .args in
-    let f : Bytes (a .table .now) = λ i. omega (arith, c .before .before .before .before .before .slice-known .given i) in
-    gate-shut (a .gate) (a .clock) (a .typeid) (a .peer) (a .most) (a .count) (a .at) (a .batch) (pairsIn (a .stored .now)) (idsIn (a .ids .now)) (a .table .now) (a .out .now) (s .pre .0 .1 .1 .0) (s .pre .0 .1 .1 .1 .1) f (not-true (a .gate) (c .if1 .taken))
+returns c =
+    let here : tie.After-slice-known3 = search in
+    let a = start here .args in
+    gate-shut (entered here) (a .gate) (a .stored .now) (c .if1 .taken)
 
 wanted-requires : tie.Need-wanted-requires
 wanted-requires c κs = search needs
@@ -32,42 +73,31 @@ same-length-2 : tie.Need-same-length-2
 same-length-2 c = search needs
 
 returns-2 : tie.Need-returns-2
-returns-2 c = let s = c .before .before .before .before .before .before .before .before .before .before .before .before in
-    let a = s .args in
-    let f : Bytes (a .table .now) = λ i. omega (arith, c .before .before .before .before .before .before .before .before .before .before .before .slice-known .given i) in
-    let w = c .before .before .before .wanted in
-    none-wanted (a .gate) (a .clock) (a .typeid) (a .peer) (a .most) (a .count) (a .at) (a .batch) (pairsIn (a .stored .now)) (idsIn (a .ids .now)) (a .table .now) (a .out .now) (s .pre .0 .1 .1 .0) (s .pre .0 .1 .1 .1 .1) f (not-false (a .gate) (c .before .before .before .before .before .before .if1 .left)) (w .result) (w .ensures .1) (c .if2 .taken)
+returns-2 c =
+    let ajar : tie.Else1 = search in
+    let some : tie.After-wanted = search in
+    let a = start (entry some) .args in
+    none-wanted (entered (entry some)) (a .gate) (a .stored .now) (ajar .if1 .left) (left some) (c .if2 .taken)
 
 mul-size : tie.Need-mul-size
-mul-size c = let s = c .before .before .before .before .before .before .before .before .before .before .before .before in
-    let a = s .args in
-    let w = c .before .before .before .wanted in
-    let f : Bytes (a .ids .now) = λ i. omega (arith, c .before .before .before .before .before .before .before .before .before .shared-slice-known2 .given i) in
-    omega (arith, few-wanted (a .typeid) (a .peer) (w .result) (pairsIn (a .stored .now)) (a .ids .now) (requestsIn (a .count) (a .table .now)) (a .rest .now) (w .last .1 .1 .1 .1 .1 .0) (omega (arith, s .fits)) (omega (arith, s .fits)) f (w .ensures .0) (w .ensures .1), s .pre .0 .1 .0)
+mul-size c =
+    let some : tie.After-wanted = search in
+    omega (arith, few-wanted (entered (entry some)) (left some), entered (entry some) .few)
 
 slice-reshare-prefix-mark-and-send : tie.Need-slice-reshare-prefix-mark-and-send
-slice-reshare-prefix-mark-and-send c = let s = c .before .before .before .before .before .before .before .before .before .before .before .before .before in
-    let a = s .args in
-    let w = c .before .before .before .before .wanted in
-    let f : Bytes (a .ids .now) = λ i. omega (arith, c .before .before .before .before .before .before .before .before .before .before .shared-slice-known2 .given i) in
-    omega (arith, few-wanted (a .typeid) (a .peer) (w .result) (pairsIn (a .stored .now)) (a .ids .now) (requestsIn (a .count) (a .table .now)) (a .rest .now) (w .last .1 .1 .1 .1 .1 .0) (omega (arith, s .fits)) (omega (arith, s .fits)) f (w .ensures .0) (w .ensures .1), s .pre .1 .1 .1 .0)
+slice-reshare-prefix-mark-and-send c =
+    let some : tie.After-wanted = search in
+    omega (arith, few-wanted (entered (entry some)) (left some), start (entry some) .pre .1 .1 .1 .0)
 
 slice-aggregate-mark-and-send : tie.Need-slice-aggregate-mark-and-send
-slice-aggregate-mark-and-send c = let s = c .before .before .before .before .before .before .before .before .before .before .before .before .before .before in
-    let a = s .args in
-    let w = c .before .before .before .before .before .wanted in
-    let f : Bytes (a .ids .now) = λ i. omega (arith, c .before .before .before .before .before .before .before .before .before .before .before .shared-slice-known2 .given i) in
-    sym (front-long (a .typeid) (a .peer) (w .result) (pairsIn (a .stored .now)) (a .ids .now) (requestsIn (a .count) (a .table .now)) (a .rest .now) (w .last .1 .1 .1 .1 .1 .0) (omega (arith, s .fits)) (omega (arith, s .fits)) f (w .ensures .0) (w .ensures .1))
+slice-aggregate-mark-and-send c = let some : tie.After-wanted = search in sym (front-long (entered (entry some)) (left some))
 
 mark-and-send-requires : tie.Need-mark-and-send-requires
-mark-and-send-requires c κs = let s = c .before .before .before .before .before .before .before .before .before .before .before .before .before .before .before in
-    let a = s .args in
-    let w = c .before .before .before .before .before .before .wanted in
-    let f : Bytes (a .ids .now) = λ i. omega (arith, c .before .before .before .before .before .before .before .before .before .before .before .before .shared-slice-known2 .given i) in
-    let n = few-wanted (a .typeid) (a .peer) (w .result) (pairsIn (a .stored .now)) (a .ids .now) (requestsIn (a .count) (a .table .now)) (a .rest .now) (w .last .1 .1 .1 .1 .1 .0) (omega (arith, s .fits)) (omega (arith, s .fits)) f (w .ensures .0) (w .ensures .1) in
-    let l = front-long (a .typeid) (a .peer) (w .result) (pairsIn (a .stored .now)) (a .ids .now) (requestsIn (a .count) (a .table .now)) (a .rest .now) (w .last .1 .1 .1 .1 .1 .0) (omega (arith, s .fits)) (omega (arith, s .fits)) f (w .ensures .0) (w .ensures .1) in
-    let more = c .before .before .before .if2 .left in
-    ((rw l (omega arith), (rw l (omega (arith, s .pre .0 .1 .0)), s .pre .0 .1 .1)), (s .pre .1 .0, (rw l (omega arith), (rw l (omega (arith, s .pre .1 .1 .1 .1 .0)), s .pre .1 .1 .1 .1 .1))))
+mark-and-send-requires c κs =
+    let some : tie.After-wanted = search in
+    let more : tie.Else2 = search in
+    let p = start (entry some) .pre .1 .1 .1 .1 in
+    send-asks (entered (entry some)) (left some) (more .if2 .left) (p .0) (p .1)
 
 same-length-3 : tie.Need-same-length-3
 same-length-3 c = search needs
@@ -79,16 +109,11 @@ same-length-5 : tie.Need-same-length-5
 same-length-5 c = search needs
 
 returns-3 : tie.Need-returns-3
-returns-3 c = let s = c .before .before .before .before .before .before .before .before .before .before .before .before .before .before .before .before .before .before .before .before in
-    let a = s .args in
-    let w = c .before .before .before .before .before .before .before .before .before .before .before .wanted in
-    let f : Bytes (a .ids .now) = λ i. omega (arith, c .before .before .before .before .before .before .before .before .before .before .before .before .before .before .before .before .before .shared-slice-known2 .given i) in
-    let e = front-ids (a .typeid) (a .peer) (w .result) (pairsIn (a .stored .now)) (a .ids .now) (requestsIn (a .count) (a .table .now)) (a .rest .now) (w .last .1 .1 .1 .1 .1 .0) (omega (arith, s .fits)) (omega (arith, s .fits)) f (w .ensures .0) (w .ensures .1) in
-    let q = wanted-done (a .gate) (a .clock) (a .typeid) (a .peer) (pairsIn (a .stored .now)) (idsIn (a .ids .now)) (idsIn (take (w .result * idSize) (w .last .1 .1 .1 .1 .1 .0))) (requestsIn (a .count) (a .table .now)) (not-false (a .gate) (c .before .before .before .before .before .before .before .before .before .before .before .before .before .before .if1 .left)) e in
-    let r = c .before .before .before .before .mark-and-send .ensures in (
-      r .0 ∙ ap (requestedAs (a .most) (a .at) (a .batch)) q,
-      (r .1 .0 ∙ ap (λ (done : Done). heldWithin (a .most) (a .count) (done .pending) (a .table .now)) q, r .1 .1 ∙ ap (λ (done : Done). sentWithin (a .most) (a .at) (a .batch) done (a .out .now)) q),
-    )
+returns-3 c =
+    let ajar : tie.Else1 = search in
+    let some : tie.After-wanted = search in
+    let sent : tie.After-mark-and-send = search in
+    wanted-sent (entered (entry some)) (left some) (start (entry some) .args .gate) (ajar .if1 .left) (sent .mark-and-send .ensures)
 
 pub request-announced-spec : {M : Type 1} → statement M
 request-announced-spec =

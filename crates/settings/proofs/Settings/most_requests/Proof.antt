@@ -16,16 +16,16 @@ returns c = rw (eq-eqb (c .before .args .typeid) 2 (c .if1 .taken))
 returns-2 : tie.Need-returns-2
 unfolding settingsOf mostRequests isTransaction
 returns-2 c =
-    let s = c .before .before .before .args in
-    let m : 1 ≡ max 1 (s .self .checks) = omega arith in
-    rw (ne-eqb (s .typeid) 2 (c .before .before .if1 .left)) m
+    let s : tie.Start = search in
+    let m : 1 ≡ max 1 (s .args .self .checks) = omega arith in
+    rw (ne-eqb (s .args .typeid) 2 (c .before .before .if1 .left)) m
 
 returns-3 : tie.Need-returns-3
 unfolding settingsOf mostRequests isTransaction
 returns-3 c =
-    let s = c .before .before .before .args in
-    let m : s .self .checks ≡ max 1 (s .self .checks) = omega arith in
-    rw (ne-eqb (s .typeid) 2 (c .before .before .if1 .left)) m
+    let s : tie.Start = search in
+    let m : s .args .self .checks ≡ max 1 (s .args .self .checks) = omega arith in
+    rw (ne-eqb (s .args .typeid) 2 (c .before .before .if1 .left)) m
 
 pub most-requests-spec : {M : Type 1} → statement M
 most-requests-spec = tie.close (tie.spec returns returns-2 returns-3)
