@@ -163,10 +163,10 @@ module _ (gate : Bool) (clock : ℕ) (acts : List Act) (p : List Request) (e : L
         }
 
 -- with nothing sent before
-pub first-done : (gate : Bool) (clock : ℕ) (acts : List Act) (p : List Request) (e : List Id) (region out : List ℕ) (n gone at batch : ℕ) → Stands p e region → clock < 2 ^ 64 → All WellAct acts
-    → requestsIn n region ≡ p → n ≡ length p → gone ≡ length e → at + total actWeight acts ≤ length out
-    → (r : Performed) (after out′ : List ℕ) → Asks gate clock acts (unasked n gone at batch) region out r after out′
+pub first-done : {gate : Bool} {clock : ℕ} {acts : List Act} {p : List Request} {e : List Id} {region out : List ℕ} {n gone at batch : ℕ} {r : Performed} {after out′ : List ℕ}
+    → Stands p e region → clock < 2 ^ 64 → All WellAct acts → requestsIn n region ≡ p → n ≡ length p → gone ≡ length e → at + total actWeight acts ≤ length out
+    → Asks gate clock acts (unasked n gone at batch) region out r after out′
     → Performs at batch (asking (performAll gate clock acts p) e [] (unasked n gone at batch)) out r after out′
 unfolding sentBytes
-first-done gate clock acts p e region out n gone at batch s k w hq hn he room r after out′ a =
+first-done {gate} {clock} {acts} {p} {e} {region} {out} {n} {gone} {at} {batch} {r} {after} {out′} s k w hq hn he room a =
     asks-done gate clock acts p e region out out [] (unasked n gone at batch) at batch s k w hq hn he (sym (add-zero at)) (sym (add-zero batch)) (sym (overwritten-nil at out)) room r after out′ a

@@ -50,6 +50,6 @@ none-evicted-plain st c downloaded peer e =
 none-evicted : (evicted : ℕ) (region : List ℕ) → evicted ≡ 0 → evictedIn evicted region ≡ []
 none-evicted evicted region e = rw e
 
-pub given-plain : (head : Head) (call : Call) (region ids stored peers view : List ℕ) (st : State) (c : calls.Call) → Given head region call ids stored peers view st c → head .evicted ≡ 0
-    → (downloaded peer : ℕ) → workedBy st c downloaded (CheckFresh peer) ≡ workedBy st c downloaded Check
-given-plain head call region ids stored peers view st c g e downloaded peer = none-evicted-plain st c downloaded peer (g .evicted ∙ none-evicted (head .evicted) region e)
+module _ {head : Head} {call : Call} {region ids stored peers view : List ℕ} {st : State} {c : calls.Call} (g : Given head region call ids stored peers view st c) where
+  pub given-plain : head .evicted ≡ 0 → (downloaded peer : ℕ) → workedBy st c downloaded (CheckFresh peer) ≡ workedBy st c downloaded Check
+  given-plain e downloaded peer = none-evicted-plain st c downloaded peer (g .evicted ∙ none-evicted (head .evicted) region e)

@@ -1,6 +1,5 @@
 -- One list is one act: `list-asked`; where there is no room for it, all stays: `list-full`.
-use Prim.Native.Nat.{ℕ, _-_}
-use mathlib.Core.List.{List}
+use Prim.Native.Nat.{_-_}
 use native.Mathlib.Omega.{arith}
 use lib.Dec.{eqb}
 use borrow.Author.Needs.{needs}

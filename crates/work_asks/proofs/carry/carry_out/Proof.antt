@@ -1,6 +1,5 @@
 -- The work behind the announcement: `carries`; with nothing announced, what the work left alone is as it was: `nothing-before`.
-use Prim.Native.Nat.{ℕ}
-use mathlib.Core.Path.{_≡_, ap, _∙_}
+use mathlib.Core.Path.{_∙_}
 use native.Mathlib.Omega.{arith}
 use Rattle.work_asks.proofs.SentLaws.{carries, nothing-before}
 use Rattle.work_asks.proofs.carry.carry_out.Statement.{statement}

@@ -79,7 +79,7 @@ returns c = let s : tie.Start = search in
     let a = s .args in (
       λ st call g. as-work st call (a .downloaded) (told .enum-told .given .1)
           (did .nothing .ensures st call (a .region .now) (a .ids .now) (a .stored .now) (a .peers .now) (a .view .now) (a .out .now) (a .call)
-          (rw (clock-given (a .head) (a .call) (a .region .now) (a .ids .now) (a .stored .now) (a .peers .now) (a .view .now) st call g) (s .pre .0)) g (a .downloaded)),
+          (rw (clock-given g) (s .pre .0)) g (a .downloaded)),
       several (told .enum-told .given .1) refl,
     )
 
