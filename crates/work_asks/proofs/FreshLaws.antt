@@ -32,7 +32,7 @@ use Rattle.work.specs.Checking.{checkedPending, checkedSendings, judgedCount, c
 use Rattle.work.proofs.CheckLaws.{Due, checked-stands, checked-count, checked-bytes}
 use Rattle.work_asks.specs.Asked.{Asks}
 use Rattle.work_asks.proofs.EntryLaws.{Entered, ListAsks}
-use Rattle.work_asks.proofs.AskedLaws.{asking, asks-done}
+use Rattle.work_asks.proofs.AskedLaws.{asking, Behind, asks-done}
 use Rattle.model.specs.Layout.{idSize}
 
 -- ---- what it comes to
@@ -105,19 +105,23 @@ module _ {head : Head} {call : Call} {region : List ℕ} {at batch peer : ℕ} {
           ),
         )
 
+    behind : Behind (checkedPending head call peers region) [] table out first (checkedSendings head call peers region) (checkedCounts head call peers region at batch) at batch
+    unfolding checkedCounts
+    behind =
+        let table-is = stands-requests (checkedPending head call peers region) [] table stands in
+        record { stands = stands; table = table-is; pending = refl; evicted = refl; end = refl; next = refl; written = done .sent }
+
     pub asks-fresh : {stored after out′ : List ℕ} {r : Performed}
         → Asks (eqb (call .gate) 1) (call .clock) (ask headerType peer (pairsIn stored) (idsIn (take (head .evicted * idSize) fresh)) ∷ []) before table first r after out′
         → {st : State} {c : calls.Call} {ids view : List ℕ} → Given head region call ids stored peers view st c → (downloaded : ℕ)
         → Performs at batch (workedBy st c downloaded (CheckFresh peer)) out r after out′
     unfolding checkedCounts
     asks-fresh {stored} {after} {out′} {r} a g downloaded =
-        let q : List Request = checkedPending head call peers region in
         let e : List Id = evictedIn (head .evicted) region in
         let gate : Bool = eqb (call .gate) 1 in
         let counts : Counts = checkedCounts head call peers region at batch in
-        let behind : Asks gate (call .clock) (ask headerType peer (pairsIn stored) e ∷ []) counts table first r after out′ = rw (done .counts, fresh-ids) at a in
+        let asked : Asks gate (call .clock) (ask headerType peer (pairsIn stored) e ∷ []) counts table first r after out′ = rw (done .counts, fresh-ids) at a in
         rw (fresh-worked g downloaded at batch peer)
-        (asks-done gate (call .clock) (ask headerType peer (pairsIn stored) e ∷ []) q [] table out first (checkedSendings head call peers region) counts at batch stands (n .clock)
+        (asks-done behind gate (call .clock) (ask headerType peer (pairsIn stored) e ∷ []) (n .clock)
         (record { typeId = omega arith; peer = n .asked; ids = tracked-stands head (call .clock) region (n .tracked) (n .bytes) .ids }, tt)
-        (stands-requests q [] table stands) refl refl refl refl (done .sent)
-        (omega (arith, checked-bytes due batch, length-evicted (head .evicted) region, n .tracked .few, n .room)) r after out′ behind)
+        (omega (arith, checked-bytes due batch, length-evicted (head .evicted) region, n .tracked .few, n .room)) asked)

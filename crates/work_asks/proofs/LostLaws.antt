@@ -132,6 +132,6 @@ module _ {head : Head} {call : Call} {region : List ℕ} {at batch peer : ℕ} {
           let long = orphans-long in
           let few = orphans-few in
           rw (lose-ask-worked g downloaded left (head .evicted) at batch peer, ← acts)
-          (first-done s (n .clock) (asks-well peer (pairsIn stored) front (n .asked) fp)
-          (rw (l .count) (stands-requests (others head region) (evictedIn (head .evicted) region) table s)) (l .count) (sym (length-evicted (head .evicted) region))
+          (first-done s (rw (l .count) (stands-requests (others head region) (evictedIn (head .evicted) region) table s)) (l .count)
+          (sym (length-evicted (head .evicted) region)) (n .clock) (asks-well peer (pairsIn stored) front (n .asked) fp)
           (omega (arith, asks-weight peer (pairsIn stored) front, long, few, n .tracked .few, n .room)) (rw b at a))

@@ -93,8 +93,8 @@ module _ {head : Head} {call : Call} {region : List ℕ} {at batch peer : ℕ} {
         → Performs at batch (workedBy st c downloaded (Sections peer)) out r after out′
     asks-sections b a g =
         rw (sections-worked g downloaded (head .pending) (head .evicted) at batch peer)
-        (first-done (tracked-stands head (call .clock) region (n .tracked) (n .bytes)) (n .clock) (window-acts-well view fv fits (call .height) downloaded peer (n .asked))
-        refl (sym (length-requests (head .pending) region)) (sym (length-evicted (head .evicted) region))
+        (first-done (tracked-stands head (call .clock) region (n .tracked) (n .bytes)) refl (sym (length-requests (head .pending) region))
+        (sym (length-evicted (head .evicted) region)) (n .clock) (window-acts-well view fv fits (call .height) downloaded peer (n .asked))
         (omega (arith, window-weight view fv fits (call .height) downloaded peer, n .room)) (rw b at a))
 
     pub asks-after-purge : {purged : List ℕ} → purged ≡ holding (head .pending) (purgeAll (requestsIn (head .pending) region)) region → before ≡ unasked 0 (head .evicted) at batch
@@ -105,5 +105,5 @@ module _ {head : Head} {call : Call} {region : List ℕ} {at batch peer : ℕ} {
     asks-after-purge {purged} h b a g =
         let s : Stands [] (evictedIn (head .evicted) region) purged = rw h (taken-stands head (call .clock) region (n .tracked) (n .bytes) [] tt tt (omega arith)) in
         rw (purge-sections-worked g downloaded 0 (head .evicted) at batch peer)
-        (first-done s (n .clock) (window-acts-well view fv fits (call .height) downloaded peer (n .asked)) refl refl (sym (length-evicted (head .evicted) region))
+        (first-done s refl refl (sym (length-evicted (head .evicted) region)) (n .clock) (window-acts-well view fv fits (call .height) downloaded peer (n .asked))
         (omega (arith, window-weight view fv fits (call .height) downloaded peer, n .room)) (rw b at a))
