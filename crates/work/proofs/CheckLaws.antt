@@ -113,7 +113,8 @@ module _ {head : Head} {call : Call} {peers region : List ℕ} (due : Due head c
   unfolding checkedAs
   made-retried e = rw e retried-few
 
-  module _ {table places : List ℕ} (ht : table ≡ holding (head .pending) after region) (hp : places ≡ retriedPlaces settings (call .clock) pending 0) where
+  module _ {table places : List ℕ} (ht : table ≡ holding (head .pending) after region)
+      (hp : places ≡ retriedPlaces settings (call .clock) pending 0) where
     table-stands : Stands after evicted table
     table-stands = rw ht after-stands
 
@@ -198,7 +199,8 @@ unfolding workedBy actedBy countBy retriedBy pendingAfterCheck
 check-worked st c downloaded gate clock settings peers p e hp he hs hg hc hr =
     rw (hp, he, hs, hg, hc, hr, append-nil (retrySendings (retries (eqb gate 1) settings clock (peersIn peers) p)))
 
-module _ {head : Head} {call : Call} {region ids stored peers view : List ℕ} {st : State} {c : calls.Call} (g : Given head region call ids stored peers view st c) where
+module _ {head : Head} {call : Call} {region ids stored peers view : List ℕ} {st : State} {c : calls.Call}
+    (g : Given head region call ids stored peers view st c) where
   pub checks : Due head call peers region → (downloaded at batch : ℕ) {counts : Counts} {after : List ℕ} (out : List ℕ) {out′ : List ℕ}
       → counts ≡ checkedCounts head call peers region at batch → after ≡ regionOf (checkedPending head call peers region) []
       → out′ ≡ overwritten at (sentBytes batch (checkedSendings head call peers region)) out

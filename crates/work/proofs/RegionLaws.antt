@@ -39,7 +39,8 @@ over-end at a b new h l =
     rw (take-at a b at h, drop-of-length-le (a ++ b) {i = at + length new} e, append-nil)
 
 -- cut before the ids
-cut-region : (p : List Request) (e : List Id) → regionOf p e ≡ (joined (map requestBytes p) ++ zeros (regionSize - length p * recordSize - length e * idSize)) ++ joined e
+cut-region : (p : List Request) (e : List Id)
+    → regionOf p e ≡ (joined (map requestBytes p) ++ zeros (regionSize - length p * recordSize - length e * idSize)) ++ joined e
 unfolding regionOf
 cut-region p e = sym (append-assoc (joined (map requestBytes p)) (zeros (regionSize - length p * recordSize - length e * idSize)) (joined e))
 
@@ -66,7 +67,8 @@ module _ (p : List Request) (e : List Id) (wp : Wide recordSize (map requestByte
   front-region =
       rw (length-append (joined (map requestBytes p)), length-zeros, length-records) (omega arith)
 
-  pub holding-region : (q : List Request) → Wide recordSize (map requestBytes q) → length q + length e ≤ trackedLimit → holding (length p) q (regionOf p e) ≡ regionOf q e
+  pub holding-region : (q : List Request) → Wide recordSize (map requestBytes q) → length q + length e ≤ trackedLimit
+      → holding (length p) q (regionOf p e) ≡ regionOf q e
   unfolding holding regionOf
   holding-region q wq room =
       let free : ℕ = regionSize - length p * recordSize - length e * idSize in
@@ -77,7 +79,8 @@ module _ (p : List Request) (e : List Id) (wp : Wide recordSize (map requestByte
       (rw (lp, lq) at r) ∙ rw n
 
   -- more ids end it, or none
-  pub ending-region : (e′ : List Id) → Wide idSize e′ → length e ≤ length e′ → length p + length e′ ≤ trackedLimit → endingWith e′ (regionOf p e) ≡ regionOf p e′
+  pub ending-region : (e′ : List Id) → Wide idSize e′ → length e ≤ length e′ → length p + length e′ ≤ trackedLimit
+      → endingWith e′ (regionOf p e) ≡ regionOf p e′
   unfolding endingWith
   ending-region e′ we′ more room =
       let free : ℕ = regionSize - length p * recordSize - length e * idSize in
@@ -156,7 +159,8 @@ module _ (p : List Request) (e : List Id) (region : List ℕ) (s : Stands p e re
   pub stands-rising : rising idSize (entries recordSize (length p) region) ≡ true
   stands-rising = rw stands-entries (ascending-rising idSize (map requestBytes p) (records-rise p (s .recorded) (s .rise)))
 
-  pub stands-holding : (q : List Request) → All Recorded q → RisingIds (idsOf q) → length q + length e ≤ trackedLimit → Stands q e (holding (length p) q region)
+  pub stands-holding : (q : List Request) → All Recorded q → RisingIds (idsOf q) → length q + length e ≤ trackedLimit
+      → Stands q e (holding (length p) q region)
   stands-holding q wq rise room =
       record {
         recorded = wq;
@@ -166,7 +170,8 @@ module _ (p : List Request) (e : List Id) (region : List ℕ) (s : Stands p e re
         held = ap (holding (length p) q) (s .held) ∙ holding-region p e records-are-wide ids-are-wide (s .few) q (records-wide q wq) room;
       }
 
-  pub stands-ending : (e′ : List Id) → All WellId e′ → length e ≤ length e′ → length p + length e′ ≤ trackedLimit → Stands p e′ (endingWith e′ region)
+  pub stands-ending : (e′ : List Id) → All WellId e′ → length e ≤ length e′ → length p + length e′ ≤ trackedLimit
+      → Stands p e′ (endingWith e′ region)
   stands-ending e′ we′ more room =
       record {
         recorded = s .recorded;

@@ -41,7 +41,8 @@ module _ (st : State) (c : calls.Call) (downloaded : ℕ) (p : List Request) (e 
   unfolding workedBy actedBy countBy retriedBy retrySendings batchesOf
   received-worked ids hi = rw (hp, he, hi)
 
-  evicted-worked : (ids : List ℕ) → c .ids ≡ ids → workedBy st c downloaded Evicted ≡ quiet (pendingAfterEviction (idsIn ids) p) (evictedAfterEviction (idsIn ids) e)
+  evicted-worked : (ids : List ℕ) → c .ids ≡ ids
+      → workedBy st c downloaded Evicted ≡ quiet (pendingAfterEviction (idsIn ids) p) (evictedAfterEviction (idsIn ids) e)
   unfolding workedBy actedBy countBy retriedBy retrySendings batchesOf
   evicted-worked ids hi = rw (hp, he, hi)
 
@@ -90,7 +91,8 @@ module _ (head : Head) (clock : ℕ) (region : List ℕ) (t : Tracked head clock
     unfolding scheduledAs performedAs fits
     schedule-full = go (leb (length remaining + length grown) trackedLimit) refl
       where
-        go : (b : Bool) → leb (length remaining + length grown) trackedLimit ≡ b → scheduled.Full ≡ cond b (scheduled.Pending (length remaining)) scheduled.Full
+        go : (b : Bool) → leb (length remaining + length grown) trackedLimit ≡ b
+            → scheduled.Full ≡ cond b (scheduled.Pending (length remaining)) scheduled.Full
             → Performs at batch (quiet remaining grown) out Full after out
         go true e h = let z : _≡_ {A = ℕ} 0 1 = cc in absurd (omega arith)
         go false e h = record { answered = rw e; left = λ y. absurd (false≢true (sym e ∙ y)); written = λ y. absurd (false≢true (sym e ∙ y)) }
@@ -101,7 +103,8 @@ module _ (head : Head) (clock : ℕ) (region : List ℕ) (t : Tracked head clock
     unfolding scheduledAs regionThen
     schedule-done left gone = go (leb (length remaining + length grown) trackedLimit) refl
       where
-        go : (b : Bool) → leb (length remaining + length grown) trackedLimit ≡ b → scheduled.Pending left ≡ cond b (scheduled.Pending (length remaining)) scheduled.Full
+        go : (b : Bool) → leb (length remaining + length grown) trackedLimit ≡ b
+            → scheduled.Pending left ≡ cond b (scheduled.Pending (length remaining)) scheduled.Full
             → gone ≡ head .evicted + length ids / idSize
             → after ≡ cond b (endingWith grown (holding (head .pending) remaining region)) region
             → Performs at batch (quiet remaining grown) out (leaving left gone at batch) after out
@@ -113,7 +116,8 @@ module _ (head : Head) (clock : ℕ) (region : List ℕ) (t : Tracked head clock
 
 -- ---- by the state and the call that are given
 
-module _ {head : Head} {call : Call} {region ids stored peers view : List ℕ} {st : State} {c : calls.Call} (g : Given head region call ids stored peers view st c) where
+module _ {head : Head} {call : Call} {region ids stored peers view : List ℕ} {st : State} {c : calls.Call}
+    (g : Given head region call ids stored peers view st c) where
   abbrev asked : List Request
   asked = requestsIn (head .pending) region
 

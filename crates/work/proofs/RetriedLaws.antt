@@ -30,7 +30,8 @@ use Rattle.check_timeouts.specs.Turn.{restartedTo}
 use Rattle.check_timeouts.proofs.RetryLaws.{staysTo, checkedTo, length-checked, pending-after}
 use Rattle.model.specs.Layout.{recordSize}
 
-pub types-below : (es : List (List ℕ)) → Wide recordSize es → All Bytes es → typesNarrow es ≡ true → All (λ (r : Request). r .typeId < 256) (map requestOf es)
+pub types-below : (es : List (List ℕ)) → Wide recordSize es → All Bytes es → typesNarrow es ≡ true
+    → All (λ (r : Request). r .typeId < 256) (map requestOf es)
 types-below [] w f h = tt
 types-below (e ∷ es) w f h = (
   narrow-type e (w .0) (f .0) (and-left (eqb (getD e 40 0) 0) (typesNarrow es) h),
@@ -47,7 +48,8 @@ target-well [] failed p h = h
 target-well (peer ∷ peers) failed p h = either WellPeer (eqb peer failed) (retryTarget peers failed) peer (target-well peers failed (p .1) h) (p .0)
 
 module _ (settings : Settings) (clock : ℕ) (target : ℕ → ℕ) where
-  checked-all : (P Q : Request → Type 0) → ((r : Request) → P r → Q r) → ((r : Request) → P r → Q (restartedTo clock target r)) → (rs : List Request) → All P rs
+  checked-all : (P Q : Request → Type 0) → ((r : Request) → P r → Q r) → ((r : Request) → P r → Q (restartedTo clock target r))
+      → (rs : List Request) → All P rs
       → All Q (checkedTo settings clock target rs)
   checked-all P Q f g [] p = tt
   checked-all P Q f g (r ∷ rs) p = go (verdict settings clock r) (checked-all P Q f g rs (p .1))
@@ -62,13 +64,15 @@ module _ (settings : Settings) (clock : ℕ) (target : ℕ → ℕ) where
   checked-few [] = omega arith
   checked-few (r ∷ rs) = go (verdict settings clock r) (checked-few rs)
     where
-      go : (v : Verdict) → length (checkedTo settings clock target rs) ≤ length rs → length (staysTo clock target v r (checkedTo settings clock target rs)) ≤ length (r ∷ rs)
+      go : (v : Verdict) → length (checkedTo settings clock target rs) ≤ length rs
+          → length (staysTo clock target v r (checkedTo settings clock target rs)) ≤ length (r ∷ rs)
       go waiting q = omega arith
       go retried q = omega arith
       go abandoned q = omega arith
       go forgotten q = omega arith
 
-  places-below : (rs : List Request) (n : ℕ) → All (λ (place : ℕ). place < n + length (checkedTo settings clock target rs)) (retriedPlaces settings clock rs n)
+  places-below : (rs : List Request) (n : ℕ)
+      → All (λ (place : ℕ). place < n + length (checkedTo settings clock target rs)) (retriedPlaces settings clock rs n)
   places-below [] n = tt
   places-below (r ∷ rs) n = go (verdict settings clock r) (places-below rs)
     where
@@ -134,7 +138,8 @@ module _ (gate : Bool) (settings : Settings) (clock : ℕ) (peers : List ℕ) (r
   unfolding restartedTo restarted
   after-types w = rw after-is (checked-all settings clock aim (λ (r : Request). r .typeId < 256) (λ (r : Request). r .typeId < 256) (λ r p. p) (λ r p. p) rs w)
 
-  pub after-recorded : clock < 2 ^ 64 → All WellPeer peers → All Recorded rs → All (λ (r : Request). r .checks + 1 < 2 ^ 32) rs → All Recorded (pendingAfterCheck gate settings clock peers rs)
+  pub after-recorded : clock < 2 ^ 64 → All WellPeer peers → All Recorded rs → All (λ (r : Request). r .checks + 1 < 2 ^ 32) rs
+      → All Recorded (pendingAfterCheck gate settings clock peers rs)
   unfolding restartedTo restarted
   after-recorded k w a b =
       rw after-is
@@ -144,7 +149,8 @@ module _ (gate : Bool) (settings : Settings) (clock : ℕ) (peers : List ℕ) (r
       rs (all-both Recorded (λ (r : Request). r .checks + 1 < 2 ^ 32) rs a b))
 
   -- the places in a table that holds what stays
-  module _ (table : List ℕ) (held : requestsIn (length (pendingAfterCheck gate settings clock peers rs)) table ≡ pendingAfterCheck gate settings clock peers rs) where
+  module _ (table : List ℕ)
+      (held : requestsIn (length (pendingAfterCheck gate settings clock peers rs)) table ≡ pendingAfterCheck gate settings clock peers rs) where
     abbrev count : ℕ
     count = length (pendingAfterCheck gate settings clock peers rs)
 
@@ -153,12 +159,14 @@ module _ (gate : Bool) (settings : Settings) (clock : ℕ) (peers : List ℕ) (r
         all-weaker (λ (place : ℕ). place < 0 + length (checkedTo settings clock aim rs)) (λ (place : ℕ). place < count) (λ place h. rw after-is (omega arith))
         (retriedPlaces settings clock rs 0) (places-below settings clock aim rs 0)
 
-    at-place : (place : ℕ) → place < count → requestOf (entry recordSize place table) ≡ getD (pendingAfterCheck gate settings clock peers rs) place (requestOf [])
+    at-place : (place : ℕ) → place < count
+        → requestOf (entry recordSize place table) ≡ getD (pendingAfterCheck gate settings clock peers rs) place (requestOf [])
     at-place place h =
         ap requestOf (sym (entries-at recordSize count place table h)) ∙ sym (List·getD-map requestOf (entries recordSize count table) place [])
         ∙ ap (λ (x : List Request). getD x place (requestOf [])) held
 
-    pub types-at : All (λ (r : Request). r .typeId < 256) rs → All (λ (place : ℕ). requestOf (entry recordSize place table) .typeId < 256) (retriedPlaces settings clock rs 0)
+    pub types-at : All (λ (r : Request). r .typeId < 256) rs
+        → All (λ (place : ℕ). requestOf (entry recordSize place table) .typeId < 256) (retriedPlaces settings clock rs 0)
     types-at w =
         all-weaker (λ (place : ℕ). place < count) (λ (place : ℕ). requestOf (entry recordSize place table) .typeId < 256)
         (λ place h. rw (at-place place h) (all-at (λ (r : Request). r .typeId < 256) (pendingAfterCheck gate settings clock peers rs) place (requestOf []) h (after-types w)))
@@ -172,14 +180,17 @@ module _ (gate : Bool) (settings : Settings) (clock : ℕ) (peers : List ℕ) (r
     pub items-at : map (λ (place : ℕ). itemOf (requestOf (entry recordSize place table))) (retriedPlaces settings clock rs 0) ≡ map itemOf (map (restartedTo clock aim) (judged settings clock retried rs))
     items-at = items-plain (retriedPlaces settings clock rs 0) below ∙ ap (map itemOf) (retried-at settings clock aim (requestOf []) (pendingAfterCheck gate settings clock peers rs) rs [] 0 refl after-is)
 
-pub retry-items : (settings : Settings) (clock : ℕ) (peers : List ℕ) (rs : List Request) → map itemOf (map (restartedTo clock (λ failed. retryTarget peers failed)) rs) ≡ map (retryOf peers) rs
+pub retry-items : (settings : Settings) (clock : ℕ) (peers : List ℕ) (rs : List Request)
+    → map itemOf (map (restartedTo clock (λ failed. retryTarget peers failed)) rs) ≡ map (retryOf peers) rs
 unfolding itemOf restartedTo restarted retryOf
 retry-items settings clock peers [] = refl
 retry-items settings clock peers (r ∷ rs) = ap (λ (is : List Item). retryOf peers r ∷ is) (retry-items settings clock peers rs)
 
 -- what is sent again of the places, with the gate open, and with it shut
-pub retried-items : (gate : Bool) (settings : Settings) (clock : ℕ) (peers : List ℕ) (rs : List Request) → RisingIds (idsOf rs) → (table places : List ℕ)
-    → requestsIn (length (pendingAfterCheck gate settings clock peers rs)) table ≡ pendingAfterCheck gate settings clock peers rs → places ≡ retriedPlaces settings clock rs 0
+pub retried-items : (gate : Bool) (settings : Settings) (clock : ℕ) (peers : List ℕ) (rs : List Request) → RisingIds (idsOf rs)
+    → (table places : List ℕ)
+    → requestsIn (length (pendingAfterCheck gate settings clock peers rs)) table ≡ pendingAfterCheck gate settings clock peers rs
+    → places ≡ retriedPlaces settings clock rs 0
     → cond gate (map (λ (place : ℕ). itemOf (requestOf (entry recordSize place table))) places) [] ≡ retries gate settings clock peers rs
 unfolding retries
 retried-items true settings clock peers rs rise table places held e = rw e (items-at true settings clock peers rs rise table held ∙ retry-items settings clock peers (judged settings clock retried rs))
@@ -196,7 +207,8 @@ module _ (gate : Bool) (settings : Settings) (clock : ℕ) (peers : List ℕ) (r
       let b = length-kept (λ (r : Request). eqb (verdictNumber (verdict settings clock r)) (verdictNumber retried)) rs in
       either (λ (is : List Item). length is ≤ length rs) gate (map (retryOf peers) due) [] (omega arith) (omega arith)
 
-  pub retries-in-width : All WellPeer peers → All Recorded rs → All (λ (r : Request). r .typeId < 256) rs → All WellItem (retries gate settings clock peers rs)
+  pub retries-in-width : All WellPeer peers → All Recorded rs → All (λ (r : Request). r .typeId < 256) rs
+      → All WellItem (retries gate settings clock peers rs)
   unfolding retries retryOf judged
   retries-in-width w a b =
       let due : List Request = judged settings clock retried rs in

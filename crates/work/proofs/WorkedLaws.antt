@@ -93,21 +93,24 @@ module _ (head : Head) (clock : ℕ) (region : List ℕ) (t : Tracked head clock
     stands = tracked-stands head clock region t f
 
     -- fewer requests in their place
-    pub taken-stands : (q : List Request) → All Recorded q → RisingIds (idsOf q) → length q ≤ length pending → Stands q evicted (holding (head .pending) q region)
+    pub taken-stands : (q : List Request) → All Recorded q → RisingIds (idsOf q) → length q ≤ length pending
+        → Stands q evicted (holding (head .pending) q region)
     taken-stands q w r n = rw (length-requests (head .pending) region) at (stands-holding pending evicted region stands q w r (omega (arith, few)))
 
     pub kept-stands : (test : Request → Bool) → Stands (kept test pending) evicted (holding (head .pending) (kept test pending) region)
     kept-stands test =
         taken-stands (kept test pending) (all-kept Recorded test pending (stands .recorded)) (rising-kept test pending (stands .rise)) (length-kept test pending)
 
-    pub taken-done : (q : List Request) (at batch left : ℕ) (after out : List ℕ) → Stands q evicted (holding (head .pending) q region) → left ≡ length q → after ≡ holding (head .pending) q region
+    pub taken-done : (q : List Request) (at batch left : ℕ) (after out : List ℕ) → Stands q evicted (holding (head .pending) q region)
+        → left ≡ length q → after ≡ holding (head .pending) q region
         → Performs at batch (quiet q evicted) out (leaving left (head .evicted) at batch) after out
     taken-done q at batch left after out s a h =
         quiet-done q evicted at batch left (head .evicted) after out a (sym (length-evicted (head .evicted) region)) (s .few) (h ∙ s .held)
 
 -- ---- by the state and the call that are given
 
-module _ {head : Head} {call : Call} {region ids stored peers view : List ℕ} {st : State} {c : calls.Call} (g : Given head region call ids stored peers view st c) where
+module _ {head : Head} {call : Call} {region ids stored peers view : List ℕ} {st : State} {c : calls.Call}
+    (g : Given head region call ids stored peers view st c) where
   pub settings-given : st .settings ≡ settingsOf (head .settings)
   unfolding headOf settingsOf
   settings-given = ap (λ (h : Head). settingsOf (h .settings)) (g .header)

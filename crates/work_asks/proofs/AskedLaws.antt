@@ -39,7 +39,8 @@ use Rattle.work_asks.specs.Asked.{answeredAs, unasked, Asks}
 
 -- the count after an act, the place behind its commands and the next batch
 abbrev writtenAs : ℕ → ℕ → Done → Written
-writtenAs at batch done = record { count = length (done .pending); at = at + length (sentBytes batch (done .sendings)); batch = batch + length (done .sendings) }
+writtenAs at batch done =
+    record { count = length (done .pending); at = at + length (sentBytes batch (done .sendings)); batch = batch + length (done .sendings) }
 
 -- ---- one list
 
@@ -69,14 +70,16 @@ module _ (gate : Bool) (clock : ℕ) (act : Act) (before : Counts) (region out :
   abbrev listed : Done
   listed = perform gate clock act (requestsIn (before .pending) region)
 
-  module _ {r : Requested} {answer : Performed} {after out′ : List ℕ} (a : r ≡ requestedAs most (before .at) (before .batch) listed) (b : answer ≡ answeredAs r before)
+  module _ {r : Requested} {answer : Performed} {after out′ : List ℕ}
+      (a : r ≡ requestedAs most (before .at) (before .batch) listed) (b : answer ≡ answeredAs r before)
       (h : after ≡ heldWithin most (before .pending) (listed .pending) region) (o : out′ ≡ sentWithin most (before .at) (before .batch) listed out) where
     pub list-asked : Asks gate clock (act ∷ []) before region out answer after out′
     list-asked =
         record {
           answered =
               b ∙ ap (λ (x : Requested). answeredAs x before) a
-              ∙ ap (λ (d : Done). answeredAs (requestedAs most (before .at) (before .batch) d) before) (sym (one-act gate clock act (requestsIn (before .pending) region)));
+              ∙ ap (λ (d : Done). answeredAs (requestedAs most (before .at) (before .batch) d) before)
+              (sym (one-act gate clock act (requestsIn (before .pending) region)));
           left = λ t. h ∙ few-held most (before .pending) (listed .pending) region t;
           written =
               λ t. o ∙ few-sent most (before .at) (before .batch) listed out t
@@ -126,8 +129,8 @@ pub record Behind (p : List Request) (e : List Id) (region out first : List ℕ)
   pub next : before .batch ≡ batch + length earlier
   pub written : first ≡ overwritten at (sentBytes batch earlier) out
 
-module _ {p : List Request} {e : List Id} {region out first : List ℕ} {earlier : List Sending} {before : Counts} {at batch : ℕ} (d : Behind p e region out first earlier before at batch)
-    (gate : Bool) (clock : ℕ) (acts : List Act) where
+module _ {p : List Request} {e : List Id} {region out first : List ℕ} {earlier : List Sending} {before : Counts} {at batch : ℕ}
+    (d : Behind p e region out first earlier before at batch) (gate : Bool) (clock : ℕ) (acts : List Act) where
   abbrev done : Done
   done = performAll gate clock acts p
 
@@ -164,7 +167,8 @@ module _ {p : List Request} {e : List Id} {region out first : List ℕ} {earlier
       go false = refl
 
   module _ (k : clock < 2 ^ 64) (w : All WellAct acts) (room : before .at + total actWeight acts ≤ length out) where
-    sent-behind : overwritten (before .at) (sentBytes (before .batch) (done .sendings)) first ≡ overwritten at (sentBytes batch (earlier ++ done .sendings)) out
+    sent-behind : overwritten (before .at) (sentBytes (before .batch) (done .sendings)) first
+        ≡ overwritten at (sentBytes batch (earlier ++ done .sendings)) out
     sent-behind =
         let n : length (sentBytes (before .batch) (done .sendings)) ≤ total actWeight acts = sent-within gate clock (before .batch) acts p w in
         let b : sentBytes batch (earlier ++ done .sendings) ≡ sentBytes batch earlier ++ sentBytes (before .batch) (done .sendings) =
@@ -202,13 +206,23 @@ module _ {p : List Request} {e : List Id} {region out first : List ℕ} {earlier
           }
 
 -- with nothing sent before
-module _ {p : List Request} {e : List Id} {region : List ℕ} (s : Stands p e region) {n gone : ℕ} (hq : requestsIn n region ≡ p) (hn : n ≡ length p) (he : gone ≡ length e) where
+module _ {p : List Request} {e : List Id} {region : List ℕ} (s : Stands p e region) {n gone : ℕ} (hq : requestsIn n region ≡ p) (hn : n ≡ length p)
+    (he : gone ≡ length e) where
   first-behind : (out : List ℕ) (at batch : ℕ) → Behind p e region out out [] (unasked n gone at batch) at batch
   unfolding sentBytes
   first-behind out at batch =
-      record { stands = s; table = hq; pending = hn; evicted = he; end = sym (add-zero at); next = sym (add-zero batch); written = sym (overwritten-nil at out) }
+      record {
+        stands = s;
+        table = hq;
+        pending = hn;
+        evicted = he;
+        end = sym (add-zero at);
+        next = sym (add-zero batch);
+        written = sym (overwritten-nil at out);
+      }
 
   pub first-done : {gate : Bool} {clock : ℕ} {acts : List Act} {out : List ℕ} {at batch : ℕ} {r : Performed} {after out′ : List ℕ}
-      → clock < 2 ^ 64 → All WellAct acts → at + total actWeight acts ≤ length out → Asks gate clock acts (unasked n gone at batch) region out r after out′
+      → clock < 2 ^ 64 → All WellAct acts → at + total actWeight acts ≤ length out
+      → Asks gate clock acts (unasked n gone at batch) region out r after out′
       → Performs at batch (asking (performAll gate clock acts p) e [] (unasked n gone at batch)) out r after out′
   first-done {gate} {clock} {acts} {out} {at} {batch} k w room a = asks-done (first-behind out at batch) gate clock acts k w room a

@@ -11,7 +11,6 @@ use Rattle.fields.specs.Facts.{Bytes}
 use Rattle.fields.specs.Overwrite.{overwritten}
 use Rattle.fields.proofs.OverwriteLaws.{front-read-back}
 use Rattle.model.specs.Protocol.{Id, headerType}
-use Rattle.model.specs.Delivery.{Request}
 use Rattle.model.specs.State.{State}
 use Rattle.model.specs.Requests.{ask, performAll}
 use Rattle.model.specs.Lists.{idsIn, pairsIn, pairsFit, entriesOf}
@@ -37,11 +36,12 @@ use Rattle.model.specs.Layout.{idSize}
 
 -- ---- what it comes to
 
-module _ {head : Head} {call : Call} {region ids stored peers view : List ℕ} {st : State} {c : calls.Call} (g : Given head region call ids stored peers view st c)
-    (downloaded at batch peer : ℕ) where
+module _ {head : Head} {call : Call} {region ids stored peers view : List ℕ} {st : State} {c : calls.Call}
+    (g : Given head region call ids stored peers view st c) (downloaded at batch peer : ℕ) where
   fresh-worked : workedBy st c downloaded (CheckFresh peer)
       ≡ asking
-      (performAll (eqb (call .gate) 1) (call .clock) (ask headerType peer (pairsIn stored) (evictedIn (head .evicted) region) ∷ []) (checkedPending head call peers region))
+      (performAll (eqb (call .gate) 1) (call .clock) (ask headerType peer (pairsIn stored) (evictedIn (head .evicted) region) ∷ [])
+      (checkedPending head call peers region))
       [] (checkedSendings head call peers region) (checkedCounts head call peers region at batch)
   unfolding workedBy actedBy countBy retriedBy pendingAfterCheck checkedPending checkedSendings checkedCounts judgedCount
   fresh-worked =
@@ -54,7 +54,8 @@ pub record Copied (head : Head) (region room fresh : List ℕ) : Type 0 where
   pub written : fresh ≡ overwritten 0 (drop (length region - head .evicted * idSize) region) room
 
 -- bytes up to the end are all from there on
-pub up-to-end : (fresh room region : List ℕ) (n from : ℕ) → length region - from ≤ n → fresh ≡ overwritten 0 (take n (drop from region)) room → fresh ≡ overwritten 0 (drop from region) room
+pub up-to-end : (fresh room region : List ℕ) (n from : ℕ) → length region - from ≤ n → fresh ≡ overwritten 0 (take n (drop from region)) room
+    → fresh ≡ overwritten 0 (drop from region) room
 up-to-end fresh room region n from h e = e ∙ ap (λ (x : List ℕ). overwritten 0 x room) (take-all n (drop from region) (rw (length-drop from region) h))
 
 -- The check by what it makes of the region and sends.
@@ -83,7 +84,8 @@ module _ {head : Head} {call : Call} {region : List ℕ} {at batch peer : ℕ} {
 
   -- ---- asked for behind the check
 
-  module _ {peers : List ℕ} (listed : Bytes peers) {before : Counts} {table first : List ℕ} (done : CheckDone head call peers region at batch out before table first) where
+  module _ {peers : List ℕ} (listed : Bytes peers) {before : Counts} {table first : List ℕ}
+      (done : CheckDone head call peers region at batch out before table first) where
     due : Due head call peers region
     due = record { tracked = n .tracked; bytes = n .bytes; listed = listed; clock = n .clock }
 
@@ -105,14 +107,16 @@ module _ {head : Head} {call : Call} {region : List ℕ} {at batch peer : ℕ} {
           ),
         )
 
-    behind : Behind (checkedPending head call peers region) [] table out first (checkedSendings head call peers region) (checkedCounts head call peers region at batch) at batch
+    behind : let counts = checkedCounts head call peers region at batch in
+        Behind (checkedPending head call peers region) [] table out first (checkedSendings head call peers region) counts at batch
     unfolding checkedCounts
     behind =
         let table-is = stands-requests (checkedPending head call peers region) [] table stands in
         record { stands = stands; table = table-is; pending = refl; evicted = refl; end = refl; next = refl; written = done .sent }
 
     pub asks-fresh : {stored after out′ : List ℕ} {r : Performed}
-        → Asks (eqb (call .gate) 1) (call .clock) (ask headerType peer (pairsIn stored) (idsIn (take (head .evicted * idSize) fresh)) ∷ []) before table first r after out′
+        → Asks (eqb (call .gate) 1) (call .clock) (ask headerType peer (pairsIn stored) (idsIn (take (head .evicted * idSize) fresh)) ∷ [])
+        before table first r after out′
         → {st : State} {c : calls.Call} {ids view : List ℕ} → Given head region call ids stored peers view st c → (downloaded : ℕ)
         → Performs at batch (workedBy st c downloaded (CheckFresh peer)) out r after out′
     unfolding checkedCounts
@@ -120,7 +124,8 @@ module _ {head : Head} {call : Call} {region : List ℕ} {at batch peer : ℕ} {
         let e : List Id = evictedIn (head .evicted) region in
         let gate : Bool = eqb (call .gate) 1 in
         let counts : Counts = checkedCounts head call peers region at batch in
-        let asked : Asks gate (call .clock) (ask headerType peer (pairsIn stored) e ∷ []) counts table first r after out′ = rw (done .counts, fresh-ids) at a in
+        let asked : Asks gate (call .clock) (ask headerType peer (pairsIn stored) e ∷ []) counts table first r after out′ =
+        rw (done .counts, fresh-ids) at a in
         rw (fresh-worked g downloaded at batch peer)
         (asks-done behind gate (call .clock) (ask headerType peer (pairsIn stored) e ∷ []) (n .clock)
         (record { typeId = omega arith; peer = n .asked; ids = tracked-stands head (call .clock) region (n .tracked) (n .bytes) .ids }, tt)

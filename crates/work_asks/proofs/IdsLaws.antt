@@ -34,7 +34,8 @@ use Rattle.model.specs.Layout.{idListSize, idSize}
 
 -- ---- what it comes to
 
-ids-worked : {head : Head} {call : Call} {region ids stored peers view : List ℕ} {st : State} {c : calls.Call} → Given head region call ids stored peers view st c
+ids-worked : {head : Head} {call : Call} {region ids stored peers view : List ℕ} {st : State} {c : calls.Call}
+    → Given head region call ids stored peers view st c
     → (downloaded n gone at batch peer : ℕ)
     → workedBy st c downloaded (Ids peer)
     ≡ asking (performAll (eqb (call .gate) 1) (call .clock) (ask (call .typeid) peer (pairsIn stored) (idsIn ids) ∷ []) (requestsIn (head .pending) region))
@@ -50,7 +51,8 @@ ids-few ids h = rw (length-entries idSize (length ids / idSize) ids) (omega arit
 
 module _ {head : Head} {call : Call} {region : List ℕ} {at batch peer : ℕ} {out : List ℕ} (n : Entered head call region at batch peer out)
     {before : Counts} (b : before ≡ unasked (head .pending) (head .evicted) at batch) where
-  pub ids-ask : (ids stored : List ℕ) → (length ids % idSize ≡ 0) × (length ids ≤ idListSize) → pairsFit stored ≡ true → ListAsks before region stored ids out
+  pub ids-ask : (ids stored : List ℕ) → (length ids % idSize ≡ 0) × (length ids ≤ idListSize) → pairsFit stored ≡ true
+      → ListAsks before region stored ids out
   ids-ask ids stored listed fit =
       let t = n .tracked in
       rw b
@@ -62,5 +64,5 @@ module _ {head : Head} {call : Call} {region : List ℕ} {at batch peer : ℕ} {
       → Performs at batch (workedBy st c downloaded (Ids peer)) out r after out′
   asks-ids {ids} ht fi few a g downloaded =
       rw (ids-worked g downloaded (head .pending) (head .evicted) at batch peer)
-      (first-done (tracked-stands head (call .clock) region (n .tracked) (n .bytes)) refl (sym (length-requests (head .pending) region)) (sym (length-evicted (head .evicted) region))
-      (n .clock) (record { typeId = ht; peer = n .asked; ids = ids-well ids fi }, tt) (omega (arith, ids-few ids few, n .room)) (rw b at a))
+      (first-done (tracked-stands head (call .clock) region (n .tracked) (n .bytes)) refl (sym (length-requests (head .pending) region))
+      (sym (length-evicted (head .evicted) region)) (n .clock) (record { typeId = ht; peer = n .asked; ids = ids-well ids fi }, tt) (omega (arith, ids-few ids few, n .room)) (rw b at a))

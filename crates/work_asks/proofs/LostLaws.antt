@@ -14,8 +14,8 @@ use Rattle.fields.proofs.EntriesLaws.{Wide}
 use Rattle.model.specs.Protocol.{isTransaction, trackedLimit}
 use Rattle.model.specs.Delivery.{Request, purgePeer, orphansOf}
 use Rattle.model.specs.State.{State}
-use Rattle.model.specs.Requests.{Act, ask, performAll}
-use Rattle.model.specs.Sections.{Batch, batchesOf}
+use Rattle.model.specs.Requests.{performAll}
+use Rattle.model.specs.Sections.{batchesOf}
 use Rattle.model.specs.Check.{retrySendings}
 use Rattle.model.specs.Lists.{pairsIn, pairsFit, entriesOf}
 use Rattle.model.specs.Steps as steps
@@ -38,21 +38,16 @@ use Rattle.work_asks.specs.Asked.{unasked, Asks}
 use Rattle.work_asks.proofs.EntryLaws.{Entered, PairsAsks}
 use Rattle.work_asks.proofs.AskedLaws.{asking, first-done}
 use Rattle.work_asks.proofs.PairLaws.{front-length, front-pairs}
-use Rattle.work_asks.proofs.OrphanLaws.{orphanPairs, orphan-asks, orphans-wide}
+use Rattle.work_asks.proofs.OrphanLaws.{orphanPairs, orphanAsks, orphan-asks, orphans-wide}
 use Rattle.model.specs.Layout.{idSize, pairSize, recordSize}
 
 -- ---- what it comes to
 
--- the asks for a lost peer's requests
-abbrev orphanAsks : ℕ → List ℕ → List Request → List Act
-orphanAsks peer stored lost =
-    map (λ (b : Batch). ask (b .typeId) peer (pairsIn stored) (b .ids)) (batchesOf (map (λ (r : Request). record { id = r .id; typeId = r .typeId; peer = peer }) lost))
-
-module _ {head : Head} {call : Call} {region ids stored peers view : List ℕ} {st : State} {c : calls.Call} (g : Given head region call ids stored peers view st c)
-    (downloaded n gone at batch peer : ℕ) where
+module _ {head : Head} {call : Call} {region ids stored peers view : List ℕ} {st : State} {c : calls.Call}
+    (g : Given head region call ids stored peers view st c) (downloaded n gone at batch peer : ℕ) where
   lose-ask-worked : workedBy st c downloaded (LoseAsk peer)
       ≡ asking
-      (performAll (eqb (call .gate) 1) (call .clock) (orphanAsks peer stored (orphansOf (head .peer) (requestsIn (head .pending) region)))
+      (performAll (eqb (call .gate) 1) (call .clock) (orphanAsks peer (pairsIn stored) (orphansOf (head .peer) (requestsIn (head .pending) region)))
       (purgePeer (head .peer) (requestsIn (head .pending) region)))
       (evictedIn (head .evicted) region) [] (unasked n gone at batch)
   unfolding workedBy actedBy countBy retriedBy retrySendings batchesOf steps.askOrphans argsOf
@@ -113,7 +108,8 @@ module _ {head : Head} {call : Call} {region : List ℕ} {at batch peer : ℕ} {
           let long = orphans-long in
           let number-few = orphans-few in
           let size = stands-size (others head region) (evictedIn (head .evicted) region) table s in
-          let order : rising idSize (entries recordSize left table) ≡ true = rw (l .count) (stands-rising (others head region) (evictedIn (head .evicted) region) table s) in
+          let order : rising idSize (entries recordSize left table) ≡ true =
+          rw (l .count) (stands-rising (others head region) (evictedIn (head .evicted) region) table s) in
           let most = n .tracked .few in
           rw b (
             (omega (arith, long), (omega (arith, long, number-few, most), (few, omega (arith, size)))),
@@ -127,7 +123,7 @@ module _ {head : Head} {call : Call} {region : List ℕ} {at batch peer : ℕ} {
       asks-lost {stored} fp a g downloaded =
           let front : List ℕ = take (number * pairSize) pairs in
           let s = left-stands l in
-          let acts : asksByType peer (pairsIn stored) (entriesOf pairSize front) ≡ orphanAsks peer stored (lost head region) =
+          let acts : asksByType peer (pairsIn stored) (entriesOf pairSize front) ≡ orphanAsks peer (pairsIn stored) (lost head region) =
           ap (asksByType peer (pairsIn stored)) orphans-read ∙ orphan-asks peer (pairsIn stored) (lost head region) in
           let long = orphans-long in
           let few = orphans-few in

@@ -45,8 +45,8 @@ use Rattle.model.specs.Layout.{idSize, recordSize}
 abbrev sections : Call → List ℕ → ℕ → ℕ → List Act
 sections call view downloaded peer = requestSectionsFrom (viewOf view) (call .height) downloaded (some peer) .acts
 
-module _ {head : Head} {call : Call} {region ids stored peers view : List ℕ} {st : State} {c : calls.Call} (g : Given head region call ids stored peers view st c)
-    (downloaded n gone at batch peer : ℕ) where
+module _ {head : Head} {call : Call} {region ids stored peers view : List ℕ} {st : State} {c : calls.Call}
+    (g : Given head region call ids stored peers view st c) (downloaded n gone at batch peer : ℕ) where
   sections-worked : workedBy st c downloaded (Sections peer)
       ≡ asking (performAll (eqb (call .gate) 1) (call .clock) (sections call view downloaded peer) (requestsIn (head .pending) region))
       (evictedIn (head .evicted) region) [] (unasked n gone at batch)
@@ -83,7 +83,8 @@ module _ {head : Head} {call : Call} {region : List ℕ} {at batch peer : ℕ} {
   pub sections-ask : before ≡ unasked (head .pending) (head .evicted) at batch → SectionsAsks before region view out
   sections-ask b = let t = n .tracked in rw b ((t .few, omega (arith, t .size)), (t .order, (fits, n .room)))
 
-  pub purged-ask : (purged : List ℕ) → length purged ≡ length region → before ≡ unasked 0 (head .evicted) at batch → SectionsAsks before purged view out
+  pub purged-ask : (purged : List ℕ) → length purged ≡ length region → before ≡ unasked 0 (head .evicted) at batch
+      → SectionsAsks before purged view out
   purged-ask purged same b = let t = n .tracked in rw b ((omega (arith, t .few), omega (arith, t .size)), (none-rising purged, (fits, n .room)))
 
   module _ (fv : Bytes view) (downloaded : ℕ) {r : Performed} {after out′ : List ℕ} where
@@ -97,13 +98,15 @@ module _ {head : Head} {call : Call} {region : List ℕ} {at batch peer : ℕ} {
         (sym (length-evicted (head .evicted) region)) (n .clock) (window-acts-well view fv fits (call .height) downloaded peer (n .asked))
         (omega (arith, window-weight view fv fits (call .height) downloaded peer, n .room)) (rw b at a))
 
-    pub asks-after-purge : {purged : List ℕ} → purged ≡ holding (head .pending) (purgeAll (requestsIn (head .pending) region)) region → before ≡ unasked 0 (head .evicted) at batch
+    pub asks-after-purge : {purged : List ℕ} → purged ≡ holding (head .pending) (purgeAll (requestsIn (head .pending) region)) region
+        → before ≡ unasked 0 (head .evicted) at batch
         → Asks (eqb (call .gate) 1) (call .clock) (sections call view downloaded peer) before purged out r after out′
         → {st : State} {c : calls.Call} {ids stored peers : List ℕ} → Given head region call ids stored peers view st c
         → Performs at batch (workedBy st c downloaded (PurgeSections peer)) out r after out′
     unfolding purgeAll
     asks-after-purge {purged} h b a g =
-        let s : Stands [] (evictedIn (head .evicted) region) purged = rw h (taken-stands head (call .clock) region (n .tracked) (n .bytes) [] tt tt (omega arith)) in
+        let s : Stands [] (evictedIn (head .evicted) region) purged =
+        rw h (taken-stands head (call .clock) region (n .tracked) (n .bytes) [] tt tt (omega arith)) in
         rw (purge-sections-worked g downloaded 0 (head .evicted) at batch peer)
-        (first-done s refl refl (sym (length-evicted (head .evicted) region)) (n .clock) (window-acts-well view fv fits (call .height) downloaded peer (n .asked))
-        (omega (arith, window-weight view fv fits (call .height) downloaded peer, n .room)) (rw b at a))
+        (first-done s refl refl (sym (length-evicted (head .evicted) region)) (n .clock)
+        (window-acts-well view fv fits (call .height) downloaded peer (n .asked)) (omega (arith, window-weight view fv fits (call .height) downloaded peer, n .room)) (rw b at a))

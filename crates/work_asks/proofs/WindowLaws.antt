@@ -57,16 +57,23 @@ module _ {view : List ℕ} {chain downloaded peer number : ℕ} {room pairs : Li
   abbrev window : List (List ℕ)
   window = map itemPair (windowItems view chain downloaded peer)
 
+  abbrev wanted : List Act
+  wanted = requestSectionsFrom (viewOf view) chain downloaded (some peer) .acts
+
+  abbrev front : List ℕ
+  front = take (number * pairSize) pairs
+
   window-wide : Wide pairSize window
   window-wide =
       rw (window-pairs (min (downloaded + windowSize) chain - downloaded) (viewOf view) peer downloaded)
       (pairs-wide (min (downloaded + windowSize) chain - downloaded) (viewOf view) downloaded (view-well view (m .bytes) (m .fits)))
 
-  window-asks : asksByType peer [] window ≡ requestSectionsFrom (viewOf view) chain downloaded (some peer) .acts
+  window-asks : asksByType peer [] window ≡ wanted
   unfolding asksByType requestSectionsFrom
   window-asks =
+      let of-peer = window-peer (min (downloaded + windowSize) chain - downloaded) (viewOf view) peer downloaded in
       ap (λ (is : List Item). map (λ (b : Batch). ask (b .typeId) (b .peer) [] (b .ids)) (batchesOf is))
-      (window-items peer (windowItems view chain downloaded peer) (window-peer (min (downloaded + windowSize) chain - downloaded) (viewOf view) peer downloaded))
+      (window-items peer (windowItems view chain downloaded peer) of-peer)
 
   number-is : number ≡ length window
   number-is = m .count ∙ sym (length-map (windowItems view chain downloaded peer) itemPair)
@@ -74,15 +81,16 @@ module _ {view : List ℕ} {chain downloaded peer number : ℕ} {room pairs : Li
   pub window-few : number ≤ 576
   window-few = omega (arith, m .count, items-most view (m .bytes) (m .fits) peer chain downloaded)
 
-  pub window-long : length (take (number * pairSize) pairs) ≡ number * pairSize
+  pub window-long : length front ≡ number * pairSize
   window-long = front-length window window-wide number room pairs number-is (m .written)
 
-  window-read : asksByType peer (pairsIn []) (entriesOf pairSize (take (number * pairSize) pairs)) ≡ requestSectionsFrom (viewOf view) chain downloaded (some peer) .acts
+  window-read : asksByType peer (pairsIn []) (entriesOf pairSize front) ≡ wanted
   window-read = rw (no-pairs, front-pairs window window-wide number room pairs number-is (m .written)) window-asks
 
   -- ---- asked for, with no stored pairs
 
-  pub window-ask : (before : Counts) (table out : List ℕ) → SectionsAsks before table view out → PairsAsks before table [] (take (number * pairSize) pairs) out
+  pub window-ask : (before : Counts) (table out : List ℕ) → SectionsAsks before table view out
+      → PairsAsks before table [] front out
   window-ask before table out asks =
       let long = window-long in
       let few = window-few in (
@@ -91,7 +99,7 @@ module _ {view : List ℕ} {chain downloaded peer number : ℕ} {room pairs : Li
       )
 
   pub window-asked : {gate : Bool} {clock : ℕ} {before : Counts} {table out : List ℕ} {r : Performed} {after out′ : List ℕ}
-      → Asks gate clock (asksByType peer (pairsIn []) (entriesOf pairSize (take (number * pairSize) pairs))) before table out r after out′
-      → Asks gate clock (requestSectionsFrom (viewOf view) chain downloaded (some peer) .acts) before table out r after out′
+      → Asks gate clock (asksByType peer (pairsIn []) (entriesOf pairSize front)) before table out r after out′
+      → Asks gate clock wanted before table out r after out′
   window-asked {gate} {clock} {before} {table} {out} {r} {after} {out′} =
       subst (λ (acts : List Act). Asks gate clock acts before table out r after out′) window-read

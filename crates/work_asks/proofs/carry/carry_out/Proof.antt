@@ -35,11 +35,10 @@ returns c = let s : tie.Start = search in
     let m = first .announce in
     let q = did .perform in (
       λ st call g same.
-          carries st call (a .plan) (a .continuation .now) (a .out .now) (m .last .0) (q .last .1 .1 .1 .1 .1 .1 .1 .1 .1 .0) (q .last .0) (m .result .at) (m .result .batch) (q .result)
-          same (m .ensures) (s .pre .1 .1 .1 .1) (m .kept .0) (q .kept .1 .1 .1 .1 .1 .1 .1 .1 .1 .0) (q .ensures .0 st call g),
+          carries st call (a .plan) same (m .ensures) (s .pre .1 .1 .1 .1) (m .kept .0) (q .kept .1 .1 .1 .1 .1 .1 .1 .1 .1 .0) (q .ensures .0 st call g),
       λ nobody one full.
           let left = q .ensures .1 one full in
-          (left .0, left .1 ∙ nothing-before (a .plan .announces) (a .continuation .now) (a .out .now) _ (m .ensures .0) nobody),
+          (left .0, left .1 ∙ nothing-before (a .plan .announces) (a .continuation .now) (a .out .now) (m .ensures .0) nobody),
     )
 
 pub carry-out-spec : {M : Type 1} → statement M
