@@ -43,7 +43,8 @@ use Rattle.work.specs.declared.Counts.{Counts}
 use Rattle.work.specs.declared.Performed.the-variants.{Done as Finished}
 use Rattle.work.proofs.RegionLaws.{Stands, tracked-stands, stands-size, stands-requests, stands-holding, stands-cleared}
 use Rattle.work.proofs.WorkedLaws.{length-requests, length-evicted, settings-given, clock-given, gate-given}
-use Rattle.work.proofs.RetriedLaws.{types-below, retries-few, retries-in-width, after-rising, after-length, after-few, after-recorded, below, types-at, retried-items}
+use Rattle.work.proofs.RetriedLaws.{types-below, itemsAt, retries-few, retries-in-width, below, types-at, retried-items}
+use Rattle.work.proofs.RetriedLaws.{after-rising, after-length, after-few, after-recorded}
 use Rattle.model.specs.Layout.{idSize, recordSize, regionSize}
 
 -- A check at its entry: the region, the peers and the clock are within their types.
@@ -55,7 +56,7 @@ pub record Due (head : Head) (call : Call) (peers region : List ℕ) : Type 0 wh
 
 -- what it sends of the places noted in a table
 abbrev sentOf : Bool → List ℕ → List ℕ → List Sending
-sentOf gate table places = retrySendings (cond gate (map (λ (place : ℕ). itemOf (requestOf (entry recordSize place table))) places) [])
+sentOf gate table places = retrySendings (cond gate (itemsAt table places) [])
 
 -- the counts that the code answers
 abbrev countsOf : Checked → Head → ℕ → ℕ → Counts
@@ -100,7 +101,8 @@ module _ {head : Head} {call : Call} {peers region : List ℕ} (due : Due head c
 
   types : All (λ (r : Request). r .typeId < 256) pending
   types =
-      types-below (entries recordSize (head .pending) region) (entries-wide recordSize (head .pending) region (omega (arith, due .tracked .few, due .tracked .size)))
+      types-below (entries recordSize (head .pending) region)
+      (entries-wide recordSize (head .pending) region (omega (arith, due .tracked .few, due .tracked .size)))
       (entries-bytes recordSize (head .pending) region (due .bytes)) (due .tracked .narrow)
 
   retried-few : length (judged settings (call .clock) retried pending) ≤ head .pending
@@ -127,8 +129,8 @@ module _ {head : Head} {call : Call} {peers region : List ℕ} (due : Due head c
     pub places-inside : All (λ (place : ℕ). place * recordSize + recordSize ≤ length table) places
     places-inside =
         rw hp
-        (all-weaker (λ (place : ℕ). place < length after) (λ (place : ℕ). place * recordSize + recordSize ≤ length table) (λ place h. omega (arith, table-size, table-stands .few))
-        (retriedPlaces settings (call .clock) pending 0) (below gate settings (call .clock) (peersIn peers) pending (stands .rise) table held))
+        (all-weaker (λ (place : ℕ). place < length after) (λ (place : ℕ). place * recordSize + recordSize ≤ length table)
+        (λ place h. omega (arith, table-size, table-stands .few)) (retriedPlaces settings (call .clock) pending 0) (below gate settings (call .clock) (peersIn peers) pending (stands .rise) table held))
 
     pub places-narrow : All (λ (place : ℕ). requestOf (entry recordSize place table) .typeId < 256) places
     places-narrow = rw hp (types-at gate settings (call .clock) (peersIn peers) pending (stands .rise) table held types)
@@ -153,7 +155,8 @@ module _ {head : Head} {call : Call} {peers region : List ℕ} (due : Due head c
       counts-are = rw (hm, ha, hb, sent-again, after-length gate settings (call .clock) (peersIn peers) pending (stands .rise))
 
       pub checked-so : (countsOf made head at′ batch′ ≡ checkedCounts head call peers region at batch)
-          × ((cleared ≡ regionOf (checkedPending head call peers region) []) × (out′ ≡ overwritten at (sentBytes batch (checkedSendings head call peers region)) out))
+          × ((cleared ≡ regionOf (checkedPending head call peers region) [])
+          × (out′ ≡ overwritten at (sentBytes batch (checkedSendings head call peers region)) out))
       checked-so = (counts-are, (cleared-is, ho ∙ ap (λ (x : List Sending). overwritten at (sentBytes batch x) out) sent-again))
 
   -- ---- for what comes behind the check
@@ -165,14 +168,17 @@ module _ {head : Head} {call : Call} {peers region : List ℕ} (due : Due head c
   pub checked-count : length (checkedSendings head call peers region) ≤ head .pending
   unfolding checkedSendings
   checked-count =
-      omega (arith, retries-count (retries gate settings (call .clock) (peersIn peers) pending), retries-few gate settings (call .clock) (peersIn peers) pending, length-requests (head .pending) region)
+      let few = retries-few gate settings (call .clock) (peersIn peers) pending in
+      omega (arith, retries-count (retries gate settings (call .clock) (peersIn peers) pending), few, length-requests (head .pending) region)
 
   pub checked-bytes : (batch : ℕ) → length (sentBytes batch (checkedSendings head call peers region)) ≤ 48 * head .pending
   unfolding checkedSendings sentBytes
   checked-bytes batch =
       let items : List Item = retries gate settings (call .clock) (peersIn peers) pending in
       let w = retries-in-width gate settings (call .clock) (peersIn peers) pending (peers-well peers (due .listed)) (stands .recorded) types in
-      omega (arith, sendings-bytes batch (retrySendings items) (retries-sent-well items w), retries-weight items, retries-few gate settings (call .clock) (peersIn peers) pending, length-requests (head .pending) region)
+      let bytes = sendings-bytes batch (retrySendings items) (retries-sent-well items w) in
+      let few = retries-few gate settings (call .clock) (peersIn peers) pending in
+      omega (arith, bytes, retries-weight items, few, length-requests (head .pending) region)
 
   pub checked-few : length (checkedPending head call peers region) ≤ trackedLimit
   unfolding checkedPending

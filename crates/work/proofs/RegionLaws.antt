@@ -54,7 +54,8 @@ module _ (p : List Request) (e : List Id) (wp : Wide recordSize (map requestByte
   pub length-region : length (regionOf p e) ≡ regionSize
   unfolding regionOf
   length-region =
-      rw (length-append (joined (map requestBytes p)), length-append (zeros (regionSize - length p * recordSize - length e * idSize)), length-zeros, length-records, length-ids) (omega arith)
+      let free : ℕ = regionSize - length p * recordSize - length e * idSize in
+      rw (length-append (joined (map requestBytes p)), length-append (zeros free), length-zeros, length-records, length-ids) (omega arith)
 
   pub entries-region : entries recordSize (length p) (regionOf p e) ≡ map requestBytes p
   unfolding regionOf
@@ -90,7 +91,8 @@ module _ (p : List Request) (e : List Id) (wp : Wide recordSize (map requestByte
       let le : length (joined e′) ≡ length e′ * idSize = length-joined idSize e′ we′ in
       let a : regionOf p e ≡ (joined (map requestBytes p) ++ zeros left) ++ (zeros new ++ joined e) =
       cut-region p e ∙ rw z (simp append-assoc) in
-      let la : length (joined (map requestBytes p) ++ zeros left) ≡ regionSize - length e′ * idSize = rw (length-append (joined (map requestBytes p)), length-zeros, length-records) (omega arith) in
+      let la : length (joined (map requestBytes p) ++ zeros left) ≡ regionSize - length e′ * idSize =
+      rw (length-append (joined (map requestBytes p)), length-zeros, length-records) (omega arith) in
       let lb : length (zeros new ++ joined e) ≡ length (joined e′) = rw (length-append (zeros new), length-zeros, length-ids, le) (omega arith) in
       rw length-region
       (ap (overwritten (regionSize - length e′ * idSize) (joined e′)) a
@@ -105,7 +107,8 @@ module _ (p : List Request) (e : List Id) (wp : Wide recordSize (map requestByte
       let s : free + length e * idSize ≡ all = omega arith in
       let z : zeros free ++ zeros (length e * idSize) ≡ zeros all = zeros-append free (length e * idSize) ∙ rw s in
       ap (overwritten (regionSize - length e * idSize) (zeros (length e * idSize))) (cut-region p e)
-      ∙ over-end (regionSize - length e * idSize) (joined (map requestBytes p) ++ zeros free) (joined e) (zeros (length e * idSize)) front-region (rw (length-ids, length-zeros (length e * idSize)))
+      ∙ over-end (regionSize - length e * idSize) (joined (map requestBytes p) ++ zeros free) (joined e) (zeros (length e * idSize)) front-region
+      (rw (length-ids, length-zeros (length e * idSize)))
       ∙ append-assoc (joined (map requestBytes p)) (zeros free) (zeros (length e * idSize))
       ∙ rw (z, append-nil)
 
@@ -125,7 +128,8 @@ tracked-stands head clock region t f =
     let few : head .pending + head .evicted ≤ trackedLimit = t .few in
     let size : length region ≡ regionSize = t .size in
     let from : ℕ = length region - head .evicted * idSize in
-    let lp : length (requestsIn (head .pending) region) ≡ head .pending = length-map (entries recordSize (head .pending) region) requestOf ∙ length-entries recordSize (head .pending) region in
+    let lp : length (requestsIn (head .pending) region) ≡ head .pending =
+    length-map (entries recordSize (head .pending) region) requestOf ∙ length-entries recordSize (head .pending) region in
     let le : length (evictedIn (head .evicted) region) ≡ head .evicted = length-entries idSize (head .evicted) (drop from region) in
     let room : head .evicted * idSize ≤ length (drop from region) = rw (length-drop from region) (omega arith) in
     record {
@@ -189,5 +193,8 @@ module _ (p : List Request) (e : List Id) (region : List ℕ) (s : Stands p e re
         rise = s .rise;
         ids = tt;
         few = omega arith;
-        held = rw stands-size (ap (overwritten (regionSize - length e * idSize) (zeros (length e * idSize))) (s .held) ∙ cleared-region p e records-are-wide ids-are-wide (s .few));
+        held =
+            rw stands-size
+            (ap (overwritten (regionSize - length e * idSize) (zeros (length e * idSize))) (s .held)
+            ∙ cleared-region p e records-are-wide ids-are-wide (s .few));
       }

@@ -86,7 +86,8 @@ module _ (head : Head) (clock : ℕ) (region : List ℕ) (t : Tracked head clock
   nothing-done : (at batch : ℕ) (out : List ℕ)
       → Performs at batch (quiet pending evicted) out (leaving (head .pending) (head .evicted) at batch) region out
   nothing-done at batch out =
-      quiet-done pending evicted at batch (head .pending) (head .evicted) region out (sym (length-requests (head .pending) region)) (sym (length-evicted (head .evicted) region)) few (t .held)
+      quiet-done pending evicted at batch (head .pending) (head .evicted) region out
+      (sym (length-requests (head .pending) region)) (sym (length-evicted (head .evicted) region)) few (t .held)
 
   module _ (f : Bytes region) where
     pub stands : Stands pending evicted region
@@ -138,4 +139,6 @@ module _ {head : Head} {call : Call} {region ids stored peers view : List ℕ} {
   module _ (downloaded : ℕ) {at batch clock : ℕ} (t : Tracked head clock region) where
     pub does-nothing : {out : List ℕ}
         → Performs at batch (workedBy st c downloaded Nothing) out (leaving (head .pending) (head .evicted) at batch) region out
-    does-nothing {out} = rw (nothing-worked st c downloaded (pending head clock region t) (evicted head clock region t) (g .pending) (g .evicted)) (nothing-done head clock region t at batch out)
+    does-nothing {out} =
+        rw (nothing-worked st c downloaded (pending head clock region t) (evicted head clock region t) (g .pending) (g .evicted))
+        (nothing-done head clock region t at batch out)

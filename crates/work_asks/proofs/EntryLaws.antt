@@ -32,9 +32,11 @@ ListAsks before table stored ids out =
 -- what `ask_pairs` asks
 abbrev pub PairsAsks : Counts → List ℕ → List ℕ → List ℕ → List ℕ → Type 0
 PairsAsks before table stored pairs out =
-    ((length pairs % pairSize ≡ 0) × ((length pairs ≤ pairListSize) × ((before .pending + before .evicted ≤ trackedLimit) × (tableSize ≤ length table))))
+    ((length pairs % pairSize ≡ 0)
+    × ((length pairs ≤ pairListSize) × ((before .pending + before .evicted ≤ trackedLimit) × (tableSize ≤ length table))))
     × ((rising idSize (entries recordSize (before .pending) table) ≡ true)
-    × ((pairsFit stored ≡ true) × ((before .at + length pairs / pairSize * commandSize ≤ length out) × (before .batch + length pairs / pairSize + 1 < 65536))))
+    × ((pairsFit stored ≡ true)
+    × ((before .at + length pairs / pairSize * commandSize ≤ length out) × (before .batch + length pairs / pairSize + 1 < 65536))))
 
 -- what `ask_sections` asks
 abbrev pub SectionsAsks : Counts → List ℕ → List ℕ → List ℕ → Type 0

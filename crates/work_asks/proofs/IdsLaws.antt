@@ -65,4 +65,5 @@ module _ {head : Head} {call : Call} {region : List ℕ} {at batch peer : ℕ} {
   asks-ids {ids} ht fi few a g downloaded =
       rw (ids-worked g downloaded (head .pending) (head .evicted) at batch peer)
       (first-done (tracked-stands head (call .clock) region (n .tracked) (n .bytes)) refl (sym (length-requests (head .pending) region))
-      (sym (length-evicted (head .evicted) region)) (n .clock) (record { typeId = ht; peer = n .asked; ids = ids-well ids fi }, tt) (omega (arith, ids-few ids few, n .room)) (rw b at a))
+      (sym (length-evicted (head .evicted) region)) (n .clock) (record { typeId = ht; peer = n .asked; ids = ids-well ids fi }, tt)
+      (omega (arith, ids-few ids few, n .room)) (rw b at a))

@@ -2,7 +2,7 @@
 use Prim.Native.Nat.{ℕ, _+_, _*_, _≤_}
 use mathlib.Core.Path.{_≡_, sym, ap, _∙_}
 use mathlib.Core.Bool.{true, not, _&&_}
-use mathlib.Core.List.{List, [], map}
+use mathlib.Core.List.{List, []}
 use native.Mathlib.Omega.{arith}
 use lib.ListN.{length, take, length-map}
 use lib.Dec.{eqb}
@@ -117,7 +117,8 @@ module _ {head : Head} {call : Call} {region : List ℕ} {at batch peer : ℕ} {
           )
 
       pub asks-lost : {stored after out′ : List ℕ} {r : Performed} → Bytes (take (number * pairSize) pairs)
-          → Asks (eqb (call .gate) 1) (call .clock) (asksByType peer (pairsIn stored) (entriesOf pairSize (take (number * pairSize) pairs))) before table out r after out′
+          → Asks (eqb (call .gate) 1) (call .clock) (asksByType peer (pairsIn stored) (entriesOf pairSize (take (number * pairSize) pairs)))
+          before table out r after out′
           → {st : State} {c : calls.Call} {ids peers view : List ℕ} → Given head region call ids stored peers view st c → (downloaded : ℕ)
           → Performs at batch (workedBy st c downloaded (LoseAsk peer)) out r after out′
       asks-lost {stored} fp a g downloaded =

@@ -109,4 +109,5 @@ module _ {head : Head} {call : Call} {region : List ℕ} {at batch peer : ℕ} {
         rw h (taken-stands head (call .clock) region (n .tracked) (n .bytes) [] tt tt (omega arith)) in
         rw (purge-sections-worked g downloaded 0 (head .evicted) at batch peer)
         (first-done s refl refl (sym (length-evicted (head .evicted) region)) (n .clock)
-        (window-acts-well view fv fits (call .height) downloaded peer (n .asked)) (omega (arith, window-weight view fv fits (call .height) downloaded peer, n .room)) (rw b at a))
+        (window-acts-well view fv fits (call .height) downloaded peer (n .asked))
+        (omega (arith, window-weight view fv fits (call .height) downloaded peer, n .room)) (rw b at a))

@@ -69,7 +69,8 @@ returns c =
     let a = start (entry judged) .args in
     let made = judged .check-timeouts .ensures in
     let out = sent .send-retries .ensures in
-    checked-so (due (entry judged)) (made .1 .0) (made .1 .1) (a .at) (a .batch) (a .out .now) (made .0) (out .0) (out .1 .0) (out .1 .1) (cleared .clear-evicted .ensures)
+    checked-so (due (entry judged)) (made .1 .0) (made .1 .1) (a .at) (a .batch) (a .out .now)
+    (made .0) (out .0) (out .1 .0) (out .1 .1) (cleared .clear-evicted .ensures)
 
 pub check-noting-spec : {M : Type 1} → statement M
 check-noting-spec =

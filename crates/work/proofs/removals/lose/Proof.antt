@@ -16,8 +16,9 @@ returns c =
     let s : tie.Start = search in
     let region : tie.After-slice-known = search in
     let purged : tie.After-purge-peer = search in
+    let made = purged .purge-peer .ensures in
     λ st call ids stored peers view out g downloaded.
-    takes-the-peers g downloaded (s .pre) (λ i. omega (arith, region .slice-known .given i)) (purged .purge-peer .ensures .0) (purged .purge-peer .ensures .1)
+    takes-the-peers g downloaded (s .pre) (λ i. omega (arith, region .slice-known .given i)) (made .0) (made .1)
 
 pub lose-spec : {M : Type 1} → statement M
 lose-spec = tie.close (tie.spec purge-peer-requires same-length returns)

@@ -19,8 +19,9 @@ returns c =
     let s : tie.Start = search in
     let region : tie.After-slice-known = search in
     let marked : tie.After-mark-received = search in
+    let made = marked .mark-received .ensures in
     λ st call stored peers view out g downloaded.
-    takes-received g downloaded (s .pre .0) (λ i. omega (arith, region .slice-known .given i)) (marked .mark-received .ensures .0) (marked .mark-received .ensures .1)
+    takes-received g downloaded (s .pre .0) (λ i. omega (arith, region .slice-known .given i)) (made .0) (made .1)
 
 pub received-spec : {M : Type 1} → statement M
 received-spec = tie.close (tie.spec mark-received-requires same-length returns)
