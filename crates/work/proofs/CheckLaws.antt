@@ -2,7 +2,7 @@
 use Prim.Native.Nat.{ℕ, _+_, _-_, _*_, _^_, _≤_, _<_}
 use mathlib.Core.Path.{_≡_, refl, ap, _∙_}
 use mathlib.Core.Bool.{Bool, cond}
-use mathlib.Core.List.{List, [], map, append-nil}
+use mathlib.Core.List.{List, [], append-nil}
 use native.Mathlib.Omega.{arith}
 use lib.ListN.{length}
 use lib.Dec.{eqb}
@@ -31,7 +31,6 @@ use Rattle.image.specs.declared.head.Head.{Head}
 use Rattle.commands.specs.Pending.{requestsIn, holding}
 use Rattle.commands.specs.Sent.{sentBytes}
 use Rattle.delivery.specs.Region.{evictedIn}
-use Rattle.retries.specs.Items.{itemOf}
 use Rattle.check_timeouts.specs.Checked.{pendingAfterCheck, checkedAs, retriedPlaces}
 use Rattle.check_timeouts.specs.declared.check.Checked.{Checked}
 use Rattle.plan.specs.declared.Call.{Call}
@@ -130,7 +129,8 @@ module _ {head : Head} {call : Call} {peers region : List ℕ} (due : Due head c
     places-inside =
         rw hp
         (all-weaker (λ (place : ℕ). place < length after) (λ (place : ℕ). place * recordSize + recordSize ≤ length table)
-        (λ place h. omega (arith, table-size, table-stands .few)) (retriedPlaces settings (call .clock) pending 0) (below gate settings (call .clock) (peersIn peers) pending (stands .rise) table held))
+        (λ place h. omega (arith, table-size, table-stands .few))
+        (retriedPlaces settings (call .clock) pending 0) (below gate settings (call .clock) (peersIn peers) pending (stands .rise) table held))
 
     pub places-narrow : All (λ (place : ℕ). requestOf (entry recordSize place table) .typeId < 256) places
     places-narrow = rw hp (types-at gate settings (call .clock) (peersIn peers) pending (stands .rise) table held types)

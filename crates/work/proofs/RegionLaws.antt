@@ -138,7 +138,8 @@ tracked-stands head clock region t f =
           (entries-bytes recordSize (head .pending) region f);
       rise = ids-rise (entries recordSize (head .pending) region) (rising-ascending idSize (entries recordSize (head .pending) region) (t .order));
       ids =
-          all-weaker (λ (e : List ℕ). (length e ≡ idSize) × Bytes e) WellId (λ e w. record { long = w .0; bytes = w .1 }) (evictedIn (head .evicted) region)
+          all-weaker (λ (e : List ℕ). (length e ≡ idSize) × Bytes e) WellId (λ e w. record { long = w .0; bytes = w .1 })
+          (evictedIn (head .evicted) region)
           (entries-all idSize (head .evicted) (drop from region) room (bytes-drop from region f));
       few = rw (lp, le) few;
       held = t .held;

@@ -88,7 +88,8 @@ module _ (settings : Settings) (clock : ℕ) (target : ℕ → ℕ) where
           (λ place h. omega arith) (retriedPlaces settings clock rs (suc n)) (q (suc n))
 
       go : (v : Verdict) → ((m : ℕ) → All (λ (place : ℕ). place < m + length (checkedTo settings clock target rs)) (retriedPlaces settings clock rs m))
-          → All (λ (place : ℕ). place < n + length (staysTo clock target v r (checkedTo settings clock target rs))) (placedAfter v n (retriedPlaces settings clock rs))
+          → All (λ (place : ℕ). place < n + length (staysTo clock target v r (checkedTo settings clock target rs)))
+          (placedAfter v n (retriedPlaces settings clock rs))
       go waiting q = later q
       go retried q = (omega arith, later q)
       go abandoned q = q n
@@ -103,15 +104,18 @@ module _ (settings : Settings) (clock : ℕ) (target : ℕ → ℕ) where
     where
       later : (x : Request) → all ≡ front ++ (x ∷ checkedTo settings clock target rs)
           → ((more : List Request) (m : ℕ) → length more ≡ m → all ≡ more ++ checkedTo settings clock target rs
-          → map (λ (place : ℕ). getD all place d) (retriedPlaces settings clock rs m) ≡ map (restartedTo clock target) (judged settings clock retried rs))
-          → map (λ (place : ℕ). getD all place d) (retriedPlaces settings clock rs (suc n)) ≡ map (restartedTo clock target) (judged settings clock retried rs)
+          → map (λ (place : ℕ). getD all place d) (retriedPlaces settings clock rs m)
+          ≡ map (restartedTo clock target) (judged settings clock retried rs))
+          → map (λ (place : ℕ). getD all place d) (retriedPlaces settings clock rs (suc n))
+          ≡ map (restartedTo clock target) (judged settings clock retried rs)
       later x e q =
           q (front ++ (x ∷ [])) (suc n) (rw (length-append front (x ∷ [])) (omega arith))
           (e ∙ sym (append-snoc front x (checkedTo settings clock target rs)))
 
       go : (v : Verdict)
           → ((more : List Request) (m : ℕ) → length more ≡ m → all ≡ more ++ checkedTo settings clock target rs
-          → map (λ (place : ℕ). getD all place d) (retriedPlaces settings clock rs m) ≡ map (restartedTo clock target) (judged settings clock retried rs))
+          → map (λ (place : ℕ). getD all place d) (retriedPlaces settings clock rs m)
+          ≡ map (restartedTo clock target) (judged settings clock retried rs))
           → all ≡ front ++ staysTo clock target v r (checkedTo settings clock target rs)
           → map (λ (place : ℕ). getD all place d) (placedAfter v n (retriedPlaces settings clock rs))
           ≡ map (restartedTo clock target) (consIf (eqb (verdictNumber v) (verdictNumber retried)) r (judged settings clock retried rs))
@@ -231,6 +235,7 @@ module _ (gate : Bool) (settings : Settings) (clock : ℕ) (peers : List ℕ) (r
       either (All WellItem) gate (map (retryOf peers) due) []
       (all-map (λ (r : Request). Recorded r × (r .typeId < 256)) WellItem (retryOf peers)
       (λ r q. record { id = q .0 .id; typeId = q .1; peer = target-well peers (r .peer) w (q .0 .cells .0) }) due
-      (all-kept (λ (r : Request). Recorded r × (r .typeId < 256)) (λ (r : Request). eqb (verdictNumber (verdict settings clock r)) (verdictNumber retried)) rs
+      (all-kept (λ (r : Request). Recorded r × (r .typeId < 256))
+      (λ (r : Request). eqb (verdictNumber (verdict settings clock r)) (verdictNumber retried)) rs
       (all-both Recorded (λ (r : Request). r .typeId < 256) rs a b)))
       tt

@@ -100,7 +100,8 @@ module _ (head : Head) (clock : ℕ) (region : List ℕ) (t : Tracked head clock
 
     pub kept-stands : (test : Request → Bool) → Stands (kept test pending) evicted (holding (head .pending) (kept test pending) region)
     kept-stands test =
-        taken-stands (kept test pending) (all-kept Recorded test pending (stands .recorded)) (rising-kept test pending (stands .rise)) (length-kept test pending)
+        taken-stands (kept test pending) (all-kept Recorded test pending (stands .recorded)) (rising-kept test pending (stands .rise))
+        (length-kept test pending)
 
     pub taken-done : (q : List Request) (at batch left : ℕ) (after out : List ℕ) → Stands q evicted (holding (head .pending) q region)
         → left ≡ length q → after ≡ holding (head .pending) q region

@@ -26,7 +26,8 @@ module _ (c : tie.After-schedule-rerequest) where
   ids-bytes = λ i. omega (arith, ids-known .shared-slice-known .given i)
 
 schedule-rerequest-requires : tie.Need-schedule-rerequest-requires
-schedule-rerequest-requires c κs = let s : tie.Start = search in
+schedule-rerequest-requires c κs =
+    let s : tie.Start = search in
     ((s .pre .1 .0, (s .pre .1 .1, (s .pre .0 .few, omega (arith, s .pre .0 .size)))), s .pre .0 .order)
 
 enum-told : tie.Need-enum-told
@@ -42,7 +43,8 @@ same-length : tie.Need-same-length
 same-length c = search needs
 
 returns : tie.Need-returns
-returns c = let m : tie.After-schedule-rerequest = search in
+returns c =
+    let m : tie.After-schedule-rerequest = search in
     let s = start m in
     let a = s .args in
     let said = m .schedule-rerequest in (
@@ -55,7 +57,8 @@ same-length-2 : tie.Need-same-length-2
 same-length-2 c = search needs
 
 returns-2 : tie.Need-returns-2
-returns-2 c = let m : tie.After-schedule-rerequest = search in
+returns-2 c =
+    let m : tie.After-schedule-rerequest = search in
     let stays : tie.After-stay = search in
     let s = start m in
     let said = m .schedule-rerequest in (
