@@ -2,7 +2,7 @@
 use Prim.Native.Nat.{ℕ, _+_, _-_, _*_, _^_, _≤_, _<_}
 use mathlib.Core.Path.{_≡_, refl, ap, _∙_}
 use mathlib.Core.Bool.{Bool, cond}
-use mathlib.Core.List.{List, [], map, append-nil}
+use mathlib.Core.List.{List, [], append-nil}
 use native.Mathlib.Omega.{arith}
 use lib.ListN.{length}
 use lib.Dec.{eqb}
@@ -31,7 +31,6 @@ use Rattle.image.specs.declared.head.Head.{Head}
 use Rattle.commands.specs.Pending.{requestsIn, holding}
 use Rattle.commands.specs.Sent.{sentBytes}
 use Rattle.delivery.specs.Region.{evictedIn}
-use Rattle.retries.specs.Items.{itemOf}
 use Rattle.check_timeouts.specs.Checked.{pendingAfterCheck, checkedAs, retriedPlaces}
 use Rattle.check_timeouts.specs.declared.check.Checked.{Checked}
 use Rattle.plan.specs.declared.Call.{Call}
@@ -43,10 +42,36 @@ use Rattle.work.specs.declared.Counts.{Counts}
 use Rattle.work.specs.declared.Performed.the-variants.{Done as Finished}
 use Rattle.work.proofs.RegionLaws.{Stands, tracked-stands, stands-size, stands-requests, stands-holding, stands-cleared}
 use Rattle.work.proofs.WorkedLaws.{length-requests, length-evicted, settings-given, clock-given, gate-given}
-use Rattle.work.proofs.RetriedLaws.{types-below, retries-few, retries-in-width, after-rising, after-length, after-few, after-recorded, below, types-at, retried-items}
+use Rattle.work.proofs.RetriedLaws.{types-below, itemsAt, retries-few, retries-in-width, below, types-at, retried-items}
+use Rattle.work.proofs.RetriedLaws.{after-rising, after-length, after-few, after-recorded}
 use Rattle.model.specs.Layout.{idSize, recordSize, regionSize}
 
-module _ (head : Head) (call : Call) (peers region : List ℕ) (t : Tracked head (call .clock) region) (f : Bytes region) (fp : Bytes peers) (k : call .clock < 2 ^ 64) where
+-- A check at its entry: the region, the peers and the clock are within their types.
+pub record Due (head : Head) (call : Call) (peers region : List ℕ) : Type 0 where
+  pub tracked : Tracked head (call .clock) region
+  pub bytes : Bytes region
+  pub listed : Bytes peers
+  pub clock : call .clock < 2 ^ 64
+
+-- what it sends of the places noted in a table
+abbrev sentOf : Bool → List ℕ → List ℕ → List Sending
+sentOf gate table places = retrySendings (cond gate (itemsAt table places) [])
+
+-- the counts that the code answers
+abbrev countsOf : Checked → Head → ℕ → ℕ → Counts
+countsOf made head at batch =
+    record {
+      pending = made .pending;
+      evicted = 0;
+      retried = made .retried;
+      fresh = head .evicted;
+      abandoned = made .abandoned;
+      forgotten = made .forgotten;
+      at = at;
+      batch = batch;
+    }
+
+module _ {head : Head} {call : Call} {peers region : List ℕ} (due : Due head call peers region) where
   abbrev pending : List Request
   pending = requestsIn (head .pending) region
 
@@ -63,19 +88,21 @@ module _ (head : Head) (call : Call) (peers region : List ℕ) (t : Tracked head
   after = pendingAfterCheck gate settings (call .clock) (peersIn peers) pending
 
   stands : Stands pending evicted region
-  stands = tracked-stands head (call .clock) region t f
+  stands = tracked-stands head (call .clock) region (due .tracked) (due .bytes)
 
   after-stands : Stands after evicted (holding (head .pending) after region)
   after-stands =
       let n : length after ≤ length pending = after-few gate settings (call .clock) (peersIn peers) pending (stands .rise) in
       rw (length-requests (head .pending) region) at
-      (stands-holding pending evicted region stands after (after-recorded gate settings (call .clock) (peersIn peers) pending (stands .rise) k (peers-well peers fp) (stands .recorded) (t .checks))
+      (stands-holding pending evicted region stands after (after-recorded gate settings (call .clock) (peersIn peers) pending (stands .rise) (due .clock)
+      (peers-well peers (due .listed)) (stands .recorded) (due .tracked .checks))
       (after-rising gate settings (call .clock) (peersIn peers) pending (stands .rise)) (omega (arith, stands .few)))
 
   types : All (λ (r : Request). r .typeId < 256) pending
   types =
-      types-below (entries recordSize (head .pending) region) (entries-wide recordSize (head .pending) region (omega (arith, t .few, t .size)))
-      (entries-bytes recordSize (head .pending) region f) (t .narrow)
+      types-below (entries recordSize (head .pending) region)
+      (entries-wide recordSize (head .pending) region (omega (arith, due .tracked .few, due .tracked .size)))
+      (entries-bytes recordSize (head .pending) region (due .bytes)) (due .tracked .narrow)
 
   retried-few : length (judged settings (call .clock) retried pending) ≤ head .pending
   unfolding judged
@@ -83,11 +110,12 @@ module _ (head : Head) (call : Call) (peers region : List ℕ) (t : Tracked head
       let a = length-kept (λ (r : Request). eqb (verdictNumber (verdict settings (call .clock) r)) (verdictNumber retried)) pending in
       rw (length-requests (head .pending) region) at a
 
-  pub made-retried : (made : Checked) → made ≡ checkedAs settings (call .clock) pending → made .retried ≤ head .pending
+  pub made-retried : {made : Checked} → made ≡ checkedAs settings (call .clock) pending → made .retried ≤ head .pending
   unfolding checkedAs
-  made-retried made e = rw e retried-few
+  made-retried e = rw e retried-few
 
-  module _ (table places : List ℕ) (ht : table ≡ holding (head .pending) after region) (hp : places ≡ retriedPlaces settings (call .clock) pending 0) where
+  module _ {table places : List ℕ} (ht : table ≡ holding (head .pending) after region)
+      (hp : places ≡ retriedPlaces settings (call .clock) pending 0) where
     table-stands : Stands after evicted table
     table-stands = rw ht after-stands
 
@@ -100,35 +128,35 @@ module _ (head : Head) (call : Call) (peers region : List ℕ) (t : Tracked head
     pub places-inside : All (λ (place : ℕ). place * recordSize + recordSize ≤ length table) places
     places-inside =
         rw hp
-        (all-weaker (λ (place : ℕ). place < length after) (λ (place : ℕ). place * recordSize + recordSize ≤ length table) (λ place h. omega (arith, table-size, table-stands .few))
+        (all-weaker (λ (place : ℕ). place < length after) (λ (place : ℕ). place * recordSize + recordSize ≤ length table)
+        (λ place h. omega (arith, table-size, table-stands .few))
         (retriedPlaces settings (call .clock) pending 0) (below gate settings (call .clock) (peersIn peers) pending (stands .rise) table held))
 
     pub places-narrow : All (λ (place : ℕ). requestOf (entry recordSize place table) .typeId < 256) places
     places-narrow = rw hp (types-at gate settings (call .clock) (peersIn peers) pending (stands .rise) table held types)
 
-    sent-again : retrySendings (cond gate (map (λ (place : ℕ). itemOf (requestOf (entry recordSize place table))) places) []) ≡ checkedSendings head call peers region
+    sent-again : sentOf gate table places ≡ checkedSendings head call peers region
     unfolding checkedSendings
     sent-again = ap retrySendings (retried-items gate settings (call .clock) (peersIn peers) pending (stands .rise) table places held hp)
 
     -- what the code has in its hands then
-    module _ (made : Checked) (at batch : ℕ) (at′ batch′ : ℕ) (cleared out out′ : List ℕ)
+    module _ {made : Checked} (at batch : ℕ) {at′ batch′ : ℕ} {cleared : List ℕ} (out : List ℕ) {out′ : List ℕ}
         (hm : made ≡ checkedAs settings (call .clock) pending)
-        (ho : out′ ≡ overwritten at (sentBytes batch (retrySendings (cond gate (map (λ (place : ℕ). itemOf (requestOf (entry recordSize place table))) places) []))) out)
-        (ha : at′ ≡ at + length (sentBytes batch (retrySendings (cond gate (map (λ (place : ℕ). itemOf (requestOf (entry recordSize place table))) places) []))))
-        (hb : batch′ ≡ batch + length (retrySendings (cond gate (map (λ (place : ℕ). itemOf (requestOf (entry recordSize place table))) places) [])))
+        (ho : out′ ≡ overwritten at (sentBytes batch (sentOf gate table places)) out)
+        (ha : at′ ≡ at + length (sentBytes batch (sentOf gate table places)))
+        (hb : batch′ ≡ batch + length (sentOf gate table places))
         (hc : cleared ≡ overwritten (length table - head .evicted * idSize) (zeros (head .evicted * idSize)) table) where
       cleared-is : cleared ≡ regionOf (checkedPending head call peers region) []
       unfolding checkedPending
       cleared-is = hc ∙ (rw (length-evicted (head .evicted) region) at (stands-cleared after evicted table table-stands .held))
 
-      counts-are : record { pending = made .pending; evicted = 0; retried = made .retried; fresh = head .evicted; abandoned = made .abandoned; forgotten = made .forgotten; at = at′; batch = batch′ }
-          ≡ checkedCounts head call peers region at batch
+      counts-are : countsOf made head at′ batch′ ≡ checkedCounts head call peers region at batch
       unfolding checkedCounts judgedCount checkedPending checkedAs
       counts-are = rw (hm, ha, hb, sent-again, after-length gate settings (call .clock) (peersIn peers) pending (stands .rise))
 
-      pub checked-so : (record { pending = made .pending; evicted = 0; retried = made .retried; fresh = head .evicted; abandoned = made .abandoned; forgotten = made .forgotten; at = at′; batch = batch′ }
-          ≡ checkedCounts head call peers region at batch)
-          × ((cleared ≡ regionOf (checkedPending head call peers region) []) × (out′ ≡ overwritten at (sentBytes batch (checkedSendings head call peers region)) out))
+      pub checked-so : (countsOf made head at′ batch′ ≡ checkedCounts head call peers region at batch)
+          × ((cleared ≡ regionOf (checkedPending head call peers region) [])
+          × (out′ ≡ overwritten at (sentBytes batch (checkedSendings head call peers region)) out))
       checked-so = (counts-are, (cleared-is, ho ∙ ap (λ (x : List Sending). overwritten at (sentBytes batch x) out) sent-again))
 
   -- ---- for what comes behind the check
@@ -140,14 +168,17 @@ module _ (head : Head) (call : Call) (peers region : List ℕ) (t : Tracked head
   pub checked-count : length (checkedSendings head call peers region) ≤ head .pending
   unfolding checkedSendings
   checked-count =
-      omega (arith, retries-count (retries gate settings (call .clock) (peersIn peers) pending), retries-few gate settings (call .clock) (peersIn peers) pending, length-requests (head .pending) region)
+      let few = retries-few gate settings (call .clock) (peersIn peers) pending in
+      omega (arith, retries-count (retries gate settings (call .clock) (peersIn peers) pending), few, length-requests (head .pending) region)
 
   pub checked-bytes : (batch : ℕ) → length (sentBytes batch (checkedSendings head call peers region)) ≤ 48 * head .pending
   unfolding checkedSendings sentBytes
   checked-bytes batch =
       let items : List Item = retries gate settings (call .clock) (peersIn peers) pending in
-      let w = retries-in-width gate settings (call .clock) (peersIn peers) pending (peers-well peers fp) (stands .recorded) types in
-      omega (arith, sendings-bytes batch (retrySendings items) (retries-sent-well items w), retries-weight items, retries-few gate settings (call .clock) (peersIn peers) pending, length-requests (head .pending) region)
+      let w = retries-in-width gate settings (call .clock) (peersIn peers) pending (peers-well peers (due .listed)) (stands .recorded) types in
+      let bytes = sendings-bytes batch (retrySendings items) (retries-sent-well items w) in
+      let few = retries-few gate settings (call .clock) (peersIn peers) pending in
+      omega (arith, bytes, retries-weight items, few, length-requests (head .pending) region)
 
   pub checked-few : length (checkedPending head call peers region) ≤ trackedLimit
   unfolding checkedPending
@@ -174,19 +205,20 @@ unfolding workedBy actedBy countBy retriedBy pendingAfterCheck
 check-worked st c downloaded gate clock settings peers p e hp he hs hg hc hr =
     rw (hp, he, hs, hg, hc, hr, append-nil (retrySendings (retries (eqb gate 1) settings clock (peersIn peers) p)))
 
-module _ (head : Head) (call : Call) (region ids stored peers view : List ℕ) (st : State) (c : calls.Call) (g : Given head region call ids stored peers view st c) where
-  pub checks : (downloaded at batch : ℕ) (counts : Counts) (after out out′ : List ℕ) → length (checkedPending head call peers region) ≤ trackedLimit
+module _ {head : Head} {call : Call} {region ids stored peers view : List ℕ} {st : State} {c : calls.Call}
+    (g : Given head region call ids stored peers view st c) where
+  pub checks : Due head call peers region → (downloaded at batch : ℕ) {counts : Counts} {after : List ℕ} (out : List ℕ) {out′ : List ℕ}
       → counts ≡ checkedCounts head call peers region at batch → after ≡ regionOf (checkedPending head call peers region) []
       → out′ ≡ overwritten at (sentBytes batch (checkedSendings head call peers region)) out
       → Performs at batch (workedBy st c downloaded Check) out (Finished counts) after out′
   unfolding performedAs fits checkedCounts judgedCount checkedPending checkedSendings
-  checks downloaded at batch counts after out out′ few a h o =
+  checks due downloaded at batch out a h o =
       let p : List Request = requestsIn (head .pending) region in
       let e : List Id = evictedIn (head .evicted) region in
       let after′ : List Request = pendingAfterCheck (eqb (call .gate) 1) (settingsOf (head .settings)) (call .clock) (peersIn peers) p in
-      let n : length after′ ≤ trackedLimit = few in
-      rw (check-worked st c downloaded (call .gate) (call .clock) (settingsOf (head .settings)) peers p e (g .pending) (g .evicted) (settings-given head call region ids stored peers view st c g)
-      (gate-given head call region ids stored peers view st c g) (clock-given head call region ids stored peers view st c g) (g .itsPeers))
+      let n : length after′ ≤ trackedLimit = checked-few due in
+      rw (check-worked st c downloaded (call .gate) (call .clock) (settingsOf (head .settings)) peers p e (g .pending) (g .evicted)
+      (settings-given g) (gate-given g) (clock-given g) (g .itsPeers))
       (record {
         answered = rw (a, length-evicted (head .evicted) region, le-leb (length after′ + 0) trackedLimit (omega arith));
         left = λ _. h;

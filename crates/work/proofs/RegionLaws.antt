@@ -39,7 +39,8 @@ over-end at a b new h l =
     rw (take-at a b at h, drop-of-length-le (a ++ b) {i = at + length new} e, append-nil)
 
 -- cut before the ids
-cut-region : (p : List Request) (e : List Id) → regionOf p e ≡ (joined (map requestBytes p) ++ zeros (regionSize - length p * recordSize - length e * idSize)) ++ joined e
+cut-region : (p : List Request) (e : List Id)
+    → regionOf p e ≡ (joined (map requestBytes p) ++ zeros (regionSize - length p * recordSize - length e * idSize)) ++ joined e
 unfolding regionOf
 cut-region p e = sym (append-assoc (joined (map requestBytes p)) (zeros (regionSize - length p * recordSize - length e * idSize)) (joined e))
 
@@ -53,7 +54,8 @@ module _ (p : List Request) (e : List Id) (wp : Wide recordSize (map requestByte
   pub length-region : length (regionOf p e) ≡ regionSize
   unfolding regionOf
   length-region =
-      rw (length-append (joined (map requestBytes p)), length-append (zeros (regionSize - length p * recordSize - length e * idSize)), length-zeros, length-records, length-ids) (omega arith)
+      let free : ℕ = regionSize - length p * recordSize - length e * idSize in
+      rw (length-append (joined (map requestBytes p)), length-append (zeros free), length-zeros, length-records, length-ids) (omega arith)
 
   pub entries-region : entries recordSize (length p) (regionOf p e) ≡ map requestBytes p
   unfolding regionOf
@@ -66,7 +68,8 @@ module _ (p : List Request) (e : List Id) (wp : Wide recordSize (map requestByte
   front-region =
       rw (length-append (joined (map requestBytes p)), length-zeros, length-records) (omega arith)
 
-  pub holding-region : (q : List Request) → Wide recordSize (map requestBytes q) → length q + length e ≤ trackedLimit → holding (length p) q (regionOf p e) ≡ regionOf q e
+  pub holding-region : (q : List Request) → Wide recordSize (map requestBytes q) → length q + length e ≤ trackedLimit
+      → holding (length p) q (regionOf p e) ≡ regionOf q e
   unfolding holding regionOf
   holding-region q wq room =
       let free : ℕ = regionSize - length p * recordSize - length e * idSize in
@@ -77,7 +80,8 @@ module _ (p : List Request) (e : List Id) (wp : Wide recordSize (map requestByte
       (rw (lp, lq) at r) ∙ rw n
 
   -- more ids end it, or none
-  pub ending-region : (e′ : List Id) → Wide idSize e′ → length e ≤ length e′ → length p + length e′ ≤ trackedLimit → endingWith e′ (regionOf p e) ≡ regionOf p e′
+  pub ending-region : (e′ : List Id) → Wide idSize e′ → length e ≤ length e′ → length p + length e′ ≤ trackedLimit
+      → endingWith e′ (regionOf p e) ≡ regionOf p e′
   unfolding endingWith
   ending-region e′ we′ more room =
       let free : ℕ = regionSize - length p * recordSize - length e * idSize in
@@ -87,7 +91,8 @@ module _ (p : List Request) (e : List Id) (wp : Wide recordSize (map requestByte
       let le : length (joined e′) ≡ length e′ * idSize = length-joined idSize e′ we′ in
       let a : regionOf p e ≡ (joined (map requestBytes p) ++ zeros left) ++ (zeros new ++ joined e) =
       cut-region p e ∙ rw z (simp append-assoc) in
-      let la : length (joined (map requestBytes p) ++ zeros left) ≡ regionSize - length e′ * idSize = rw (length-append (joined (map requestBytes p)), length-zeros, length-records) (omega arith) in
+      let la : length (joined (map requestBytes p) ++ zeros left) ≡ regionSize - length e′ * idSize =
+      rw (length-append (joined (map requestBytes p)), length-zeros, length-records) (omega arith) in
       let lb : length (zeros new ++ joined e) ≡ length (joined e′) = rw (length-append (zeros new), length-zeros, length-ids, le) (omega arith) in
       rw length-region
       (ap (overwritten (regionSize - length e′ * idSize) (joined e′)) a
@@ -102,7 +107,8 @@ module _ (p : List Request) (e : List Id) (wp : Wide recordSize (map requestByte
       let s : free + length e * idSize ≡ all = omega arith in
       let z : zeros free ++ zeros (length e * idSize) ≡ zeros all = zeros-append free (length e * idSize) ∙ rw s in
       ap (overwritten (regionSize - length e * idSize) (zeros (length e * idSize))) (cut-region p e)
-      ∙ over-end (regionSize - length e * idSize) (joined (map requestBytes p) ++ zeros free) (joined e) (zeros (length e * idSize)) front-region (rw (length-ids, length-zeros (length e * idSize)))
+      ∙ over-end (regionSize - length e * idSize) (joined (map requestBytes p) ++ zeros free) (joined e) (zeros (length e * idSize)) front-region
+      (rw (length-ids, length-zeros (length e * idSize)))
       ∙ append-assoc (joined (map requestBytes p)) (zeros free) (zeros (length e * idSize))
       ∙ rw (z, append-nil)
 
@@ -122,7 +128,8 @@ tracked-stands head clock region t f =
     let few : head .pending + head .evicted ≤ trackedLimit = t .few in
     let size : length region ≡ regionSize = t .size in
     let from : ℕ = length region - head .evicted * idSize in
-    let lp : length (requestsIn (head .pending) region) ≡ head .pending = length-map (entries recordSize (head .pending) region) requestOf ∙ length-entries recordSize (head .pending) region in
+    let lp : length (requestsIn (head .pending) region) ≡ head .pending =
+    length-map (entries recordSize (head .pending) region) requestOf ∙ length-entries recordSize (head .pending) region in
     let le : length (evictedIn (head .evicted) region) ≡ head .evicted = length-entries idSize (head .evicted) (drop from region) in
     let room : head .evicted * idSize ≤ length (drop from region) = rw (length-drop from region) (omega arith) in
     record {
@@ -131,7 +138,8 @@ tracked-stands head clock region t f =
           (entries-bytes recordSize (head .pending) region f);
       rise = ids-rise (entries recordSize (head .pending) region) (rising-ascending idSize (entries recordSize (head .pending) region) (t .order));
       ids =
-          all-weaker (λ (e : List ℕ). (length e ≡ idSize) × Bytes e) WellId (λ e w. record { long = w .0; bytes = w .1 }) (evictedIn (head .evicted) region)
+          all-weaker (λ (e : List ℕ). (length e ≡ idSize) × Bytes e) WellId (λ e w. record { long = w .0; bytes = w .1 })
+          (evictedIn (head .evicted) region)
           (entries-all idSize (head .evicted) (drop from region) room (bytes-drop from region f));
       few = rw (lp, le) few;
       held = t .held;
@@ -156,7 +164,8 @@ module _ (p : List Request) (e : List Id) (region : List ℕ) (s : Stands p e re
   pub stands-rising : rising idSize (entries recordSize (length p) region) ≡ true
   stands-rising = rw stands-entries (ascending-rising idSize (map requestBytes p) (records-rise p (s .recorded) (s .rise)))
 
-  pub stands-holding : (q : List Request) → All Recorded q → RisingIds (idsOf q) → length q + length e ≤ trackedLimit → Stands q e (holding (length p) q region)
+  pub stands-holding : (q : List Request) → All Recorded q → RisingIds (idsOf q) → length q + length e ≤ trackedLimit
+      → Stands q e (holding (length p) q region)
   stands-holding q wq rise room =
       record {
         recorded = wq;
@@ -166,7 +175,8 @@ module _ (p : List Request) (e : List Id) (region : List ℕ) (s : Stands p e re
         held = ap (holding (length p) q) (s .held) ∙ holding-region p e records-are-wide ids-are-wide (s .few) q (records-wide q wq) room;
       }
 
-  pub stands-ending : (e′ : List Id) → All WellId e′ → length e ≤ length e′ → length p + length e′ ≤ trackedLimit → Stands p e′ (endingWith e′ region)
+  pub stands-ending : (e′ : List Id) → All WellId e′ → length e ≤ length e′ → length p + length e′ ≤ trackedLimit
+      → Stands p e′ (endingWith e′ region)
   stands-ending e′ we′ more room =
       record {
         recorded = s .recorded;
@@ -184,5 +194,8 @@ module _ (p : List Request) (e : List Id) (region : List ℕ) (s : Stands p e re
         rise = s .rise;
         ids = tt;
         few = omega arith;
-        held = rw stands-size (ap (overwritten (regionSize - length e * idSize) (zeros (length e * idSize))) (s .held) ∙ cleared-region p e records-are-wide ids-are-wide (s .few));
+        held =
+            rw stands-size
+            (ap (overwritten (regionSize - length e * idSize) (zeros (length e * idSize))) (s .held)
+            ∙ cleared-region p e records-are-wide ids-are-wide (s .few));
       }

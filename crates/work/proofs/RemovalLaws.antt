@@ -29,9 +29,9 @@ use Rattle.plan.specs.declared.Call.{Call}
 use Rattle.plan.specs.declared.Work.the-variants.{Received, Evicted, Purge, Lose}
 use Rattle.plan.specs.Plans.{retriedBy}
 use Rattle.work.specs.Worked.{Tracked, Given, actedBy, countBy, workedBy, fits, performedAs, Performs}
-use Rattle.work.specs.declared.Performed.the-variants.{Done as Finished, Full}
+use Rattle.work.specs.declared.Performed.the-variants.{Full}
 use Rattle.work.proofs.RegionLaws.{Stands, stands-ending}
-use Rattle.work.proofs.WorkedLaws.{quiet, quiet-done, length-evicted, stands, taken-stands, kept-stands, taken-done, peer-given}
+use Rattle.work.proofs.WorkedLaws.{quiet, leaving, quiet-done, length-evicted, stands, taken-stands, kept-stands, taken-done, peer-given}
 use Rattle.model.specs.Layout.{idSize}
 
 -- ---- what each comes to
@@ -41,7 +41,8 @@ module _ (st : State) (c : calls.Call) (downloaded : ℕ) (p : List Request) (e 
   unfolding workedBy actedBy countBy retriedBy retrySendings batchesOf
   received-worked ids hi = rw (hp, he, hi)
 
-  evicted-worked : (ids : List ℕ) → c .ids ≡ ids → workedBy st c downloaded Evicted ≡ quiet (pendingAfterEviction (idsIn ids) p) (evictedAfterEviction (idsIn ids) e)
+  evicted-worked : (ids : List ℕ) → c .ids ≡ ids
+      → workedBy st c downloaded Evicted ≡ quiet (pendingAfterEviction (idsIn ids) p) (evictedAfterEviction (idsIn ids) e)
   unfolding workedBy actedBy countBy retriedBy retrySendings batchesOf
   evicted-worked ids hi = rw (hp, he, hi)
 
@@ -90,21 +91,23 @@ module _ (head : Head) (clock : ℕ) (region : List ℕ) (t : Tracked head clock
     unfolding scheduledAs performedAs fits
     schedule-full = go (leb (length remaining + length grown) trackedLimit) refl
       where
-        go : (b : Bool) → leb (length remaining + length grown) trackedLimit ≡ b → scheduled.Full ≡ cond b (scheduled.Pending (length remaining)) scheduled.Full
+        go : (b : Bool) → leb (length remaining + length grown) trackedLimit ≡ b
+            → scheduled.Full ≡ cond b (scheduled.Pending (length remaining)) scheduled.Full
             → Performs at batch (quiet remaining grown) out Full after out
         go true e h = let z : _≡_ {A = ℕ} 0 1 = cc in absurd (omega arith)
         go false e h = record { answered = rw e; left = λ y. absurd (false≢true (sym e ∙ y)); written = λ y. absurd (false≢true (sym e ∙ y)) }
 
     schedule-done : (left gone : ℕ) → scheduled.Pending left ≡ scheduledAs trackedLimit remaining grown → gone ≡ head .evicted + length ids / idSize
         → after ≡ regionThen trackedLimit (head .pending) remaining grown region
-        → Performs at batch (quiet remaining grown) out (Finished (record { pending = left; evicted = gone; retried = 0; fresh = 0; abandoned = 0; forgotten = 0; at = at; batch = batch })) after out
+        → Performs at batch (quiet remaining grown) out (leaving left gone at batch) after out
     unfolding scheduledAs regionThen
     schedule-done left gone = go (leb (length remaining + length grown) trackedLimit) refl
       where
-        go : (b : Bool) → leb (length remaining + length grown) trackedLimit ≡ b → scheduled.Pending left ≡ cond b (scheduled.Pending (length remaining)) scheduled.Full
+        go : (b : Bool) → leb (length remaining + length grown) trackedLimit ≡ b
+            → scheduled.Pending left ≡ cond b (scheduled.Pending (length remaining)) scheduled.Full
             → gone ≡ head .evicted + length ids / idSize
             → after ≡ cond b (endingWith grown (holding (head .pending) remaining region)) region
-            → Performs at batch (quiet remaining grown) out (Finished (record { pending = left; evicted = gone; retried = 0; fresh = 0; abandoned = 0; forgotten = 0; at = at; batch = batch })) after out
+            → Performs at batch (quiet remaining grown) out (leaving left gone at batch) after out
         go true e h k q =
             let n : left ≡ length remaining = cc in
             let room : length remaining + length grown ≤ trackedLimit = leb-true (length remaining + length grown) trackedLimit e in
@@ -113,43 +116,52 @@ module _ (head : Head) (clock : ℕ) (region : List ℕ) (t : Tracked head clock
 
 -- ---- by the state and the call that are given
 
-module _ (head : Head) (call : Call) (region ids stored peers view : List ℕ) (st : State) (c : calls.Call) (g : Given head region call ids stored peers view st c)
-    (downloaded at batch clock : ℕ) (t : Tracked head clock region) (f : Bytes region) where
-  module _ (left : ℕ) (after out : List ℕ) where
-    pub takes-received : left ≡ length (markReceived (idsIn ids) (requestsIn (head .pending) region)) → after ≡ holding (head .pending) (markReceived (idsIn ids) (requestsIn (head .pending) region)) region
-        → Performs at batch (workedBy st c downloaded Received) out (Finished (record { pending = left; evicted = head .evicted; retried = 0; fresh = 0; abandoned = 0; forgotten = 0; at = at; batch = batch })) after out
-    unfolding markReceived
-    takes-received a h =
-        rw (received-worked st c downloaded (requestsIn (head .pending) region) (evictedIn (head .evicted) region) (g .pending) (g .evicted) ids (g .itsIds))
-        (taken-done head clock region t f (markReceived (idsIn ids) (requestsIn (head .pending) region)) at batch left after out (kept-stands head clock region t f (λ (r : Request). not (isAmong (r .id) (idsIn ids)))) a h)
+module _ {head : Head} {call : Call} {region ids stored peers view : List ℕ} {st : State} {c : calls.Call}
+    (g : Given head region call ids stored peers view st c) where
+  abbrev asked : List Request
+  asked = requestsIn (head .pending) region
 
-    pub takes-all : left ≡ 0 → after ≡ holding (head .pending) (purgeAll (requestsIn (head .pending) region)) region
-        → Performs at batch (workedBy st c downloaded Purge) out (Finished (record { pending = left; evicted = head .evicted; retried = 0; fresh = 0; abandoned = 0; forgotten = 0; at = at; batch = batch })) after out
-    unfolding purgeAll
-    takes-all a h =
-        rw (purge-worked st c downloaded (requestsIn (head .pending) region) (evictedIn (head .evicted) region) (g .pending) (g .evicted))
-        (taken-done head clock region t f [] at batch left after out (taken-stands head clock region t f [] tt tt (omega arith)) a h)
+  abbrev gone : List Id
+  gone = evictedIn (head .evicted) region
 
-    pub takes-the-peers : left ≡ length (purgePeer (head .peer) (requestsIn (head .pending) region)) → after ≡ holding (head .pending) (purgePeer (head .peer) (requestsIn (head .pending) region)) region
-        → Performs at batch (workedBy st c downloaded Lose) out (Finished (record { pending = left; evicted = head .evicted; retried = 0; fresh = 0; abandoned = 0; forgotten = 0; at = at; batch = batch })) after out
-    unfolding purgePeer
-    takes-the-peers a h =
-        rw (lose-worked st c downloaded (requestsIn (head .pending) region) (evictedIn (head .evicted) region) (g .pending) (g .evicted) (head .peer) (peer-given head call region ids stored peers view st c g))
-        (taken-done head clock region t f (purgePeer (head .peer) (requestsIn (head .pending) region)) at batch left after out (kept-stands head clock region t f (λ (r : Request). not (eqb (r .peer) (head .peer)))) a h)
+  module _ (downloaded : ℕ) {at batch clock : ℕ} (t : Tracked head clock region) (f : Bytes region) where
+    module _ {left : ℕ} {after out : List ℕ} where
+      pub takes-received : left ≡ length (markReceived (idsIn ids) asked) → after ≡ holding (head .pending) (markReceived (idsIn ids) asked) region
+          → Performs at batch (workedBy st c downloaded Received) out (leaving left (head .evicted) at batch) after out
+      unfolding markReceived
+      takes-received a h =
+          let s = kept-stands head clock region t f (λ (r : Request). not (isAmong (r .id) (idsIn ids))) in
+          rw (received-worked st c downloaded asked gone (g .pending) (g .evicted) ids (g .itsIds))
+          (taken-done head clock region t f (markReceived (idsIn ids) asked) at batch left after out s a h)
 
-  module _ (fi : Bytes ids) (after out : List ℕ) (answer : schedule.Evicted)
-      (made : answer ≡ scheduledAs trackedLimit (pendingAfterEviction (idsIn ids) (requestsIn (head .pending) region)) (evictedAfterEviction (idsIn ids) (evictedIn (head .evicted) region))) where
-    pub evicts-too-many : answer ≡ scheduled.Full → Performs at batch (workedBy st c downloaded Evicted) out Full after out
-    evicts-too-many a =
-        rw (evicted-worked st c downloaded (requestsIn (head .pending) region) (evictedIn (head .evicted) region) (g .pending) (g .evicted) ids (g .itsIds))
-        (schedule-full head clock region t f ids fi at batch after out (sym a ∙ made))
+      pub takes-all : left ≡ 0 → after ≡ holding (head .pending) (purgeAll asked) region
+          → Performs at batch (workedBy st c downloaded Purge) out (leaving left (head .evicted) at batch) after out
+      unfolding purgeAll
+      takes-all a h =
+          rw (purge-worked st c downloaded asked gone (g .pending) (g .evicted))
+          (taken-done head clock region t f [] at batch left after out (taken-stands head clock region t f [] tt tt (omega arith)) a h)
 
-    pub evicts : (left gone : ℕ) → answer ≡ scheduled.Pending left → gone ≡ head .evicted + length ids / idSize
-        → after ≡ regionThen trackedLimit (head .pending) (pendingAfterEviction (idsIn ids) (requestsIn (head .pending) region)) (evictedAfterEviction (idsIn ids) (evictedIn (head .evicted) region)) region
-        → Performs at batch (workedBy st c downloaded Evicted) out (Finished (record { pending = left; evicted = gone; retried = 0; fresh = 0; abandoned = 0; forgotten = 0; at = at; batch = batch })) after out
-    evicts left gone a b h =
-        rw (evicted-worked st c downloaded (requestsIn (head .pending) region) (evictedIn (head .evicted) region) (g .pending) (g .evicted) ids (g .itsIds))
-        (schedule-done head clock region t f ids fi at batch after out left gone (sym a ∙ made) b h)
+      pub takes-the-peers : left ≡ length (purgePeer (head .peer) asked) → after ≡ holding (head .pending) (purgePeer (head .peer) asked) region
+          → Performs at batch (workedBy st c downloaded Lose) out (leaving left (head .evicted) at batch) after out
+      unfolding purgePeer
+      takes-the-peers a h =
+          let s = kept-stands head clock region t f (λ (r : Request). not (eqb (r .peer) (head .peer))) in
+          rw (lose-worked st c downloaded asked gone (g .pending) (g .evicted) (head .peer) (peer-given g))
+          (taken-done head clock region t f (purgePeer (head .peer) asked) at batch left after out s a h)
+
+    module _ (fi : Bytes ids) {after out : List ℕ} {answer : schedule.Evicted}
+        (made : answer ≡ scheduledAs trackedLimit (pendingAfterEviction (idsIn ids) asked) (evictedAfterEviction (idsIn ids) gone)) where
+      pub evicts-too-many : answer ≡ scheduled.Full → Performs at batch (workedBy st c downloaded Evicted) out Full after out
+      evicts-too-many a =
+          rw (evicted-worked st c downloaded asked gone (g .pending) (g .evicted) ids (g .itsIds))
+          (schedule-full head clock region t f ids fi at batch after out (sym a ∙ made))
+
+      pub evicts : {left more : ℕ} → answer ≡ scheduled.Pending left → more ≡ head .evicted + length ids / idSize
+          → after ≡ regionThen trackedLimit (head .pending) (pendingAfterEviction (idsIn ids) asked) (evictedAfterEviction (idsIn ids) gone) region
+          → Performs at batch (workedBy st c downloaded Evicted) out (leaving left more at batch) after out
+      evicts {left} {more} a b h =
+          rw (evicted-worked st c downloaded asked gone (g .pending) (g .evicted) ids (g .itsIds))
+          (schedule-done head clock region t f ids fi at batch after out left more (sym a ∙ made) b h)
 
 -- ---- no room
 

@@ -34,6 +34,7 @@ use Rattle.plan.specs.declared.Call.{Call}
 use Rattle.plan.specs.declared.Work.the-variants.{Nothing}
 use Rattle.plan.specs.Plans.{numbersOf, retriedBy}
 use Rattle.work.specs.Worked.{regionOf, Tracked, Given, Worked, actedBy, countBy, workedBy, fits, performedAs, Performs}
+use Rattle.work.specs.declared.Performed.{Performed}
 use Rattle.work.specs.declared.Performed.the-variants.{Done as Finished}
 use Rattle.work.proofs.RegionLaws.{Stands, tracked-stands, stands-holding}
 use Rattle.model.specs.Layout.{idSize, recordSize}
@@ -42,9 +43,13 @@ use Rattle.model.specs.Layout.{idSize, recordSize}
 abbrev pub quiet : List Request → List Id → Worked
 quiet pending evicted = record { pending = pending; evicted = evicted; sendings = []; retried = 0; fresh = 0; abandoned = 0; forgotten = 0 }
 
+-- its answer, where so many requests and ids are left
+abbrev pub leaving : ℕ → ℕ → ℕ → ℕ → Performed
+leaving left gone at batch = Finished (record { pending = left; evicted = gone; retried = 0; fresh = 0; abandoned = 0; forgotten = 0; at = at; batch = batch })
+
 pub quiet-done : (p : List Request) (e : List Id) (at batch left gone : ℕ) (after out : List ℕ) → left ≡ length p → gone ≡ length e
     → length p + length e ≤ trackedLimit → after ≡ regionOf p e
-    → Performs at batch (quiet p e) out (Finished (record { pending = left; evicted = gone; retried = 0; fresh = 0; abandoned = 0; forgotten = 0; at = at; batch = batch })) after out
+    → Performs at batch (quiet p e) out (leaving left gone at batch) after out
 unfolding performedAs fits sentBytes
 quiet-done p e at batch left gone after out a b few h =
     record {
@@ -79,30 +84,35 @@ module _ (head : Head) (clock : ℕ) (region : List ℕ) (t : Tracked head clock
   few = rw (length-requests (head .pending) region, length-evicted (head .evicted) region) (t .few)
 
   nothing-done : (at batch : ℕ) (out : List ℕ)
-      → Performs at batch (quiet pending evicted) out (Finished (record { pending = head .pending; evicted = head .evicted; retried = 0; fresh = 0; abandoned = 0; forgotten = 0; at = at; batch = batch })) region out
+      → Performs at batch (quiet pending evicted) out (leaving (head .pending) (head .evicted) at batch) region out
   nothing-done at batch out =
-      quiet-done pending evicted at batch (head .pending) (head .evicted) region out (sym (length-requests (head .pending) region)) (sym (length-evicted (head .evicted) region)) few (t .held)
+      quiet-done pending evicted at batch (head .pending) (head .evicted) region out
+      (sym (length-requests (head .pending) region)) (sym (length-evicted (head .evicted) region)) few (t .held)
 
   module _ (f : Bytes region) where
     pub stands : Stands pending evicted region
     stands = tracked-stands head clock region t f
 
     -- fewer requests in their place
-    pub taken-stands : (q : List Request) → All Recorded q → RisingIds (idsOf q) → length q ≤ length pending → Stands q evicted (holding (head .pending) q region)
+    pub taken-stands : (q : List Request) → All Recorded q → RisingIds (idsOf q) → length q ≤ length pending
+        → Stands q evicted (holding (head .pending) q region)
     taken-stands q w r n = rw (length-requests (head .pending) region) at (stands-holding pending evicted region stands q w r (omega (arith, few)))
 
     pub kept-stands : (test : Request → Bool) → Stands (kept test pending) evicted (holding (head .pending) (kept test pending) region)
     kept-stands test =
-        taken-stands (kept test pending) (all-kept Recorded test pending (stands .recorded)) (rising-kept test pending (stands .rise)) (length-kept test pending)
+        taken-stands (kept test pending) (all-kept Recorded test pending (stands .recorded)) (rising-kept test pending (stands .rise))
+        (length-kept test pending)
 
-    pub taken-done : (q : List Request) (at batch left : ℕ) (after out : List ℕ) → Stands q evicted (holding (head .pending) q region) → left ≡ length q → after ≡ holding (head .pending) q region
-        → Performs at batch (quiet q evicted) out (Finished (record { pending = left; evicted = head .evicted; retried = 0; fresh = 0; abandoned = 0; forgotten = 0; at = at; batch = batch })) after out
+    pub taken-done : (q : List Request) (at batch left : ℕ) (after out : List ℕ) → Stands q evicted (holding (head .pending) q region)
+        → left ≡ length q → after ≡ holding (head .pending) q region
+        → Performs at batch (quiet q evicted) out (leaving left (head .evicted) at batch) after out
     taken-done q at batch left after out s a h =
         quiet-done q evicted at batch left (head .evicted) after out a (sym (length-evicted (head .evicted) region)) (s .few) (h ∙ s .held)
 
 -- ---- by the state and the call that are given
 
-module _ (head : Head) (call : Call) (region ids stored peers view : List ℕ) (st : State) (c : calls.Call) (g : Given head region call ids stored peers view st c) where
+module _ {head : Head} {call : Call} {region ids stored peers view : List ℕ} {st : State} {c : calls.Call}
+    (g : Given head region call ids stored peers view st c) where
   pub settings-given : st .settings ≡ settingsOf (head .settings)
   unfolding headOf settingsOf
   settings-given = ap (λ (h : Head). settingsOf (h .settings)) (g .header)
@@ -115,11 +125,21 @@ module _ (head : Head) (call : Call) (region ids stored peers view : List ℕ) (
   unfolding numbersOf
   gate-given = ap (λ (n : Call). n .gate) (g .numbers)
 
+  pub type-given : c .typeid ≡ call .typeid
+  unfolding numbersOf
+  type-given = ap (λ (n : Call). n .typeid) (g .numbers)
+
+  pub height-given : c .height ≡ call .height
+  unfolding numbersOf
+  height-given = ap (λ (n : Call). n .height) (g .numbers)
+
   pub peer-given : st .sync .syncPeer ≡ head .peer
   unfolding headOf
   peer-given = ap (λ (h : Head). h .peer) (g .header)
 
-  module _ (downloaded at batch clock : ℕ) (t : Tracked head clock region) where
-    pub does-nothing : (out : List ℕ)
-        → Performs at batch (workedBy st c downloaded Nothing) out (Finished (record { pending = head .pending; evicted = head .evicted; retried = 0; fresh = 0; abandoned = 0; forgotten = 0; at = at; batch = batch })) region out
-    does-nothing out = rw (nothing-worked st c downloaded (pending head clock region t) (evicted head clock region t) (g .pending) (g .evicted)) (nothing-done head clock region t at batch out)
+  module _ (downloaded : ℕ) {at batch clock : ℕ} (t : Tracked head clock region) where
+    pub does-nothing : {out : List ℕ}
+        → Performs at batch (workedBy st c downloaded Nothing) out (leaving (head .pending) (head .evicted) at batch) region out
+    does-nothing {out} =
+        rw (nothing-worked st c downloaded (pending head clock region t) (evicted head clock region t) (g .pending) (g .evicted))
+        (nothing-done head clock region t at batch out)

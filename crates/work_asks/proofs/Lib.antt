@@ -1,3 +1,4 @@
+pub mod EntryLaws
 pub mod AskedLaws
 pub mod PairLaws
 pub mod IdsLaws

@@ -1,8 +1,8 @@
 -- The work that asks another peer for a lost one's ids, from what was asked for it.
-use Prim.Native.Nat.{ℕ, _+_, _*_, _^_, _≤_, _<_}
+use Prim.Native.Nat.{ℕ, _+_, _*_, _≤_}
 use mathlib.Core.Path.{_≡_, sym, ap, _∙_}
-use mathlib.Core.Bool.{Bool, true, not, _&&_}
-use mathlib.Core.List.{List, [], map}
+use mathlib.Core.Bool.{true, not, _&&_}
+use mathlib.Core.List.{List, []}
 use native.Mathlib.Omega.{arith}
 use lib.ListN.{length, take, length-map}
 use lib.Dec.{eqb}
@@ -11,13 +11,13 @@ use Rattle.fields.specs.Overwrite.{overwritten}
 use Rattle.fields.specs.Entries.{entries, rising, joined}
 use Rattle.fields.proofs.FilterLaws.{length-kept}
 use Rattle.fields.proofs.EntriesLaws.{Wide}
-use Rattle.model.specs.Protocol.{Id, isTransaction, trackedLimit}
+use Rattle.model.specs.Protocol.{isTransaction, trackedLimit}
 use Rattle.model.specs.Delivery.{Request, purgePeer, orphansOf}
 use Rattle.model.specs.State.{State}
-use Rattle.model.specs.Requests.{ask, performAll}
-use Rattle.model.specs.Sections.{Batch, batchesOf}
+use Rattle.model.specs.Requests.{performAll}
+use Rattle.model.specs.Sections.{batchesOf}
 use Rattle.model.specs.Check.{retrySendings}
-use Rattle.model.specs.Lists.{pairsIn, entriesOf}
+use Rattle.model.specs.Lists.{pairsIn, pairsFit, entriesOf}
 use Rattle.model.specs.Steps as steps
 use Rattle.model.specs.Calls as calls
 use Rattle.model.specs.Calls.{argsOf, pairBytes}
@@ -31,97 +31,104 @@ use Rattle.request_announced.specs.ByType.{asksByType}
 use Rattle.request_announced.proofs.ByTypeLaws.{asks-well, asks-weight}
 use Rattle.work.specs.declared.Counts.{Counts}
 use Rattle.work.specs.declared.Performed.{Performed}
-use Rattle.work.specs.Worked.{Tracked, Given, actedBy, countBy, workedBy, Performs}
+use Rattle.work.specs.Worked.{Given, actedBy, countBy, workedBy, Performs}
 use Rattle.work.proofs.RegionLaws.{Stands, tracked-stands, stands-size, stands-requests, stands-rising}
 use Rattle.work.proofs.WorkedLaws.{length-requests, length-evicted, kept-stands, peer-given, clock-given, gate-given}
 use Rattle.work_asks.specs.Asked.{unasked, Asks}
+use Rattle.work_asks.proofs.EntryLaws.{Entered, PairsAsks}
 use Rattle.work_asks.proofs.AskedLaws.{asking, first-done}
 use Rattle.work_asks.proofs.PairLaws.{front-length, front-pairs}
-use Rattle.work_asks.proofs.OrphanLaws.{orphanPairs, orphan-asks, orphans-wide}
-use Rattle.model.specs.Layout.{idSize, mostBytes, pairSize, recordSize, regionSize}
+use Rattle.work_asks.proofs.OrphanLaws.{orphanPairs, orphanAsks, orphan-asks, orphans-wide}
+use Rattle.model.specs.Layout.{idSize, pairSize, recordSize}
 
 -- ---- what it comes to
 
-module _ (st : State) (c : calls.Call) (downloaded gate clock : ℕ) (p : List Request) (e : List Id) (n gone at batch : ℕ) (hp : st .pending ≡ p) (he : st .sync .evicted ≡ e) (hg : c .gate ≡ gate) (hc : c .clock ≡ clock) where
-  lose-ask-worked : (peer lost : ℕ) (stored : List ℕ) → st .sync .syncPeer ≡ lost → c .stored ≡ stored
-      → workedBy st c downloaded (LoseAsk peer)
+module _ {head : Head} {call : Call} {region ids stored peers view : List ℕ} {st : State} {c : calls.Call}
+    (g : Given head region call ids stored peers view st c) (downloaded n gone at batch peer : ℕ) where
+  lose-ask-worked : workedBy st c downloaded (LoseAsk peer)
       ≡ asking
-      (performAll (eqb gate 1) clock
-      (map (λ (b : Batch). ask (b .typeId) peer (pairsIn stored) (b .ids)) (batchesOf (map (λ (r : Request). record { id = r .id; typeId = r .typeId; peer = peer }) (orphansOf lost p))))
-      (purgePeer lost p))
-      e [] (unasked n gone at batch)
+      (performAll (eqb (call .gate) 1) (call .clock) (orphanAsks peer (pairsIn stored) (orphansOf (head .peer) (requestsIn (head .pending) region)))
+      (purgePeer (head .peer) (requestsIn (head .pending) region)))
+      (evictedIn (head .evicted) region) [] (unasked n gone at batch)
   unfolding workedBy actedBy countBy retriedBy retrySendings batchesOf steps.askOrphans argsOf
-  lose-ask-worked peer lost stored hl hs = rw (hp, he, hg, hc, hl, hs)
+  lose-ask-worked = rw (g .pending, g .evicted, gate-given g, clock-given g, peer-given g, g .itsStored)
 
--- ---- the table once the lost peer's requests left it
+-- ---- its two parts: the pairs gathered, the peer's requests dropped
 
-module _ (head : Head) (clock : ℕ) (region : List ℕ) (t : Tracked head clock region) (f : Bytes region) where
-  lost-stands : Stands (purgePeer (head .peer) (requestsIn (head .pending) region)) (evictedIn (head .evicted) region) (holding (head .pending) (purgePeer (head .peer) (requestsIn (head .pending) region)) region)
+abbrev others : Head → List ℕ → List Request
+others head region = purgePeer (head .peer) (requestsIn (head .pending) region)
+
+abbrev lost : Head → List ℕ → List Request
+lost head region = orphansOf (head .peer) (requestsIn (head .pending) region)
+
+-- The table once the lost peer's requests left it.
+pub record Left (head : Head) (region : List ℕ) (left : ℕ) (table : List ℕ) : Type 0 where
+  pub count : left ≡ length (others head region)
+  pub held : table ≡ holding (head .pending) (others head region) region
+
+-- Its pairs at the front of a room.
+pub record Gathered (head : Head) (region : List ℕ) (number : ℕ) (room pairs : List ℕ) : Type 0 where
+  pub count : number ≡ length (lost head region)
+  pub written : pairs ≡ overwritten 0 (joined (orphanPairs (lost head region))) room
+
+module _ {head : Head} {call : Call} {region : List ℕ} {at batch peer : ℕ} {out : List ℕ} (n : Entered head call region at batch peer out) where
+  lost-stands : Stands (others head region) (evictedIn (head .evicted) region) (holding (head .pending) (others head region) region)
   unfolding purgePeer
-  lost-stands = kept-stands head clock region t f (λ (r : Request). not (eqb (r .peer) (head .peer)))
+  lost-stands = kept-stands head (call .clock) region (n .tracked) (n .bytes) (λ (r : Request). not (eqb (r .peer) (head .peer)))
 
-  module _ (left : ℕ) (after : List ℕ) (hl : left ≡ length (purgePeer (head .peer) (requestsIn (head .pending) region)))
-      (ha : after ≡ holding (head .pending) (purgePeer (head .peer) (requestsIn (head .pending) region)) region) where
-    pub left-stands : Stands (purgePeer (head .peer) (requestsIn (head .pending) region)) (evictedIn (head .evicted) region) after
-    left-stands = rw ha lost-stands
+  left-stands : {left : ℕ} {table : List ℕ} → Left head region left table → Stands (others head region) (evictedIn (head .evicted) region) table
+  left-stands l = rw (l .held) lost-stands
 
-    pub left-few : left + head .evicted ≤ trackedLimit
-    left-few = omega (arith, left-stands .few, hl, length-evicted (head .evicted) region)
+  wide : Wide pairSize (orphanPairs (lost head region))
+  wide = orphans-wide (head .peer) (requestsIn (head .pending) region) (tracked-stands head (call .clock) region (n .tracked) (n .bytes) .recorded)
 
-    pub left-size : length after ≡ regionSize
-    left-size = stands-size (purgePeer (head .peer) (requestsIn (head .pending) region)) (evictedIn (head .evicted) region) after left-stands
-
-    pub left-rising : rising idSize (entries recordSize left after) ≡ true
-    left-rising = rw hl (stands-rising (purgePeer (head .peer) (requestsIn (head .pending) region)) (evictedIn (head .evicted) region) after left-stands)
-
-  -- its pairs
-  module _ (number : ℕ) (room pairs : List ℕ) (hn : number ≡ length (orphansOf (head .peer) (requestsIn (head .pending) region)))
-      (hp : pairs ≡ overwritten 0 (joined (orphanPairs (orphansOf (head .peer) (requestsIn (head .pending) region)))) room) where
-    number-is : number ≡ length (orphanPairs (orphansOf (head .peer) (requestsIn (head .pending) region)))
-    number-is = hn ∙ sym (length-map (orphansOf (head .peer) (requestsIn (head .pending) region)) (λ (r : Request). pairBytes (r .typeId) (r .id)))
-
-    wide : Wide pairSize (orphanPairs (orphansOf (head .peer) (requestsIn (head .pending) region)))
-    wide = orphans-wide (head .peer) (requestsIn (head .pending) region) (tracked-stands head clock region t f .recorded)
+  module _ {number : ℕ} {room pairs : List ℕ} (gathered : Gathered head region number room pairs) where
+    number-is : number ≡ length (orphanPairs (lost head region))
+    number-is = gathered .count ∙ sym (length-map (lost head region) (λ (r : Request). pairBytes (r .typeId) (r .id)))
 
     pub orphans-few : number ≤ head .pending
     unfolding orphansOf
-    orphans-few = omega (arith, hn, length-kept (λ (r : Request). eqb (r .peer) (head .peer) && not (isTransaction (r .typeId))) (requestsIn (head .pending) region), length-requests (head .pending) region)
+    orphans-few =
+        let kept = length-kept (λ (r : Request). eqb (r .peer) (head .peer) && not (isTransaction (r .typeId))) (requestsIn (head .pending) region) in
+        omega (arith, gathered .count, kept, length-requests (head .pending) region)
 
     pub orphans-long : length (take (number * pairSize) pairs) ≡ number * pairSize
-    orphans-long = front-length (orphanPairs (orphansOf (head .peer) (requestsIn (head .pending) region))) wide number room pairs number-is hp
+    orphans-long = front-length (orphanPairs (lost head region)) wide number room pairs number-is (gathered .written)
 
-    pub orphans-read : entriesOf pairSize (take (number * pairSize) pairs) ≡ orphanPairs (orphansOf (head .peer) (requestsIn (head .pending) region))
-    orphans-read = front-pairs (orphanPairs (orphansOf (head .peer) (requestsIn (head .pending) region))) wide number room pairs number-is hp
+    orphans-read : entriesOf pairSize (take (number * pairSize) pairs) ≡ orphanPairs (lost head region)
+    orphans-read = front-pairs (orphanPairs (lost head region)) wide number room pairs number-is (gathered .written)
 
--- ---- the state and the call that are given
+    -- ---- asked for behind the purge
 
-module _ (head : Head) (call : Call) (region ids stored peers view : List ℕ) (st : State) (c : calls.Call) (g : Given head region call ids stored peers view st c) where
-  module _ (t : Tracked head (call .clock) region) (f : Bytes region) (k : call .clock < 2 ^ 64) (at batch downloaded peer : ℕ) (hp : peer < 2 ^ 64) (out : List ℕ) (room : at + mostBytes ≤ length out)
-      (r : Performed) (after out′ : List ℕ) (before : Counts) where
-    abbrev p : List Request
-    p = requestsIn (head .pending) region
+    module _ {left : ℕ} {table : List ℕ} (l : Left head region left table) {before : Counts} (b : before ≡ unasked left (head .evicted) at batch) where
+      pub orphans-ask : (stored : List ℕ) → pairsFit stored ≡ true → PairsAsks before table stored (take (number * pairSize) pairs) out
+      orphans-ask stored fit =
+          let s = left-stands l in
+          let few : left + head .evicted ≤ trackedLimit = omega (arith, s .few, l .count, length-evicted (head .evicted) region) in
+          let long = orphans-long in
+          let number-few = orphans-few in
+          let size = stands-size (others head region) (evictedIn (head .evicted) region) table s in
+          let order : rising idSize (entries recordSize left table) ≡ true =
+          rw (l .count) (stands-rising (others head region) (evictedIn (head .evicted) region) table s) in
+          let most = n .tracked .few in
+          rw b (
+            (omega (arith, long), (omega (arith, long, number-few, most), (few, omega (arith, size)))),
+            (order, (fit, (omega (arith, long, number-few, most, n .room), omega (arith, long, number-few, most, n .room)))),
+          )
 
-    abbrev e : List Id
-    e = evictedIn (head .evicted) region
-
-    abbrev gate : Bool
-    gate = eqb (call .gate) 1
-
-    pub asks-lost : (left number : ℕ) (purged space pairs : List ℕ) → left ≡ length (purgePeer (head .peer) p) → purged ≡ holding (head .pending) (purgePeer (head .peer) p) region
-        → number ≡ length (orphansOf (head .peer) p) → pairs ≡ overwritten 0 (joined (orphanPairs (orphansOf (head .peer) p))) space → Bytes (take (number * pairSize) pairs)
-        → before ≡ unasked left (head .evicted) at batch
-        → Asks gate (call .clock) (asksByType peer (pairsIn stored) (entriesOf pairSize (take (number * pairSize) pairs))) before purged out r after out′
-        → Performs at batch (workedBy st c downloaded (LoseAsk peer)) out r after out′
-    asks-lost left number purged space pairs hl hq hn hd fp b a =
-        let q : List Request = purgePeer (head .peer) p in
-        let s : Stands q e purged = left-stands head (call .clock) region t f left purged hl hq in
-        let read = orphans-read head (call .clock) region t f number space pairs hn hd in
-        let acts : asksByType peer (pairsIn stored) (entriesOf pairSize (take (number * pairSize) pairs))
-        ≡ map (λ (x : Batch). ask (x .typeId) peer (pairsIn stored) (x .ids)) (batchesOf (map (λ (x : Request). record { id = x .id; typeId = x .typeId; peer = peer }) (orphansOf (head .peer) p))) =
-        ap (asksByType peer (pairsIn stored)) read ∙ orphan-asks peer (pairsIn stored) (orphansOf (head .peer) p) in
-        let long = orphans-long head (call .clock) region t f number space pairs hn hd in
-        let few = orphans-few head (call .clock) region t f number space pairs hn hd in
-        rw (lose-ask-worked st c downloaded (call .gate) (call .clock) p e left (head .evicted) at batch (g .pending) (g .evicted) (gate-given head call region ids stored peers view st c g) (clock-given head call region ids stored peers view st c g) peer (head .peer) stored (peer-given head call region ids stored peers view st c g) (g .itsStored), ← acts)
-        (first-done gate (call .clock) (asksByType peer (pairsIn stored) (entriesOf pairSize (take (number * pairSize) pairs))) q e purged out left (head .evicted) at batch s k
-        (asks-well peer (pairsIn stored) (take (number * pairSize) pairs) hp fp) (rw hl (stands-requests q e purged s)) hl (sym (length-evicted (head .evicted) region))
-        (omega (arith, asks-weight peer (pairsIn stored) (take (number * pairSize) pairs), long, few, t .few)) r after out′ (rw b at a))
+      pub asks-lost : {stored after out′ : List ℕ} {r : Performed} → Bytes (take (number * pairSize) pairs)
+          → Asks (eqb (call .gate) 1) (call .clock) (asksByType peer (pairsIn stored) (entriesOf pairSize (take (number * pairSize) pairs)))
+          before table out r after out′
+          → {st : State} {c : calls.Call} {ids peers view : List ℕ} → Given head region call ids stored peers view st c → (downloaded : ℕ)
+          → Performs at batch (workedBy st c downloaded (LoseAsk peer)) out r after out′
+      asks-lost {stored} fp a g downloaded =
+          let front : List ℕ = take (number * pairSize) pairs in
+          let s = left-stands l in
+          let acts : asksByType peer (pairsIn stored) (entriesOf pairSize front) ≡ orphanAsks peer (pairsIn stored) (lost head region) =
+          ap (asksByType peer (pairsIn stored)) orphans-read ∙ orphan-asks peer (pairsIn stored) (lost head region) in
+          let long = orphans-long in
+          let few = orphans-few in
+          rw (lose-ask-worked g downloaded left (head .evicted) at batch peer, ← acts)
+          (first-done s (rw (l .count) (stands-requests (others head region) (evictedIn (head .evicted) region) table s)) (l .count)
+          (sym (length-evicted (head .evicted) region)) (n .clock) (asks-well peer (pairsIn stored) front (n .asked) fp)
+          (omega (arith, asks-weight peer (pairsIn stored) front, long, few, n .tracked .few, n .room)) (rw b at a))

@@ -20,7 +20,8 @@ use Rattle.plan.specs.Plans.{retriedBy}
 use Rattle.work.specs.Worked.{Given, Worked, actedBy, countBy, workedBy}
 
 -- a list of no ids marks nothing and sends nothing
-asked-nothing : (gate : Bool) (clock typeId peer : ℕ) (pairs : List Pair) (pending : List Request) → performAll gate clock (ask typeId peer pairs [] ∷ []) pending ≡ performAll gate clock [] pending
+asked-nothing : (gate : Bool) (clock typeId peer : ℕ) (pairs : List Pair) (pending : List Request)
+    → performAll gate clock (ask typeId peer pairs [] ∷ []) pending ≡ performAll gate clock [] pending
 unfolding wanted
 asked-nothing true clock typeId peer pairs pending = refl
 asked-nothing false clock typeId peer pairs pending = refl
@@ -38,7 +39,8 @@ checkedThen st c done =
       forgotten = countBy st c Check forgotten;
     }
 
-none-evicted-plain : (st : State) (c : calls.Call) (downloaded peer : ℕ) → st .sync .evicted ≡ [] → workedBy st c downloaded (CheckFresh peer) ≡ workedBy st c downloaded Check
+none-evicted-plain : (st : State) (c : calls.Call) (downloaded peer : ℕ) → st .sync .evicted ≡ []
+    → workedBy st c downloaded (CheckFresh peer) ≡ workedBy st c downloaded Check
 unfolding workedBy actedBy countBy retriedBy
 none-evicted-plain st c downloaded peer e =
     let gate : Bool = eqb (c .gate) 1 in
@@ -50,6 +52,7 @@ none-evicted-plain st c downloaded peer e =
 none-evicted : (evicted : ℕ) (region : List ℕ) → evicted ≡ 0 → evictedIn evicted region ≡ []
 none-evicted evicted region e = rw e
 
-pub given-plain : (head : Head) (call : Call) (region ids stored peers view : List ℕ) (st : State) (c : calls.Call) → Given head region call ids stored peers view st c → head .evicted ≡ 0
-    → (downloaded peer : ℕ) → workedBy st c downloaded (CheckFresh peer) ≡ workedBy st c downloaded Check
-given-plain head call region ids stored peers view st c g e downloaded peer = none-evicted-plain st c downloaded peer (g .evicted ∙ none-evicted (head .evicted) region e)
+module _ {head : Head} {call : Call} {region ids stored peers view : List ℕ} {st : State} {c : calls.Call}
+    (g : Given head region call ids stored peers view st c) where
+  pub given-plain : head .evicted ≡ 0 → (downloaded peer : ℕ) → workedBy st c downloaded (CheckFresh peer) ≡ workedBy st c downloaded Check
+  given-plain e downloaded peer = none-evicted-plain st c downloaded peer (g .evicted ∙ none-evicted (head .evicted) region e)

@@ -56,11 +56,13 @@ announcement-long batch peer bytes h = rw (joined-ids bytes h) (omega arith)
 
 -- What was announced, the place behind it and the next batch, and that there is room for the work's commands.
 module _ (announces : Listed) (bytes out : List ℕ) where
+  abbrev announcements : List Sending
+  announcements = announced (listedPeer announces) (idsIn bytes)
+
   abbrev pub Announced : List ℕ → ℕ → ℕ → Type 0
   Announced out′ at batch =
-      (out′ ≡ overwritten 0 (sentBytes 0 (announced (listedPeer announces) (idsIn bytes))) out)
-      × (((at ≡ length (sentBytes 0 (announced (listedPeer announces) (idsIn bytes)))) × (batch ≡ length (announced (listedPeer announces) (idsIn bytes))))
-      × ((at + mostBytes ≤ 65536) × (batch ≤ 1)))
+      (out′ ≡ overwritten 0 (sentBytes 0 announcements) out)
+      × (((at ≡ length (sentBytes 0 announcements)) × (batch ≡ length announcements)) × ((at + mostBytes ≤ 65536) × (batch ≤ 1)))
 
   pub nobody-told : announces ≡ Nobody → Announced out 0 0
   unfolding sentBytes
@@ -84,10 +86,11 @@ module _ (announces : Listed) (bytes out : List ℕ) where
       rw (p, s, b) (e, ((n ∙ sym (announcement-long 0 peer bytes (w .0)), refl), (omega (arith, w .1), omega arith)))
 
 -- with nobody told, the commands are as they were
-pub nothing-before : (announces : Listed) (bytes out out′ : List ℕ) → out′ ≡ overwritten 0 (sentBytes 0 (announced (listedPeer announces) (idsIn bytes))) out
+pub nothing-before : (announces : Listed) (bytes out : List ℕ) {out′ : List ℕ}
+    → out′ ≡ overwritten 0 (sentBytes 0 (announced (listedPeer announces) (idsIn bytes))) out
     → announces ≡ Nobody → out′ ≡ out
 unfolding sentBytes
-nothing-before announces bytes out out′ e nobody = e ∙ rw nobody (overwritten-nil 0 out)
+nothing-before announces bytes out e nobody = e ∙ rw nobody (overwritten-nil 0 out)
 
 -- ---- work behind an announcement
 
@@ -107,12 +110,14 @@ module _ (st : State) (c : calls.Call) (plan : Plan) where
   abbrev work : Worked
   work = workedBy st c (plan .head .downloaded) (plan .work)
 
-  pub carries : (bytes out out₁ out₂ region : List ℕ) (at batch : ℕ) (r : Performed) → c .continuation ≡ bytes → Announced (plan .announces) bytes out out₁ at batch
+  pub carries : {bytes out out₁ out₂ region : List ℕ} {at batch : ℕ} {r : Performed} → c .continuation ≡ bytes
+      → Announced (plan .announces) bytes out out₁ at batch
       → areaSize ≤ length out → length out₁ ≡ length out → length out₂ ≡ length out₁
       → Performs at batch work out₁ r region out₂ → Performs 0 0 (carriedBy st c plan) out r region out₂
   unfolding carriedBy performedAs fits
-  carries bytes out out₁ out₂ region at batch r same told′ room l₁ l₂ p =
-      let a : Announced (plan .announces) (c .continuation) out out₁ at batch = subst (λ (b : List ℕ). Announced (plan .announces) b out out₁ at batch) (sym same) told′ in
+  carries {bytes} {out} {out₁} {out₂} {region} {at} {batch} same told′ room l₁ l₂ p =
+      let a : Announced (plan .announces) (c .continuation) out out₁ at batch =
+      subst (λ (b : List ℕ). Announced (plan .announces) b out out₁ at batch) (sym same) told′ in
       let A : List ℕ = sentBytes 0 first in
       let B : List ℕ = sentBytes batch (work .sendings) in
       let w : out₁ ≡ overwritten 0 A out = a .0 in

@@ -5,7 +5,7 @@ use Rattle.work.proofs.nothing.Tie as tie
 
 returns : tie.Need-returns
 returns c = λ st call region ids stored peers view out numbers t g downloaded.
-    does-nothing (c .args .head) numbers region ids stored peers view st call g downloaded (c .args .at) (c .args .batch) (call .clock) t out
+    does-nothing g downloaded t
 
 pub nothing-spec : {M : Type 1} → statement M
 nothing-spec = tie.close (tie.spec returns)

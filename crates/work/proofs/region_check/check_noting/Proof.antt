@@ -1,42 +1,56 @@
 -- The table after the check holds what stays, and the noted places are in it: `checked-so`.
 use borrow.Author.Needs.{needs}
 use native.Mathlib.Omega.{arith}
-use Prim.Native.Nat.{_<_, _^_}
-use lib.ListN.{take}
-use Rattle.fields.specs.Facts.{Bytes}
-use Rattle.work.proofs.CheckLaws.{made-retried, places-inside, places-narrow, table-size, checked-so}
+use Rattle.work.proofs.CheckLaws.{Due, made-retried, places-inside, places-narrow, table-size, checked-so}
 use Rattle.work.proofs.region_check.check_noting.Statement.{statement}
 use Rattle.work.proofs.region_check.check_noting.Tie as tie
+
+-- ---- the entry
+
+module _ (c : tie.After-struct-known) where
+  abbrev start : tie.Start
+  start = search
+
+  due : let a = start .args in Due (a .head) (a .call) (a .peers .now) (a .region .now)
+  due =
+      let region : tie.After-slice-known = search in
+      let peers : tie.After-shared-slice-known = search in
+      record {
+        tracked = start .pre .0;
+        bytes = λ i. omega (arith, region .slice-known .given i);
+        listed = λ i. omega (arith, peers .shared-slice-known .given i);
+        clock = omega (arith, c .struct-known .given);
+      }
+
+module _ (c : tie.After-check-timeouts) where
+  abbrev entry : tie.After-struct-known
+  entry = search
+
+-- ---- the needs
 
 check-timeouts-requires : tie.Need-check-timeouts-requires
 check-timeouts-requires c κs = search needs
 
 send-retries-requires : tie.Need-send-retries-requires
-send-retries-requires c κs = let s = c .before .before .before .before .before .before .before .before .before .before .before .before .before .before .before in
-    let a = s .args in
-    let m = c .before .before .before .before .before .before .before .check-timeouts in
-    let f : Bytes (a .region .now) = λ i. omega (arith, c .before .before .before .before .before .before .before .before .before .before .before .before .before .before .slice-known .given i) in
-    let fp : Bytes (a .peers .now) = λ i. omega (arith, c .before .before .before .before .before .before .before .before .before .before .before .before .before .shared-slice-known .given i) in
-    let k : a .call .clock < 2 ^ 64 = omega (arith, c .before .before .before .before .before .before .before .before .before .before .struct-known .given) in
-    let table = m .last .0 in
-    let places = take (m .result .retried) (m .last .1 .1 .1 .1 .1 .1 .0) in (
-      places-inside (a .head) (a .call) (a .peers .now) (a .region .now) (s .pre .0) f fp k table places (m .ensures .1 .0) (m .ensures .1 .1),
+send-retries-requires c κs =
+    let judged : tie.After-check-timeouts = search in
+    let s = start (entry judged) in
+    let its = due (entry judged) in
+    let made = judged .check-timeouts .ensures in
+    let kept = judged .check-timeouts .kept in (
+      places-inside its (made .1 .0) (made .1 .1),
       (
-        places-narrow (a .head) (a .call) (a .peers .now) (a .region .now) (s .pre .0) f fp k table places (m .ensures .1 .0) (m .ensures .1 .1),
-        (omega (arith, made-retried (a .head) (a .call) (a .peers .now) (a .region .now) (s .pre .0) f fp k (m .result) (m .ensures .0), m .kept, s .pre), (omega (arith, m .kept, s .pre), (s .pre .1 .1 .0, s .pre .1 .1 .1))),
+        places-narrow its (made .1 .0) (made .1 .1),
+        (omega (arith, made-retried its (made .0), kept, s .pre), (omega (arith, kept, s .pre), s .pre .1 .1)),
       ),
     )
 
 clear-evicted-requires : tie.Need-clear-evicted-requires
-clear-evicted-requires c κs = let s = c .before .before .before .before .before .before .before .before .before .before .before .before .before .before .before .before .before .before .before .before .before in
-    let a = s .args in
-    let m = c .before .before .before .before .before .before .before .before .before .before .before .before .before .check-timeouts in
-    let f : Bytes (a .region .now) = λ i. omega (arith, c .before .before .before .before .before .before .before .before .before .before .before .before .before .before .before .before .before .before .before .before .slice-known .given i) in
-    let fp : Bytes (a .peers .now) = λ i. omega (arith, c .before .before .before .before .before .before .before .before .before .before .before .before .before .before .before .before .before .before .before .shared-slice-known .given i) in
-    let k : a .call .clock < 2 ^ 64 = omega (arith, c .before .before .before .before .before .before .before .before .before .before .before .before .before .before .before .before .struct-known .given) in
-    let table = m .last .0 in
-    let places = take (m .result .retried) (m .last .1 .1 .1 .1 .1 .1 .0) in
-    omega (arith, table-size (a .head) (a .call) (a .peers .now) (a .region .now) (s .pre .0) f fp k table places (m .ensures .1 .0) (m .ensures .1 .1), s .pre .0 .few)
+clear-evicted-requires c κs =
+    let judged : tie.After-check-timeouts = search in
+    let its = due (entry judged) in
+    let made = judged .check-timeouts .ensures in
+    omega (arith, table-size its (made .1 .0) (made .1 .1), its .tracked .few)
 
 same-length : tie.Need-same-length
 same-length c = search needs
@@ -48,17 +62,15 @@ same-length-3 : tie.Need-same-length-3
 same-length-3 c = search needs
 
 returns : tie.Need-returns
-returns c = let s = c .before .before .before .before .before .before .before .before .before .before .before .before .before .before .before .before .before .before .before .before .before .before .before .before in
-    let a = s .args in
-    let m = c .before .before .before .before .before .before .before .before .before .before .before .before .before .before .before .before .check-timeouts in
-    let f : Bytes (a .region .now) = λ i. omega (arith, c .before .before .before .before .before .before .before .before .before .before .before .before .before .before .before .before .before .before .before .before .before .before .before .slice-known .given i) in
-    let fp : Bytes (a .peers .now) = λ i. omega (arith, c .before .before .before .before .before .before .before .before .before .before .before .before .before .before .before .before .before .before .before .before .before .before .shared-slice-known .given i) in
-    let k : a .call .clock < 2 ^ 64 = omega (arith, c .before .before .before .before .before .before .before .before .before .before .before .before .before .before .before .before .before .before .before .struct-known .given) in
-    let table = m .last .0 in
-    let places = take (m .result .retried) (m .last .1 .1 .1 .1 .1 .1 .0) in
-    let n = c .before .before .before .before .before .before .before .before .send-retries in
-    let l = c .before .before .clear-evicted in
-    checked-so (a .head) (a .call) (a .peers .now) (a .region .now) (s .pre .0) f fp k table places (m .ensures .1 .0) (m .ensures .1 .1) (m .result) (a .at) (a .batch) (n .result .at) (n .result .batch) (l .last .0) (a .out .now) (n .last .1 .1 .1 .1 .0) (m .ensures .0) (n .ensures .0) (n .ensures .1 .0) (n .ensures .1 .1) (l .ensures)
+returns c =
+    let cleared : tie.After-clear-evicted = search in
+    let sent : tie.After-send-retries = search in
+    let judged : tie.After-check-timeouts = search in
+    let a = start (entry judged) .args in
+    let made = judged .check-timeouts .ensures in
+    let out = sent .send-retries .ensures in
+    checked-so (due (entry judged)) (made .1 .0) (made .1 .1) (a .at) (a .batch) (a .out .now)
+    (made .0) (out .0) (out .1 .0) (out .1 .1) (cleared .clear-evicted .ensures)
 
 pub check-noting-spec : {M : Type 1} → statement M
 check-noting-spec =

@@ -1,7 +1,6 @@
 -- As schedule_rerequest answers: `evicts-too-many`, `evicts`; and where there is no room the region stays (`full-stays`).
 use Prim.Native.Nat.{ℕ}
 use mathlib.Core.Path.{_≡_, refl}
-use mathlib.Core.List.{List}
 use native.Mathlib.Nat.{lt-irrefl}
 use native.Mathlib.Omega.{arith}
 use borrow.Author.Needs.{needs}
@@ -27,7 +26,8 @@ module _ (c : tie.After-schedule-rerequest) where
   ids-bytes = λ i. omega (arith, ids-known .shared-slice-known .given i)
 
 schedule-rerequest-requires : tie.Need-schedule-rerequest-requires
-schedule-rerequest-requires c κs = let s : tie.Start = search in
+schedule-rerequest-requires c κs =
+    let s : tie.Start = search in
     ((s .pre .1 .0, (s .pre .1 .1, (s .pre .0 .few, omega (arith, s .pre .0 .size)))), s .pre .0 .order)
 
 enum-told : tie.Need-enum-told
@@ -43,13 +43,13 @@ same-length : tie.Need-same-length
 same-length c = search needs
 
 returns : tie.Need-returns
-returns c = let m : tie.After-schedule-rerequest = search in
+returns c =
+    let m : tie.After-schedule-rerequest = search in
     let s = start m in
     let a = s .args in
     let said = m .schedule-rerequest in (
       λ st call stored peers view out g downloaded.
-          evicts-too-many (a .head) (a .call) (a .region .now) (a .ids .now) stored peers view st call g downloaded (a .at) (a .batch) (a .call .clock) (s .pre .0)
-          (region-bytes m) (ids-bytes m) (said .last .0) out (said .result) (said .ensures .0) (c .enum-told .given .1),
+          evicts-too-many g downloaded (s .pre .0) (region-bytes m) (ids-bytes m) (said .ensures .0) (c .enum-told .given .1),
       λ t. full-stays _ _ _ _ (a .region .now) (said .last .0) (said .ensures .0) (c .enum-told .given .1) (said .ensures .1),
     )
 
@@ -57,14 +57,13 @@ same-length-2 : tie.Need-same-length-2
 same-length-2 c = search needs
 
 returns-2 : tie.Need-returns-2
-returns-2 c = let m : tie.After-schedule-rerequest = search in
+returns-2 c =
+    let m : tie.After-schedule-rerequest = search in
     let stays : tie.After-stay = search in
     let s = start m in
-    let a = s .args in
     let said = m .schedule-rerequest in (
       λ st call stored peers view out g downloaded.
-          evicts (a .head) (a .call) (a .region .now) (a .ids .now) stored peers view st call g downloaded (a .at) (a .batch) (a .call .clock) (s .pre .0)
-          (region-bytes m) (ids-bytes m) (said .last .0) out (said .result) (said .ensures .0) _ _ (stays .stay .given .1) refl (said .ensures .1),
+          evicts g downloaded (s .pre .0) (region-bytes m) (ids-bytes m) (said .ensures .0) (stays .stay .given .1) refl (said .ensures .1),
       λ f. let z : _≡_ {A = ℕ} 0 1 = cc in absurd (lt-irrefl 0 (omega arith)),
     )
 

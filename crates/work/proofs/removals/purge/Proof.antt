@@ -7,18 +7,18 @@ use Rattle.work.proofs.removals.purge.Statement.{statement}
 use Rattle.work.proofs.removals.purge.Tie as tie
 
 purge-all-requires : tie.Need-purge-all-requires
-purge-all-requires c κs = let s = c .before .before in omega (arith, s .pre .few, s .pre .size)
+purge-all-requires c κs = let s : tie.Start = search in omega (arith, s .pre .few, s .pre .size)
 
 same-length : tie.Need-same-length
 same-length c = search needs
 
 returns : tie.Need-returns
-returns c = let s = c .before .before .before .before .before in
-    let a = s .args in
-    let m = c .before .before .purge-all in
+returns c =
+    let s : tie.Start = search in
+    let region : tie.After-slice-known = search in
+    let purged : tie.After-purge-all = search in
     λ st call ids stored peers view out g downloaded.
-    takes-all (a .head) (a .call) (a .region .now) ids stored peers view st call g downloaded (a .at) (a .batch) (a .call .clock) (s .pre)
-    (λ i. omega (arith, c .before .before .before .before .slice-known .given i)) 0 (m .last .0) out refl (m .ensures)
+    takes-all g downloaded (s .pre) (λ i. omega (arith, region .slice-known .given i)) refl (purged .purge-all .ensures)
 
 pub purge-spec : {M : Type 1} → statement M
 purge-spec = tie.close (tie.spec purge-all-requires same-length returns)

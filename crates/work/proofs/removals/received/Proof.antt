@@ -6,18 +6,22 @@ use Rattle.work.proofs.removals.received.Statement.{statement}
 use Rattle.work.proofs.removals.received.Tie as tie
 
 mark-received-requires : tie.Need-mark-received-requires
-mark-received-requires c κs = let s = c .before .before .before in ((s .pre .1 .0, (omega (arith, s .pre .0 .few), omega (arith, s .pre .0 .few, s .pre .0 .size))), s .pre .0 .order)
+mark-received-requires c κs =
+    let s : tie.Start = search in
+    let t = s .pre .0 in
+    ((s .pre .1 .0, (omega (arith, t .few), omega (arith, t .few, t .size))), t .order)
 
 same-length : tie.Need-same-length
 same-length c = search needs
 
 returns : tie.Need-returns
-returns c = let s = c .before .before .before .before .before .before in
-    let a = s .args in
-    let m = c .before .before .mark-received in
+returns c =
+    let s : tie.Start = search in
+    let region : tie.After-slice-known = search in
+    let marked : tie.After-mark-received = search in
+    let made = marked .mark-received .ensures in
     λ st call stored peers view out g downloaded.
-    takes-received (a .head) (a .call) (a .region .now) (a .ids .now) stored peers view st call g downloaded (a .at) (a .batch) (a .call .clock) (s .pre .0)
-    (λ i. omega (arith, c .before .before .before .before .before .slice-known .given i)) (m .result) (m .last .0) out (m .ensures .0) (m .ensures .1)
+    takes-received g downloaded (s .pre .0) (λ i. omega (arith, region .slice-known .given i)) (made .0) (made .1)
 
 pub received-spec : {M : Type 1} → statement M
 received-spec = tie.close (tie.spec mark-received-requires same-length returns)

@@ -16,7 +16,10 @@ returns : tie.Need-returns
 returns c = search needs
 
 returns-2 : tie.Need-returns-2
-returns-2 c = ap (λ (x : Requested). answeredAs x (c .before .before .before .args .before)) (sym (c .before .asked .given .1))
+returns-2 c =
+    let s : tie.Start = search in
+    let done : tie.After-asked = search in
+    ap (λ (x : Requested). answeredAs x (s .args .before)) (sym (done .asked .given .1))
 
 pub answer-spec : {M : Type 1} → statement M
 answer-spec = tie.close (tie.spec enum-told enum-known-asked returns returns-2)

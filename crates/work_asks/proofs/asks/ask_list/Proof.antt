@@ -8,7 +8,11 @@ slice-aggregate-ask-list-with : tie.Need-slice-aggregate-ask-list-with
 slice-aggregate-ask-list-with c = search needs
 
 ask-list-with-requires : tie.Need-ask-list-with-requires
-ask-list-with-requires c κs = let s = c .before .before .before .before .before .before .before .before in ((s .pre .0 .0, (s .pre .0 .1 .0, (omega (arith, c .before .before .before .if1 .taken), s .pre .0 .1 .1))), s .pre .1)
+ask-list-with-requires c κs =
+    let s : tie.Start = search in
+    let few : tie.Then1 = search in
+    let list = s .pre .0 in
+    ((list .0, (list .1 .0, (omega (arith, few .if1 .taken), list .1 .1))), s .pre .1)
 
 same-length : tie.Need-same-length
 same-length c = search needs
@@ -23,7 +27,10 @@ slice-aggregate-ask-list-with-2 : tie.Need-slice-aggregate-ask-list-with-2
 slice-aggregate-ask-list-with-2 c = search needs
 
 ask-list-with-requires-2 : tie.Need-ask-list-with-requires-2
-ask-list-with-requires-2 c κs = let s = c .before .before .before .before .before .before .before .before in ((s .pre .0 .0, (s .pre .0 .1 .0, (omega (arith, s .pre .0 .1 .0), s .pre .0 .1 .1))), s .pre .1)
+ask-list-with-requires-2 c κs =
+    let s : tie.Start = search in
+    let list = s .pre .0 in
+    ((list .0, (list .1 .0, (omega (arith, list .1 .0), list .1 .1))), s .pre .1)
 
 same-length-3 : tie.Need-same-length-3
 same-length-3 c = search needs

@@ -1,13 +1,9 @@
 -- One list is one act: `list-asked`; where there is no room for it, all stays: `list-full`.
-use Prim.Native.Nat.{ℕ, _-_}
-use mathlib.Core.List.{List}
 use native.Mathlib.Omega.{arith}
 use lib.Dec.{eqb}
 use borrow.Author.Needs.{needs}
-use Rattle.model.specs.Protocol.{trackedLimit}
-use Rattle.model.specs.Requests.{Act, ask, perform}
+use Rattle.model.specs.Requests.{Act, ask}
 use Rattle.model.specs.Lists.{idsIn, pairsIn}
-use Rattle.commands.specs.Pending.{requestsIn}
 use Rattle.work_asks.proofs.AskedLaws.{list-asked, list-full}
 use Rattle.work_asks.proofs.asks.ask_list_with.Statement.{statement}
 use Rattle.work_asks.proofs.asks.ask_list_with.Tie as tie
@@ -16,10 +12,12 @@ sub-request-announced : tie.Need-sub-request-announced
 sub-request-announced c = search needs
 
 request-announced-requires : tie.Need-request-announced-requires
-request-announced-requires c κs = let s : tie.Start = search in (
-  (s .pre .0 .0, (s .pre .0 .1 .0, (omega (arith, s .pre .0), (omega arith, omega (arith, s .pre .0))))),
-  (s .pre .1 .0, (s .pre .1 .1 .0, (s .pre .0 .1 .1 .0, s .pre .1 .1 .1))),
-)
+request-announced-requires c κs =
+    let s : tie.Start = search in
+    let list = s .pre .0 in (
+      (list .0, (list .1 .0, (omega (arith, list), (omega arith, omega (arith, list))))),
+      (s .pre .1 .0, (s .pre .1 .1 .0, (list .1 .1 .0, s .pre .1 .1 .1))),
+    )
 
 answer-requires : tie.Need-answer-requires
 answer-requires c κs = search needs
@@ -34,17 +32,15 @@ same-length-3 : tie.Need-same-length-3
 same-length-3 c = search needs
 
 returns : tie.Need-returns
-returns c = let s : tie.Start = search in
-    let m : tie.After-request-announced = search in
+returns c =
+    let s : tie.Start = search in
+    let asked : tie.After-request-announced = search in
     let a = s .args in
-    let said = m .request-announced in
+    let act : Act = ask (a .typeid) (a .peer) (pairsIn (a .stored .now)) (idsIn (a .ids .now)) in
     let gate = eqb (a .call .gate) 1 in
-    let act : Act = ask (a .typeid) (a .peer) (pairsIn (a .stored .now)) (idsIn (a .ids .now)) in (
-      list-asked gate (a .call .clock) act (a .before) (a .region .now) (a .out .now) (said .result) (c .answer .result) _ _
-          (said .ensures .0) (c .answer .ensures) (said .ensures .1 .0) (said .ensures .1 .1),
-      list-full (trackedLimit - a .before .evicted) (a .before .at) (a .before .batch) (a .before .pending)
-          (perform gate (a .call .clock) act (requestsIn (a .before .pending) (a .region .now))) (a .before)
-          (said .ensures .0) (c .answer .ensures) (said .ensures .1 .0) (said .ensures .1 .1),
+    let made = asked .request-announced .ensures in (
+      list-asked gate (a .call .clock) act (a .before) (a .region .now) (a .out .now) (made .0) (c .answer .ensures) (made .1 .0) (made .1 .1),
+      list-full gate (a .call .clock) act (a .before) (a .region .now) (a .out .now) (made .0) (c .answer .ensures) (made .1 .0) (made .1 .1),
     )
 
 pub ask-list-with-spec : {M : Type 1} → statement M

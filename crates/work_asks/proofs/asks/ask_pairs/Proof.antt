@@ -11,10 +11,12 @@ sub-request-by-type : tie.Need-sub-request-by-type
 sub-request-by-type c = search needs
 
 request-by-type-requires : tie.Need-request-by-type-requires
-request-by-type-requires c κs = let s = c .before .before .before .before .before .before .before .before in (
-  (s .pre .0 .0, (s .pre .0 .1 .0, (omega (arith, s .pre .0), (omega arith, omega (arith, s .pre .0))))),
-  (s .pre .1 .0, (s .pre .1 .1 .0, s .pre .1 .1 .1)),
-)
+request-by-type-requires c κs =
+    let s : tie.Start = search in
+    let list = s .pre .0 in (
+      (list .0, (list .1 .0, (omega (arith, list), (omega arith, omega (arith, list))))),
+      (s .pre .1 .0, (s .pre .1 .1 .0, s .pre .1 .1 .1)),
+    )
 
 answer-requires : tie.Need-answer-requires
 answer-requires c κs = search needs
@@ -26,9 +28,15 @@ same-length-2 : tie.Need-same-length-2
 same-length-2 c = search needs
 
 returns : tie.Need-returns
-returns c = let a = c .before .before .before .before .before .before .before .before .before .before .before .before .before .before .args in
-    let m = c .before .before .before .before .before .request-by-type in
-    record { answered = c .answer .ensures ∙ ap (λ (x : Requested). answeredAs x (a .before)) (m .ensures .0); left = m .ensures .1 .0; written = m .ensures .1 .1 }
+returns c =
+    let s : tie.Start = search in
+    let asked : tie.After-request-by-type = search in
+    let made = asked .request-by-type .ensures in
+    record {
+      answered = c .answer .ensures ∙ ap (λ (x : Requested). answeredAs x (s .args .before)) (made .0);
+      left = made .1 .0;
+      written = made .1 .1;
+    }
 
 pub ask-pairs-spec : {M : Type 1} → statement M
 ask-pairs-spec =

@@ -12,19 +12,39 @@ enum-told : tie.Need-enum-told
 enum-told c = search needs
 
 returns : tie.Need-returns
-returns c = let s = c .before .before .before .before in let a = s .args in nobody-told (a .announces) (a .continuation .now) (a .out .now) (c .enum-told .given .1)
+returns c =
+    let s : tie.Start = search in
+    let a = s .args in
+    nobody-told (a .announces) (a .continuation .now) (a .out .now) (c .enum-told .given .1)
 
 returns-2 : tie.Need-returns-2
-returns-2 c = let s = c .before .before .before .before .before .before in let a = s .args in nothing-told (a .announces) (a .continuation .now) (a .out .now) (c .before .before .announces .given .0 .0) (c .before .before .announces .given .1) (omega (arith, c .if1 .taken))
+returns-2 c =
+    let s : tie.Start = search in
+    let a = s .args in
+    let peer : tie.After-announces = search in
+    let listed = peer .announces .given in
+    nothing-told (a .announces) (a .continuation .now) (a .out .now) (listed .0 .0) (listed .1) (omega (arith, c .if1 .taken))
 
 put-command-requires : tie.Need-put-command-requires
-put-command-requires c κs = let s = c .before .before .before .before .before .before .before in let w = continuation-whole (s .args .continuation .now) (s .pre .0) in (w .0, (omega (arith, w .1), omega (arith, w .1, s .pre .1)))
+put-command-requires c κs =
+    let s : tie.Start = search in
+    let whole = continuation-whole (s .args .continuation .now) (s .pre .0) in
+    (whole .0, (omega (arith, whole .1), omega (arith, whole .1, s .pre .1)))
 
 same-length : tie.Need-same-length
 same-length c = search needs
 
 returns-3 : tie.Need-returns-3
-returns-3 c = let s = c .before .before .before .before .before .before .before .before .before .before in let a = s .args in let m = c .before .before .put-command in told (a .announces) (a .continuation .now) (a .out .now) (c .before .before .before .before .before .before .announces .given .0 .0) (m .last .0) (m .result) (c .before .before .before .before .before .before .announces .given .1) (s .pre .0) (omega (arith, c .before .before .before .before .if1 .left)) (m .ensures .0) (m .ensures .1)
+returns-3 c =
+    let s : tie.Start = search in
+    let a = s .args in
+    let peer : tie.After-announces = search in
+    let some-ids : tie.Else1 = search in
+    let put : tie.After-put-command = search in
+    let listed = peer .announces .given in
+    let m = put .put-command in
+    told (a .announces) (a .continuation .now) (a .out .now) (listed .0 .0) (m .last .0) (m .result) (listed .1) (s .pre .0)
+    (omega (arith, some-ids .if1 .left)) (m .ensures .0) (m .ensures .1)
 
 pub announce-spec : {M : Type 1} → statement M
 announce-spec =

@@ -1,22 +1,39 @@
 -- The work behind the announcement: `carries`; with nothing announced, what the work left alone is as it was: `nothing-before`.
-use Prim.Native.Nat.{ℕ}
-use mathlib.Core.Path.{_≡_, ap, _∙_}
+use mathlib.Core.Path.{_≡_, _∙_}
+use lib.ListN.{length}
 use native.Mathlib.Omega.{arith}
 use Rattle.work_asks.proofs.SentLaws.{carries, nothing-before}
 use Rattle.work_asks.proofs.carry.carry_out.Statement.{statement}
 use Rattle.work_asks.proofs.carry.carry_out.Tie as tie
 
+-- ---- the work, with the commands' length kept
+
+module _ (c : tie.After-perform) where
+  abbrev first : tie.After-announce
+  first = search
+
+  abbrev start : tie.Start
+  start = search
+
+  out-kept : length (c .perform .last .1 .1 .1 .1 .1 .1 .1 .1 .1 .0) ≡ length (first .announce .last .0)
+  out-kept = c .perform .kept .1 .1 .1 .1 .1 .1 .1 .1 .1 .0
+
+-- ---- the needs
+
 announce-requires : tie.Need-announce-requires
 announce-requires c κs = let s : tie.Start = search in (s .pre .1 .0 .1 .1, s .pre .1 .1 .1 .1)
 
 perform-requires : tie.Need-perform-requires
-perform-requires c κs = let s : tie.Start = search in
+perform-requires c κs =
+    let s : tie.Start = search in
     let first : tie.After-announce = search in
-    let m = first .announce in (
+    let lists = s .pre .1 .0 in
+    let rest = s .pre .1 .1 in
+    let said = first .announce .ensures .1 .1 in (
       s .pre .0,
       (
-        (s .pre .1 .0 .0, s .pre .1 .0 .1 .0),
-        ((s .pre .1 .1 .0, s .pre .1 .1 .1 .0), (omega (arith, m .ensures .1 .1 .0, s .pre .1 .1 .1 .1, m .kept .0), omega (arith, m .ensures .1 .1 .1))),
+        (lists .0, lists .1 .0),
+        ((rest .0, rest .1 .0), (omega (arith, said .0, rest .1 .1, first .announce .kept .0), omega (arith, said .1))),
       ),
     )
 
@@ -24,23 +41,20 @@ same-length : tie.Need-same-length
 same-length c = let did : tie.After-perform = search in did .perform .kept .0
 
 same-length-2 : tie.Need-same-length-2
-same-length-2 c = let first : tie.After-announce = search in
-    let did : tie.After-perform = search in
-    did .perform .kept .1 .1 .1 .1 .1 .1 .1 .1 .1 .0 ∙ first .announce .kept .0
+same-length-2 c = let did : tie.After-perform = search in out-kept did ∙ first did .announce .kept .0
 
 returns : tie.Need-returns
-returns c = let s : tie.Start = search in
-    let first : tie.After-announce = search in
+returns c =
     let did : tie.After-perform = search in
+    let s = start did in
     let a = s .args in
-    let m = first .announce in
-    let q = did .perform in (
+    let said = first did .announce in
+    let done = did .perform .ensures in (
       λ st call g same.
-          carries st call (a .plan) (a .continuation .now) (a .out .now) (m .last .0) (q .last .1 .1 .1 .1 .1 .1 .1 .1 .1 .0) (q .last .0) (m .result .at) (m .result .batch) (q .result)
-          same (m .ensures) (s .pre .1 .1 .1 .1) (m .kept .0) (q .kept .1 .1 .1 .1 .1 .1 .1 .1 .1 .0) (q .ensures .0 st call g),
+          carries st call (a .plan) same (said .ensures) (s .pre .1 .1 .1 .1) (said .kept .0) (out-kept did) (done .0 st call g),
       λ nobody one full.
-          let left = q .ensures .1 one full in
-          (left .0, left .1 ∙ nothing-before (a .plan .announces) (a .continuation .now) (a .out .now) _ (m .ensures .0) nobody),
+          let left = done .1 one full in
+          (left .0, left .1 ∙ nothing-before (a .plan .announces) (a .continuation .now) (a .out .now) (said .ensures .0) nobody),
     )
 
 pub carry-out-spec : {M : Type 1} → statement M

@@ -1,5 +1,4 @@
 -- With no evicted ids a plain check (`given-plain`), else with room for 1,024.
-use mathlib.Core.Path.{_≡_}
 use Rattle.work_asks.proofs.PlainLaws.{given-plain}
 use borrow.Author.Needs.{needs}
 use native.Mathlib.Omega.{arith}
@@ -16,15 +15,19 @@ same-length-2 : tie.Need-same-length-2
 same-length-2 c = search needs
 
 returns : tie.Need-returns
-returns c = let a = c .before .before .before .before .before .before .before .before .before .before .before .before .before .args in
-    let none : a .head .evicted ≡ 0 = c .before .before .before .before .before .before .before .if1 .taken in
-    λ st call ids view g downloaded. rw (given-plain (a .head) (a .call) (a .region .now) ids (a .stored .now) (a .peers .now) view st call g none downloaded (a .peer)) (c .before .before .before .before .check .ensures st call ids (a .stored .now) view g downloaded)
+returns c =
+    let s : tie.Start = search in
+    let none : tie.Then1 = search in
+    let checked : tie.After-check = search in
+    let a = s .args in
+    λ st call ids view g downloaded.
+    rw (given-plain g (none .if1 .taken) downloaded (a .peer)) (checked .check .ensures st call ids (a .stored .now) view g downloaded)
 
 slice-aggregate-check-fresh-with : tie.Need-slice-aggregate-check-fresh-with
 slice-aggregate-check-fresh-with c = search needs
 
 check-fresh-with-requires : tie.Need-check-fresh-with-requires
-check-fresh-with-requires c κs = let s = c .before .before .before .before .before .before .before .before .before in (s .pre .0, ((s .pre .1 .0, omega arith), s .pre .1 .1))
+check-fresh-with-requires c κs = let s : tie.Start = search in (s .pre .0, ((s .pre .1 .0, omega arith), s .pre .1 .1))
 
 same-length-3 : tie.Need-same-length-3
 same-length-3 c = search needs

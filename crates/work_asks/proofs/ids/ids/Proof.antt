@@ -1,29 +1,47 @@
--- `asks-ids`.
+-- The listed ids are asked for behind no other: `ids-ask`, `asks-ids`.
 use borrow.Author.Needs.{needs}
 use native.Mathlib.Omega.{arith}
 use Prim.Native.Nat.{_<_, _^_}
-use mathlib.Core.Path.{_≡_, sym, ap, subst}
-use mathlib.Core.Bool.{true}
 use Rattle.fields.specs.Facts.{Bytes}
-use Rattle.fields.specs.Entries.{entries, rising}
-use Rattle.work.specs.declared.Counts.{Counts}
-use Rattle.work_asks.proofs.IdsLaws.{asks-ids}
+use Rattle.work_asks.proofs.EntryLaws.{Entered}
+use Rattle.work_asks.proofs.IdsLaws.{ids-ask, asks-ids}
 use Rattle.work_asks.proofs.ids.ids.Statement.{statement}
 use Rattle.work_asks.proofs.ids.ids.Tie as tie
-use Rattle.model.specs.Layout.{idSize, recordSize}
+
+-- ---- the entry
+
+module _ (c : tie.After-shared-slice-known) where
+  abbrev start : tie.Start
+  start = search
+
+  entered : let a = start .args in Entered (a .head) (a .call) (a .region .now) (a .at) (a .batch) (a .peer) (a .out .now)
+  entered =
+      let region : tie.After-slice-known = search in
+      record {
+        tracked = start .pre .0;
+        bytes = λ i. omega (arith, region .slice-known .given i);
+        clock = omega (arith, start .good .1 .1 .0);
+        asked = omega (arith, start .fits);
+        room = start .pre .1 .1 .1;
+      }
+
+  listed : Bytes (start .args .ids .now)
+  listed = λ i. omega (arith, c .shared-slice-known .given i)
+
+  type-fits : start .args .call .typeid < 2 ^ 8
+  type-fits = omega (arith, start .good .1 .1 .0)
+
+-- ---- the needs
 
 unasked-counts-requires : tie.Need-unasked-counts-requires
 unasked-counts-requires c κs = search needs
 
 ask-list-requires : tie.Need-ask-list-requires
-ask-list-requires c κs = let s = c .before .before .before .before .before .before .before in
-    let u = c .before .before .unasked-counts .ensures in (
-      (s .pre .1 .0 .0, (s .pre .1 .0 .1, (omega (arith, ap (λ (x : Counts). x .pending) u, ap (λ (x : Counts). x .evicted) u, s .pre .0 .few), omega (arith, s .pre .0 .size)))),
-      (
-        subst (λ (x : Counts). rising idSize (entries recordSize (x .pending) (s .args .region .now)) ≡ true) (sym u) (s .pre .0 .order),
-        (s .pre .1 .1 .0, (omega (arith, ap (λ (x : Counts). x .at) u, s .pre .1), omega (arith, ap (λ (x : Counts). x .batch) u, s .pre .1))),
-      ),
-    )
+ask-list-requires c κs =
+    let counted : tie.After-unasked-counts = search in
+    let entry : tie.After-shared-slice-known = search in
+    let s = start entry in
+    ids-ask (entered entry) (counted .unasked-counts .ensures) (s .args .ids .now) (s .args .stored .now) (s .pre .1 .0) (s .pre .1 .1 .0)
 
 same-length : tie.Need-same-length
 same-length c = search needs
@@ -32,18 +50,14 @@ same-length-2 : tie.Need-same-length-2
 same-length-2 c = search needs
 
 returns : tie.Need-returns
-returns c = let s = c .before .before .before .before .before .before .before .before .before .before .before .before in
-    let a = s .args in
-    let m = c .before .before .before .before .ask-list in
-    let u = c .before .before .before .before .before .before .before .unasked-counts in
-    let f : Bytes (a .region .now) = λ i. omega (arith, c .before .before .before .before .before .before .before .before .before .before .before .slice-known .given i) in
-    let fi : Bytes (a .ids .now) = λ i. omega (arith, c .before .before .before .before .before .before .before .before .before .before .shared-slice-known .given i) in
-    let k : a .call .clock < 2 ^ 64 = omega (arith, s .good .1 .1 .0) in
-    let ht : a .call .typeid < 2 ^ 8 = omega (arith, s .good .1 .1 .0) in
-    let hp : a .peer < 2 ^ 64 = omega (arith, s .fits) in (
+returns c =
+    let asked : tie.After-ask-list = search in
+    let counted : tie.After-unasked-counts = search in
+    let entry : tie.After-shared-slice-known = search in
+    let made = asked .ask-list .ensures in (
       λ st call peers view g downloaded.
-          asks-ids (a .head) (a .call) (a .region .now) (a .ids .now) (a .stored .now) peers view st call g (s .pre .0) f k (a .at) (a .batch) downloaded (a .peer) hp (a .out .now) (s .pre .1 .1 .1 .0) (m .result) (m .last .0) (m .last .1 .1 .1 .1 .1 .1 .1 .0) (u .result) ht fi (s .pre .1 .0 .1) (u .ensures) (m .ensures .0),
-      m .ensures .1,
+          asks-ids (entered entry) (counted .unasked-counts .ensures) (type-fits entry) (listed entry) (start entry .pre .1 .0 .1) (made .0) g downloaded,
+      made .1,
     )
 
 pub ids-spec : {M : Type 1} → statement M

@@ -8,7 +8,7 @@ slice-aggregate-lose-ask-with : tie.Need-slice-aggregate-lose-ask-with
 slice-aggregate-lose-ask-with c = search needs
 
 lose-ask-with-requires : tie.Need-lose-ask-with-requires
-lose-ask-with-requires c κs = let s = c .before .before .before .before .before .before in (s .pre .0, ((s .pre .1 .0, omega arith), s .pre .1 .1))
+lose-ask-with-requires c κs = let s : tie.Start = search in (s .pre .0, ((s .pre .1 .0, omega arith), s .pre .1 .1))
 
 same-length : tie.Need-same-length
 same-length c = search needs

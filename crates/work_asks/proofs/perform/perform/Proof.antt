@@ -73,13 +73,14 @@ check-fresh-requires : tie.Need-check-fresh-requires
 check-fresh-requires c κs = search needs
 
 returns : tie.Need-returns
-returns c = let s : tie.Start = search in
+returns c =
+    let s : tie.Start = search in
     let told : tie.After-enum-told = search in
     let did : tie.After-nothing = search in
     let a = s .args in (
       λ st call g. as-work st call (a .downloaded) (told .enum-told .given .1)
           (did .nothing .ensures st call (a .region .now) (a .ids .now) (a .stored .now) (a .peers .now) (a .view .now) (a .out .now) (a .call)
-          (rw (clock-given (a .head) (a .call) (a .region .now) (a .ids .now) (a .stored .now) (a .peers .now) (a .view .now) st call g) (s .pre .0)) g (a .downloaded)),
+          (rw (clock-given g) (s .pre .0)) g (a .downloaded)),
       several (told .enum-told .given .1) refl,
     )
 
@@ -90,7 +91,8 @@ same-length-2 : tie.Need-same-length-2
 same-length-2 c = search needs
 
 returns-2 : tie.Need-returns-2
-returns-2 c = let s : tie.Start = search in
+returns-2 c =
+    let s : tie.Start = search in
     let told : tie.After-work = search in
     let did : tie.After-ids = search in
     let a = s .args in (
@@ -106,7 +108,8 @@ same-length-4 : tie.Need-same-length-4
 same-length-4 c = search needs
 
 returns-3 : tie.Need-returns-3
-returns-3 c = let s : tie.Start = search in
+returns-3 c =
+    let s : tie.Start = search in
     let told : tie.After-work2 = search in
     let did : tie.After-sections = search in
     let a = s .args in (
@@ -119,7 +122,8 @@ same-length-5 : tie.Need-same-length-5
 same-length-5 c = search needs
 
 returns-4 : tie.Need-returns-4
-returns-4 c = let s : tie.Start = search in
+returns-4 c =
+    let s : tie.Start = search in
     let told : tie.After-enum-told2 = search in
     let did : tie.After-received = search in
     let a = s .args in (
@@ -132,7 +136,8 @@ same-length-6 : tie.Need-same-length-6
 same-length-6 c = search needs
 
 returns-5 : tie.Need-returns-5
-returns-5 c = let s : tie.Start = search in
+returns-5 c =
+    let s : tie.Start = search in
     let told : tie.After-enum-told3 = search in
     let did : tie.After-evicted = search in
     let a = s .args in (
@@ -145,7 +150,8 @@ same-length-7 : tie.Need-same-length-7
 same-length-7 c = search needs
 
 returns-6 : tie.Need-returns-6
-returns-6 c = let s : tie.Start = search in
+returns-6 c =
+    let s : tie.Start = search in
     let told : tie.After-enum-told4 = search in
     let did : tie.After-purge = search in
     let a = s .args in (
@@ -161,7 +167,8 @@ same-length-9 : tie.Need-same-length-9
 same-length-9 c = search needs
 
 returns-7 : tie.Need-returns-7
-returns-7 c = let s : tie.Start = search in
+returns-7 c =
+    let s : tie.Start = search in
     let told : tie.After-work3 = search in
     let did : tie.After-purge-sections = search in
     let a = s .args in (
@@ -174,7 +181,8 @@ same-length-10 : tie.Need-same-length-10
 same-length-10 c = search needs
 
 returns-8 : tie.Need-returns-8
-returns-8 c = let s : tie.Start = search in
+returns-8 c =
+    let s : tie.Start = search in
     let told : tie.After-enum-told5 = search in
     let did : tie.After-lose = search in
     let a = s .args in (
@@ -190,7 +198,8 @@ same-length-12 : tie.Need-same-length-12
 same-length-12 c = search needs
 
 returns-9 : tie.Need-returns-9
-returns-9 c = let s : tie.Start = search in
+returns-9 c =
+    let s : tie.Start = search in
     let told : tie.After-work4 = search in
     let did : tie.After-lose-ask = search in
     let a = s .args in (
@@ -206,7 +215,8 @@ same-length-14 : tie.Need-same-length-14
 same-length-14 c = search needs
 
 returns-10 : tie.Need-returns-10
-returns-10 c = let s : tie.Start = search in
+returns-10 c =
+    let s : tie.Start = search in
     let told : tie.After-enum-told6 = search in
     let did : tie.After-check = search in
     let a = s .args in (
@@ -222,7 +232,8 @@ same-length-16 : tie.Need-same-length-16
 same-length-16 c = search needs
 
 returns-11 : tie.Need-returns-11
-returns-11 c = let s : tie.Start = search in
+returns-11 c =
+    let s : tie.Start = search in
     let told : tie.After-work5 = search in
     let did : tie.After-check-fresh = search in
     let a = s .args in (

@@ -8,7 +8,7 @@ slice-aggregate-ask-missing : tie.Need-slice-aggregate-ask-missing
 slice-aggregate-ask-missing c = search needs
 
 ask-missing-requires : tie.Need-ask-missing-requires
-ask-missing-requires c κs = let s = c .before .before .before .before .before .before in (s .pre .0, (s .pre .1 .0, ((s .pre .1 .1 .0, omega arith), s .pre .1 .1 .1)))
+ask-missing-requires c κs = let s : tie.Start = search in (s .pre .0, (s .pre .1 .0, ((s .pre .1 .1 .0, omega arith), s .pre .1 .1 .1)))
 
 same-length : tie.Need-same-length
 same-length c = search needs
