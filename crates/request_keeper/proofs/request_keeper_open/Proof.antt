@@ -1,7 +1,6 @@
 -- By the length of the area, and what `open` ensures.
 use borrow.Author.Needs.{needs}
 use borrow.Author.Tests.{eq-eqb, ne-eqb}
-use lib.ListN.{length}
 use Rattle.settings.specs.Values.{settingsOf}
 use Rattle.request_keeper.proofs.EntryLaws.{opened-here, not-opened}
 use Rattle.request_keeper.proofs.request_keeper_open.Statement.{statement}
