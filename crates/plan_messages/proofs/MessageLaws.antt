@@ -43,7 +43,8 @@ module _ (st : State) (a : Args) (peer typeId : ℕ) where
   heard-none (id ∷ ids) l = absurd (lt-irrefl 0 (omega arith))
 
   pub some-announced : (bytes : List ℕ) → 0 < length bytes → length bytes % idSize ≡ 0
-      → steps.hearsAnnounced st a peer typeId (idsIn bytes) ≡ steps.continues st a (cond (isAnnounceable typeId) (ask typeId peer (a .stored) (idsIn bytes) ∷ []) [])
+      → steps.hearsAnnounced st a peer typeId (idsIn bytes)
+      ≡ steps.continues st a (cond (isAnnounceable typeId) (ask typeId peer (a .stored) (idsIn bytes) ∷ []) [])
   some-announced bytes l whole =
       let n : 0 < length bytes / idSize = omega arith in
       heard-some (idsIn bytes) (rw (length-ids bytes) n)
@@ -102,7 +103,8 @@ module _ (st : State) (c : Call) {bytes : List ℕ} {typeid : ℕ} (ids : c .ids
         ∙ ap (λ (t : Bool). steps.continues st (argsOf c) (cond t (ask (c .typeid) (c .peer) (pairsIn (c .stored)) (idsIn (c .ids)) ∷ []) [])) unserved)
 
   module _ (l : length bytes ≤ 0) where
-    empty : (t : Bool) → eqb (c .typeid) headerType ≡ t → cond t (steps.isAtTip st (argsOf c) [] (st .sync .knownTip)) (steps.continues st (argsOf c) []) ≡ heard
+    empty : (t : Bool) → eqb (c .typeid) headerType ≡ t
+        → cond t (steps.isAtTip st (argsOf c) [] (st .sync .knownTip)) (steps.continues st (argsOf c) []) ≡ heard
     empty t e =
         sym
         (none-announced st (argsOf c) (c .peer) (c .typeid) (c .ids) (rw ids l)

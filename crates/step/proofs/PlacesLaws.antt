@@ -71,13 +71,15 @@ module _ {held after places places′ : List ℕ} {count n m : ℕ} (peer : ℕ)
 -- ---- by what becomes of the set
 
 abbrev pub Stalls : Stalling → ℕ → List ℕ → List ℕ → Type 0
-Stalls stalling count places places′ = (peers : List ℕ) → length peers ≡ count → places ≡ placesOf peers → places′ ≡ placesOf (stalledThen stalling peers)
+Stalls stalling count places places′ =
+    (peers : List ℕ) → length peers ≡ count → places ≡ placesOf peers → places′ ≡ placesOf (stalledThen stalling peers)
 
 module _ {stalling : Stalling} {count : ℕ} {places : List ℕ} where
   pub stays : stalling ≡ Stay → Stalls stalling count places places
   stays e = λ peers l h. rw e h
 
-  pub empties : {held places′ : List ℕ} {n : ℕ} → stalling ≡ Empty → held ≡ [] → n ≡ 0 → Writes held n places′ → Stalls stalling count places places′
+  pub empties : {held places′ : List ℕ} {n : ℕ}
+      → stalling ≡ Empty → held ≡ [] → n ≡ 0 → Writes held n places′ → Stalls stalling count places places′
   empties {held} {places′} {n} e none few w = λ peers l h. rw e (places-written held [] places′ n w (ap (map (toBe 8)) none) few)
 
   pub joins : {places′ : List ℕ} {peer : ℕ} → stalling ≡ Join peer

@@ -86,7 +86,8 @@ module _ {area commands : List ℕ} {head : Head} {plan : Plan} {call : Call} {l
             ),
           )
 
-      pub carried : {answer : Performed} {region′ out′ : List ℕ} → CarrySays head plan call lent (midOf regionAt (length image - regionAt) image) out answer region′ out′
+      pub carried : {answer : Performed} {region′ out′ : List ℕ}
+          → CarrySays head plan call lent (midOf regionAt (length image - regionAt) image) out answer region′ out′
           → Performs 0 0 (workOf area call lent plan) out answer region′ out′
       carried says =
           let p = e .planned in
@@ -105,7 +106,8 @@ module _ {area commands : List ℕ} {head : Head} {plan : Plan} {call : Call} {l
         pub stalled-stops : {r : calls.Answer} → 256 < plan .head .stalled → r ≡ calls.refused 11 → StepsTo area commands call lent r area commands
         stalled-stops many r =
             let p = e .planned in
-            stops area commands (called call lent) 11 r (too-stalled area commands (called call lent) plan (p .given) (p .follows) (p .seen) counts (sym f ∙ d .answered) many)
+            stops area commands (called call lent) 11 r
+            (too-stalled area commands (called call lent) plan (p .given) (p .follows) (p .seen) counts (sym f ∙ d .answered) many)
 
         pub settle-asks : plan .head .stalled ≤ 256 → CountsFew plan counts (head .stalled)
         settle-asks few =
@@ -113,7 +115,8 @@ module _ {area commands : List ℕ} {head : Head} {plan : Plan} {call : Call} {l
             finish-ready area commands (called call lent) plan (p .given) (p .follows) (p .seen) counts (sym f ∙ d .answered) few (e .bytes) (e .width) head (p .read)
 
         -- on copies: an image that was the area, and room for commands
-        pub settled-on-copies : {image area′ commands′ : List ℕ} {r : calls.Answer} → image ≡ area → areaSize ≤ length out → plan .head .stalled ≤ 256
+        pub settled-on-copies : {image area′ commands′ : List ℕ} {r : calls.Answer}
+            → image ≡ area → areaSize ≤ length out → plan .head .stalled ≤ 256
             → ImageSettled plan counts (head .stalled) (putMid regionAt (length image - regionAt) image region) area′
             × (CopiedBack plan counts out′ commands commands′ × (r ≡ answered plan counts))
             → StepsTo area commands call lent r area′ commands′
@@ -124,7 +127,8 @@ module _ {area commands : List ℕ} {head : Head} {plan : Plan} {call : Call} {l
             let long-enough : regionAt ≤ length image = omega (arith, long p, ap length same) in
             finishes area commands (called call lent) plan (p .given) (p .follows) (p .seen) counts done few (e .bytes) (e .width) head (p .read)
             (putMid regionAt (length image - regionAt) image region) out out′ area′ commands′ r
-            (front-kept regionAt image region long-enough ∙ ap (take regionAt) same) (tail-put regionAt image region long-enough ∙ d .left full) enough (d .written full)
+            (front-kept regionAt image region long-enough ∙ ap (take regionAt) same)
+            (tail-put regionAt image region long-enough ∙ d .left full) enough (d .written full)
             (settled .0) (settled .1 .0) (settled .1 .1)
 
     -- on the areas themselves

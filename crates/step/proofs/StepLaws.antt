@@ -75,7 +75,8 @@ front-written a b whole out out₁ s s′ at w n room o e =
     let t : take (at + length b) (overwritten at b out₁) ≡ a ++ b = rw (q, k) (front-read-back (a ++ b) out) in
     e ∙ rw (t, k, w, zero-add (length (a ++ b)))
 
-same-answer : {o o′ r r′ n n′ b b′ t t′ q q′ v v′ l l′ : ℕ} → o ≡ o′ → r ≡ r′ → n ≡ n′ → b ≡ b′ → t ≡ t′ → q ≡ q′ → v ≡ v′ → l ≡ l′
+same-answer : {o o′ r r′ n n′ b b′ t t′ q q′ v v′ l l′ : ℕ}
+    → o ≡ o′ → r ≡ r′ → n ≡ n′ → b ≡ b′ → t ≡ t′ → q ≡ q′ → v ≡ v′ → l ≡ l′
     → _≡_ {A = calls.Answer} (record { number = 0; outcome = o; retried = r; fresh = n; abandoned = b; forgotten = t; pending = q; evicted = v; length = l })
     (record { number = 0; outcome = o′; retried = r′; fresh = n′; abandoned = b′; forgotten = t′; pending = q′; evicted = v′; length = l′ })
 same-answer a b c d e f g h = rw (a, b, c, d, e, f, g, h)
