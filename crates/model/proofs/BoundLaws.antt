@@ -22,9 +22,12 @@ use Rattle.model.specs.Requests.{Pair, Sending, Act, ask, send, syncInfo
 use Rattle.model.specs.Requests as requests
 use Rattle.model.specs.Sections.{View, Item, Batch, batchesOf, windowWithin, requestSectionsFrom, requestNextSections}
 use Rattle.model.specs.Check.{retryOf, retries, markAllRetried, retrySendings, askFresh}
-use Rattle.model.specs.Events.{Outcome, Continue, Synced, BehindPeer, SyncPeerGone, Stalled, EndOfStream, tipOutcome, raisedTip, notAbove, announce, continuation}
+use Rattle.model.specs.Events.{Outcome, Continue, Synced, BehindPeer, SyncPeerGone, Stalled, EndOfStream, tipOutcome, raisedTip, notAbove, announce}
+use Rattle.model.specs.Events.{continuation}
 use Rattle.model.specs.Steps
-use Rattle.model.specs.Steps.{Step, Args, isCheck, sayTo, advanceFrom, sectionsFrom, continues, leaves, advances, advancesAndRequests, entersSyncing, picks, isAtTip, answers, hearsSyncInfo, hearsAnnounced, askOrphans, loses, ticksSyncing, ticksSynced, progresses, checks, evicts, planOf, plan, remaining, retried, performed, after, commands}
+use Rattle.model.specs.Steps.{Step, Args, isCheck, sayTo, advanceFrom, sectionsFrom, continues, leaves, advances, advancesAndRequests, entersSyncing}
+use Rattle.model.specs.Steps.{picks, isAtTip, answers, hearsSyncInfo, hearsAnnounced, askOrphans, loses, ticksSyncing, ticksSynced, progresses, checks}
+use Rattle.model.specs.Steps.{evicts, planOf, plan, remaining, retried, performed, after, commands}
 use Rattle.model.specs.Commands.{commandsIn}
 use Rattle.model.specs.Calls.{Call, argsOf, stepBytes, callRefusal}
 use Rattle.model.specs.Demand3.{InWidth}
@@ -35,7 +38,8 @@ use Rattle.model.proofs.SectionLaws.{window-few}
 use Rattle.model.proofs.PlanLaws.{WellPlan, plan-well}
 use Rattle.model.proofs.StepLaws.{retried-items-well, args-well, of-mode}
 use Rattle.model.proofs.CommandLaws.{commands-read-back}
-use Rattle.model.proofs.SendingLaws.{weight, actWeight, performed-sends-well, retries-sent-well, commands-well, sendings-bytes, performed-weight, performed-count, batches-weight, retries-weight, retries-count}
+use Rattle.model.proofs.SendingLaws.{weight, actWeight, performed-sends-well, retries-sent-well, commands-well, sendings-bytes, performed-weight}
+use Rattle.model.proofs.SendingLaws.{performed-count, batches-weight, retries-weight, retries-count}
 use Rattle.model.specs.Layout.{mostBytes}
 
 -- ---- the plans

@@ -18,7 +18,9 @@ use Rattle.model.specs.Peers.{firstOf, selectPeer, sendSyncInfo, resetSe
 use Rattle.model.specs.Requests.{Act}
 use Rattle.model.specs.Events.{Outcome, Continue, Synced, BehindPeer, SyncPeerGone, Stalled, EndOfStream, tipOutcome, raisedTip, continuation}
 use Rattle.model.specs.Steps
-use Rattle.model.specs.Steps.{Step, Args, Plan, unmarked, withoutPeer, sent, continues, leaves, advances, advancesAndRequests, entersSyncing, picks, isAtTip, answers, hearsSyncInfo, hearsAnnounced, askOrphans, loses, ticksSyncing, ticksSynced, progresses, checks, evicts, planOf, plan, after, commands}
+use Rattle.model.specs.Steps.{Step, Args, Plan, unmarked, withoutPeer, sent, continues, leaves, advances, advancesAndRequests, entersSyncing, picks}
+use Rattle.model.specs.Steps.{isAtTip, answers, hearsSyncInfo, hearsAnnounced, askOrphans, loses, ticksSyncing, ticksSynced, progresses, checks, evicts}
+use Rattle.model.specs.Steps.{planOf, plan, after, commands}
 use Rattle.model.specs.Image.{decode, encode}
 use Rattle.model.specs.Commands.{commandsIn}
 use Rattle.model.specs.Calls.{Call, refused, argsOf, stepBytes, stepAnswer, stepRefusal, step}

@@ -19,15 +19,21 @@ use Rattle.model.specs.Peers.{firstOf, selectPeer, stalledAfterSelect, j
 use Rattle.model.specs.Requests.{Act, ask, syncInfoTo}
 use Rattle.model.specs.Sections.{Advance, Item, Batch, batchesOf}
 use Rattle.model.specs.Check.{askFresh}
-use Rattle.model.specs.Events.{Outcome, Continue, Synced, BehindPeer, SyncPeerGone, Stalled, EndOfStream, tipOutcome, raisedTip, notAbove, announce, continuation}
+use Rattle.model.specs.Events.{Outcome, Continue, Synced, BehindPeer, SyncPeerGone, Stalled, EndOfStream, tipOutcome, raisedTip, notAbove, announce}
+use Rattle.model.specs.Events.{continuation}
 use Rattle.model.specs.Steps
-use Rattle.model.specs.Steps.{Step, Args, Plan, ofMode, unmarked, withoutPeer, sent, sayTo, advanceFrom, sectionsFrom, continues, leaves, advances, advancesAndRequests, entersSyncing, picks, isAtTip, answers, hearsSyncInfo, hearsAnnounced, askOrphans, loses, ticksSyncing, ticksSynced, progresses, checks, evicts, planOf, plan}
+use Rattle.model.specs.Steps.{Step, Args, Plan, ofMode, unmarked, withoutPeer, sent, sayTo, advanceFrom, sectionsFrom, continues, leaves, advances}
+use Rattle.model.specs.Steps.{advancesAndRequests, entersSyncing, picks, isAtTip, answers, hearsSyncInfo, hearsAnnounced, askOrphans, loses}
+use Rattle.model.specs.Steps.{ticksSyncing, ticksSynced, progresses, checks, evicts, planOf, plan}
 use Rattle.model.proofs.Well.{WellId, WellRequest, WellSync}
 use Rattle.model.proofs.Widths.{IfSome, WellPeer, WellHeight, WellItem, WellList, WellBatch, WellAct, WellStep, WellArgs}
 use Rattle.model.proofs.BatchLaws.{batches-well}
 use Rattle.model.proofs.SectionLaws.{sections-well, advance-well}
-use Rattle.model.proofs.PeerLaws.{WellSendClock, send-well, reset-well, say-well, first-well, select-well, WellStalled, none-stalled, selected-well, joined-well}
-use Rattle.model.proofs.SyncLaws.{later-sync, send-clock-of, stalled-of, with-downloaded, with-last-progress, with-send-clock, with-known-tip, with-stalled-peers, with-evicted, as-syncing, as-synced, without-sync-peer, without-entry, without-entry-alone, new-alone, seeking-alone}
+use Rattle.model.proofs.PeerLaws.{WellSendClock, send-well, reset-well, say-well, first-well, select-well, WellStalled, none-stalled, selected-well}
+use Rattle.model.proofs.PeerLaws.{joined-well}
+use Rattle.model.proofs.SyncLaws.{later-sync, send-clock-of, stalled-of, with-downloaded, with-last-progress, with-send-clock, with-known-tip}
+use Rattle.model.proofs.SyncLaws.{with-stalled-peers, with-evicted, as-syncing, as-synced, without-sync-peer, without-entry, without-entry-alone}
+use Rattle.model.proofs.SyncLaws.{new-alone, seeking-alone}
 
 pub record WellPlan (clock : ℕ) (p : Plan) : Type 0 where
   pub acts : All WellAct (p .acts)

@@ -13,11 +13,39 @@ use Rattle.model.proofs.Well.{WellId, WellSync}
 use Rattle.model.proofs.Widths.{WellPeer, WellHeight}
 use Rattle.model.proofs.PeerLaws.{WellSendClock, WellStalled}
 
-pub later-sync : (mode : Mode) (old clock : ℕ) (s : Sync) → old ≤ clock → WellSync mode old s → WellSync mode clock s
-later-sync mode old clock s later w =
-    let p = w .lastProgress in
-    let l = w .lastSend in
-    record { syncPeer = w .syncPeer; noPeer = w .noPeer; downloaded = w .downloaded; lastProgress = omega arith; lastSend = omega arith; sends = w .sends; knownTip = w .knownTip; stalledPeers = w .stalledPeers; stalledOnce = w .stalledOnce; stalledFew = w .stalledFew; evicted = w .evicted; progressUsed = w .progressUsed; entrySent = w .entrySent }
+-- The sync peer and its marks, as the mode has them.
+record Peering (mode : Mode) (peer : ℕ) (used sent : Bool) : Type 0 where
+  wide : WellPeer peer
+  alone : hasSyncPeer mode ≡ false → peer ≡ 0
+  unused : isMode mode syncing ≡ false → used ≡ false
+  unsent : isMode mode syncing ≡ false → sent ≡ false
+
+-- The invariant from its parts.
+put-together : {mode : Mode} {clock : ℕ} {s : Sync}
+    → Peering mode (s .syncPeer) (s .progressUsed) (s .entrySent)
+    → WellHeight (s .downloaded)
+    → s .lastProgress ≤ clock
+    → WellSendClock clock (s .sendClock)
+    → WellHeight (s .knownTip)
+    → WellStalled (s .stalledPeers)
+    → All WellId (s .evicted)
+    → WellSync mode clock s
+put-together peering downloaded progress sends tip stalled evicted =
+    record {
+      syncPeer = peering .wide;
+      noPeer = peering .alone;
+      downloaded = downloaded;
+      lastProgress = progress;
+      lastSend = sends .lastSend;
+      sends = sends .sends;
+      knownTip = tip;
+      stalledPeers = stalled .all;
+      stalledOnce = stalled .once;
+      stalledFew = stalled .few;
+      evicted = evicted;
+      progressUsed = peering .unused;
+      entrySent = peering .unsent;
+    }
 
 module _ {mode : Mode} {clock : ℕ} {s : Sync} (w : WellSync mode clock s) where
   pub send-clock-of : WellSendClock clock (s .sendClock)
@@ -26,38 +54,40 @@ module _ {mode : Mode} {clock : ℕ} {s : Sync} (w : WellSync mode clock s) wher
   pub stalled-of : WellStalled (s .stalledPeers)
   stalled-of = record { all = w .stalledPeers; once = w .stalledOnce; few = w .stalledFew }
 
+  peering-of : Peering mode (s .syncPeer) (s .progressUsed) (s .entrySent)
+  peering-of = record { wide = w .syncPeer; alone = w .noPeer; unused = w .progressUsed; unsent = w .entrySent }
+
   pub with-downloaded : (height : ℕ) → WellHeight height → WellSync mode clock (withDownloaded s height)
-  with-downloaded height h =
-      record { syncPeer = w .syncPeer; noPeer = w .noPeer; downloaded = h; lastProgress = w .lastProgress; lastSend = w .lastSend; sends = w .sends; knownTip = w .knownTip; stalledPeers = w .stalledPeers; stalledOnce = w .stalledOnce; stalledFew = w .stalledFew; evicted = w .evicted; progressUsed = w .progressUsed; entrySent = w .entrySent }
+  with-downloaded height h = put-together peering-of h (w .lastProgress) send-clock-of (w .knownTip) stalled-of (w .evicted)
 
   pub with-last-progress : (progress : ℕ) → progress ≤ clock → WellSync mode clock (withLastProgress s progress)
-  with-last-progress progress h =
-      record { syncPeer = w .syncPeer; noPeer = w .noPeer; downloaded = w .downloaded; lastProgress = h; lastSend = w .lastSend; sends = w .sends; knownTip = w .knownTip; stalledPeers = w .stalledPeers; stalledOnce = w .stalledOnce; stalledFew = w .stalledFew; evicted = w .evicted; progressUsed = w .progressUsed; entrySent = w .entrySent }
+  with-last-progress progress h = put-together peering-of (w .downloaded) h send-clock-of (w .knownTip) stalled-of (w .evicted)
 
   pub with-send-clock : (c : SendClock) → WellSendClock clock c → WellSync mode clock (withSendClock s c)
-  with-send-clock c h =
-      record { syncPeer = w .syncPeer; noPeer = w .noPeer; downloaded = w .downloaded; lastProgress = w .lastProgress; lastSend = h .lastSend; sends = h .sends; knownTip = w .knownTip; stalledPeers = w .stalledPeers; stalledOnce = w .stalledOnce; stalledFew = w .stalledFew; evicted = w .evicted; progressUsed = w .progressUsed; entrySent = w .entrySent }
+  with-send-clock c h = put-together peering-of (w .downloaded) (w .lastProgress) h (w .knownTip) stalled-of (w .evicted)
 
   pub with-known-tip : (tip : ℕ) → WellHeight tip → WellSync mode clock (withKnownTip s tip)
-  with-known-tip tip h =
-      record { syncPeer = w .syncPeer; noPeer = w .noPeer; downloaded = w .downloaded; lastProgress = w .lastProgress; lastSend = w .lastSend; sends = w .sends; knownTip = h; stalledPeers = w .stalledPeers; stalledOnce = w .stalledOnce; stalledFew = w .stalledFew; evicted = w .evicted; progressUsed = w .progressUsed; entrySent = w .entrySent }
+  with-known-tip tip h = put-together peering-of (w .downloaded) (w .lastProgress) send-clock-of h stalled-of (w .evicted)
 
   pub with-stalled-peers : (peers : List ℕ) → WellStalled peers → WellSync mode clock (withStalledPeers s peers)
-  with-stalled-peers peers h =
-      record { syncPeer = w .syncPeer; noPeer = w .noPeer; downloaded = w .downloaded; lastProgress = w .lastProgress; lastSend = w .lastSend; sends = w .sends; knownTip = w .knownTip; stalledPeers = h .all; stalledOnce = h .once; stalledFew = h .few; evicted = w .evicted; progressUsed = w .progressUsed; entrySent = w .entrySent }
+  with-stalled-peers peers h = put-together peering-of (w .downloaded) (w .lastProgress) send-clock-of (w .knownTip) h (w .evicted)
 
   pub with-evicted : (ids : List Id) → All WellId ids → WellSync mode clock (withEvicted s ids)
-  with-evicted ids h =
-      record { syncPeer = w .syncPeer; noPeer = w .noPeer; downloaded = w .downloaded; lastProgress = w .lastProgress; lastSend = w .lastSend; sends = w .sends; knownTip = w .knownTip; stalledPeers = w .stalledPeers; stalledOnce = w .stalledOnce; stalledFew = w .stalledFew; evicted = h; progressUsed = w .progressUsed; entrySent = w .entrySent }
+  with-evicted ids h = put-together peering-of (w .downloaded) (w .lastProgress) send-clock-of (w .knownTip) stalled-of h
 
   -- The mode changes with the sync peer and its marks alone.
-  with-sync-peer : (other : Mode) (peer : ℕ) (used sent : Bool) → WellPeer peer → (hasSyncPeer other ≡ false → peer ≡ 0) → (isMode other syncing ≡ false → used ≡ false) → (isMode other syncing ≡ false → sent ≡ false)
+  with-sync-peer : (other : Mode) (peer : ℕ) (used sent : Bool)
+      → WellPeer peer
+      → (hasSyncPeer other ≡ false → peer ≡ 0)
+      → (isMode other syncing ≡ false → used ≡ false)
+      → (isMode other syncing ≡ false → sent ≡ false)
       → WellSync other clock (withSyncPeer s peer used sent)
   with-sync-peer other peer used sent p alone u n =
-      record { syncPeer = p; noPeer = alone; downloaded = w .downloaded; lastProgress = w .lastProgress; lastSend = w .lastSend; sends = w .sends; knownTip = w .knownTip; stalledPeers = w .stalledPeers; stalledOnce = w .stalledOnce; stalledFew = w .stalledFew; evicted = w .evicted; progressUsed = u; entrySent = n }
+      put-together (record { wide = p; alone = alone; unused = u; unsent = n }) (w .downloaded) (w .lastProgress) send-clock-of (w .knownTip) stalled-of (w .evicted)
 
   pub as-syncing : (peer : ℕ) (used sent : Bool) → WellPeer peer → WellSync syncing clock (withSyncPeer s peer used sent)
-  as-syncing peer used sent p = with-sync-peer syncing peer used sent p (λ e. absurd (false≢true (sym e))) (λ e. absurd (false≢true (sym e))) (λ e. absurd (false≢true (sym e)))
+  as-syncing peer used sent p =
+      with-sync-peer syncing peer used sent p (λ e. absurd (false≢true (sym e))) (λ e. absurd (false≢true (sym e))) (λ e. absurd (false≢true (sym e)))
 
   pub as-synced : WellSync synced clock (withSyncPeer s (s .syncPeer) false false)
   as-synced = with-sync-peer synced (s .syncPeer) false false (w .syncPeer) (λ e. absurd (false≢true (sym e))) (λ e. refl) (λ e. refl)
@@ -73,6 +103,13 @@ module _ {mode : Mode} {clock : ℕ} {s : Sync} (w : WellSync mode clock s) wher
   without-entry-alone other e =
       let n = neither (isMode mode syncing) (isMode mode synced) e in
       with-sync-peer other (s .syncPeer) (s .progressUsed) false (w .syncPeer) (λ f. w .noPeer e) (λ f. w .progressUsed (n .0)) (λ f. refl)
+
+pub later-sync : (mode : Mode) (old clock : ℕ) (s : Sync) → old ≤ clock → WellSync mode old s → WellSync mode clock s
+later-sync mode old clock s later w =
+    let p = w .lastProgress in
+    let l = w .lastSend in
+    let sends : WellSendClock clock (s .sendClock) = record { lastSend = omega arith; sends = w .sends } in
+    put-together (peering-of w) (w .downloaded) (omega arith) sends (w .knownTip) (stalled-of w) (w .evicted)
 
 -- ---- modes without a sync peer
 

@@ -92,7 +92,8 @@ module _ (st : State) (c : Call) where
     follows-on r v q n = follows r v (q ∙ sym n) (λ y. absurd (false≢true (sym q ∙ y)))
 
     -- and that takes nothing out
-    follows-quietly : isQuiet (p .work) ≡ true → remaining st (argsOf c) s ≡ st .pending → Kept st (argsOf c) (planOf st (argsOf c) s) → isCheck s ≡ false → Follows st c p
+    follows-quietly :
+        isQuiet (p .work) ≡ true → remaining st (argsOf c) s ≡ st .pending → Kept st (argsOf c) (planOf st (argsOf c) s) → isCheck s ≡ false → Follows st c p
     follows-quietly q r v n =
         follows-on (quiet-remaining (p .work) q ∙ sym r) (quiet-evicted (p .work) q ∙ sym v) (quiet-check (p .work) q) n
 
@@ -109,7 +110,8 @@ module _ (st : State) (c : Call) where
     pick-follows e q k = follows-quietly p steps.pick (rw e) k q refl (picks-kept st (argsOf c) (selectPeer (st .sync .stalledPeers) (peersIn (c .peers)))) refl
 
     pub needed-follows : c .kind ≡ 3 → isQuiet (p .work) ≡ true
-        → sketchIn st c p ≡ sketchOf st c (steps.continues st (argsOf c) (ask (c .typeid) (st .sync .syncPeer) (pairsIn (c .stored)) (idsIn (c .ids)) ∷ [])) → Follows st c p
+        → sketchIn st c p ≡ sketchOf st c (steps.continues st (argsOf c) (ask (c .typeid) (st .sync .syncPeer) (pairsIn (c .stored)) (idsIn (c .ids)) ∷ []))
+        → Follows st c p
     unfolding stepOf planOf remaining argsOf steps.continues steps.unmarked
     needed-follows e q k = follows-quietly p (steps.neededModifier (c .typeid) (idsIn (c .ids))) (rw e) k q refl refl refl
 
@@ -117,15 +119,18 @@ module _ (st : State) (c : Call) where
         → sketchIn st c p ≡ sketchOf st c (steps.hearsAnnounced st (argsOf c) (c .peer) (c .typeid) (idsIn (c .ids))) → Follows st c p
     unfolding stepOf planOf remaining
     announced-follows e q k =
-        follows-quietly p (steps.announced (c .peer) (c .typeid) (idsIn (c .ids))) (rw e) k q refl (announced-kept st (argsOf c) (c .peer) (c .typeid) (idsIn (c .ids))) refl
+        follows-quietly p (steps.announced (c .peer) (c .typeid) (idsIn (c .ids))) (rw e) k q refl
+        (announced-kept st (argsOf c) (c .peer) (c .typeid) (idsIn (c .ids))) refl
 
     pub sync-info-follows : c .kind ≡ 6 → isQuiet (p .work) ≡ true
-        → sketchIn st c p ≡ sketchOf st c (steps.hearsSyncInfo st (argsOf c) (c .peer) (eqb (c .parsed) 1) (cond (eqb (c .hastip) 1) (some (c .tip)) none) (idsIn (c .continuation)))
+        → sketchIn st c p
+        ≡ sketchOf st c (steps.hearsSyncInfo st (argsOf c) (c .peer) (eqb (c .parsed) 1) (cond (eqb (c .hastip) 1) (some (c .tip)) none) (idsIn (c .continuation)))
         → Follows st c p
     unfolding stepOf planOf remaining
     sync-info-follows e q k =
         let tip : Option ℕ = cond (eqb (c .hastip) 1) (some (c .tip)) none in
-        follows-quietly p (steps.syncInfo (c .peer) (eqb (c .parsed) 1) tip (idsIn (c .continuation))) (rw e) k q refl (sync-info-kept st (argsOf c) (c .peer) (eqb (c .parsed) 1) tip (idsIn (c .continuation))) refl
+        follows-quietly p (steps.syncInfo (c .peer) (eqb (c .parsed) 1) tip (idsIn (c .continuation))) (rw e) k q refl
+        (sync-info-kept st (argsOf c) (c .peer) (eqb (c .parsed) 1) tip (idsIn (c .continuation))) refl
 
     pub other-follows : c .kind ≡ 7 → isQuiet (p .work) ≡ true → sketchIn st c p ≡ sketchOf st c (steps.continues st (argsOf c) []) → Follows st c p
     unfolding stepOf planOf remaining steps.continues steps.unmarked
@@ -138,12 +143,16 @@ module _ (st : State) (c : Call) where
 
     pub tick-follows : c .kind ≡ 13 → isQuiet (p .work) ≡ true
         → sketchIn st c p
-        ≡ sketchOf st c (cond (isMode (st .mode) syncing) (steps.ticksSyncing st (argsOf c) (settings.stalled (st .settings) (c .clock) (st .sync .lastProgress))) (steps.ticksSynced st (argsOf c) (firstOf (peersIn (c .peers)))))
+        ≡ sketchOf st c
+        (cond (isMode (st .mode) syncing)
+        (steps.ticksSyncing st (argsOf c) (settings.stalled (st .settings) (c .clock) (st .sync .lastProgress)))
+        (steps.ticksSynced st (argsOf c) (firstOf (peersIn (c .peers)))))
         → Follows st c p
     unfolding stepOf planOf remaining argsOf
     tick-follows e q k =
         follows-quietly p steps.scheduledTick (rw e) k q refl
-        (tick-kept st (argsOf c) (isMode (st .mode) syncing) (settings.stalled (st .settings) (c .clock) (st .sync .lastProgress)) (firstOf (peersIn (c .peers)))) refl
+        (tick-kept st (argsOf c) (isMode (st .mode) syncing) (settings.stalled (st .settings) (c .clock) (st .sync .lastProgress)) (firstOf (peersIn (c .peers))))
+        refl
 
     pub sections-follows : c .kind ≡ 14 → isQuiet (p .work) ≡ true
         → sketchIn st c p ≡ sketchOf st c (steps.advancesAndRequests st (argsOf c) (st .sync .downloaded)) → Follows st c p

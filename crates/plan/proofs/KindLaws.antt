@@ -22,8 +22,23 @@ last-kind c =
     (λ h. let e : c .kind ≡ 0 = omega arith in rw e)
     (λ h.
     let k : ℕ = c .kind in
-    simp
-    (above k 1 (omega arith), above k 2 (omega arith), above k 3 (omega arith), above k 4 (omega arith), above k 5 (omega arith), above k 6 (omega arith), above k 7 (omega arith), above k 8 (omega arith), above k 9 (omega arith), above k 10 (omega arith), above k 11 (omega arith), above k 12 (omega arith), above k 13 (omega arith), above k 14 (omega arith), above k 15 (omega arith)))
+    simp (
+      above k 1 (omega arith),
+      above k 2 (omega arith),
+      above k 3 (omega arith),
+      above k 4 (omega arith),
+      above k 5 (omega arith),
+      above k 6 (omega arith),
+      above k 7 (omega arith),
+      above k 8 (omega arith),
+      above k 9 (omega arith),
+      above k 10 (omega arith),
+      above k 11 (omega arith),
+      above k 12 (omega arith),
+      above k 13 (omega arith),
+      above k 14 (omega arith),
+      above k 15 (omega arith),
+    ))
 
 -- n is ruled out
 pub beyond : (k n : ℕ) → (k ≡ n → ⊥) → n ≤ k → suc n ≤ k
@@ -41,7 +56,8 @@ module _ (k kind : ℕ) (e : k ≡ kind) where
       let b : suc (suc n) ≤ kind = beyond kind (suc n) q (beyond kind n p (omega arith)) in
       omega arith
 
-  pub outermost : (k < 3) ⊎ (14 ≤ k) → (kind ≡ 1 → ⊥) → (kind ≡ 2 → ⊥) → (kind ≡ 14 → ⊥) → (kind ≡ 15 → ⊥) → (k < 1) ⊎ (16 ≤ k)
+  pub outermost :
+      (k < 3) ⊎ (14 ≤ k) → (kind ≡ 1 → ⊥) → (kind ≡ 2 → ⊥) → (kind ≡ 14 → ⊥) → (kind ≡ 15 → ⊥) → (k < 1) ⊎ (16 ≤ k)
   outermost h p₁ p₂ p₁₄ p₁₅ =
       let nothing : 0 ≤ kind = omega arith in
       ⊎-elim

@@ -43,7 +43,8 @@ module _ (st : State) (a : Args) (peer typeId : ℕ) where
   heard-none (id ∷ ids) l = absurd (lt-irrefl 0 (omega arith))
 
   pub some-announced : (bytes : List ℕ) → 0 < length bytes → length bytes % idSize ≡ 0
-      → steps.hearsAnnounced st a peer typeId (idsIn bytes) ≡ steps.continues st a (cond (isAnnounceable typeId) (ask typeId peer (a .stored) (idsIn bytes) ∷ []) [])
+      → steps.hearsAnnounced st a peer typeId (idsIn bytes)
+      ≡ steps.continues st a (cond (isAnnounceable typeId) (ask typeId peer (a .stored) (idsIn bytes) ∷ []) [])
   some-announced bytes l whole =
       let n : 0 < length bytes / idSize = omega arith in
       heard-some (idsIn bytes) (rw (length-ids bytes) n)
@@ -78,15 +79,15 @@ heard-by st c goes tip outcome announces t g a o =
 
 -- ---- by the numbers that the code was given
 
-module _ (st : State) (c : Call) (bytes : List ℕ) (typeid : ℕ) (ids : c .ids ≡ bytes) (types : c .typeid ≡ typeid) where
+module _ (st : State) (c : Call) {bytes : List ℕ} {typeid : ℕ} (ids : c .ids ≡ bytes) (types : c .typeid ≡ typeid) where
   abbrev pub heard : steps.Plan
   heard = steps.hearsAnnounced st (argsOf c) (c .peer) (c .typeid) (idsIn (c .ids))
 
   module _ (l : 0 < length bytes) (whole : length bytes % idSize ≡ 0) where
-    pub heard-served : (peer : ℕ) → c .peer ≡ peer → isAnnounceable typeid ≡ true
+    pub heard-served : {peer : ℕ} → c .peer ≡ peer → isAnnounceable typeid ≡ true
         → steps.continues st (argsOf c) (ask (c .typeid) peer (pairsIn (c .stored)) (idsIn (c .ids)) ∷ []) ≡ heard
     unfolding argsOf
-    heard-served peer e i =
+    heard-served e i =
         let served : isAnnounceable (c .typeid) ≡ true = rw types i in
         sym
         (some-announced st (argsOf c) (c .peer) (c .typeid) (c .ids) (rw ids l) (rw ids whole)
@@ -102,22 +103,23 @@ module _ (st : State) (c : Call) (bytes : List ℕ) (typeid : ℕ) (ids : c .ids
         ∙ ap (λ (t : Bool). steps.continues st (argsOf c) (cond t (ask (c .typeid) (c .peer) (pairsIn (c .stored)) (idsIn (c .ids)) ∷ []) [])) unserved)
 
   module _ (l : length bytes ≤ 0) where
-    empty : (t : Bool) → eqb (c .typeid) headerType ≡ t → cond t (steps.isAtTip st (argsOf c) [] (st .sync .knownTip)) (steps.continues st (argsOf c) []) ≡ heard
+    empty : (t : Bool) → eqb (c .typeid) headerType ≡ t
+        → cond t (steps.isAtTip st (argsOf c) [] (st .sync .knownTip)) (steps.continues st (argsOf c) []) ≡ heard
     empty t e =
         sym
         (none-announced st (argsOf c) (c .peer) (c .typeid) (c .ids) (rw ids l)
         ∙ ap (λ (t : Bool). cond t (steps.isAtTip st (argsOf c) [] (st .sync .knownTip)) (steps.continues st (argsOf c) [])) e)
 
-    pub heard-no-headers : (tip : ℕ) → tip ≡ st .sync .knownTip → typeid ≡ 101 → steps.isAtTip st (argsOf c) [] tip ≡ heard
-    heard-no-headers tip e i = ap (λ (x : ℕ). steps.isAtTip st (argsOf c) [] x) e ∙ empty true (eq-eqb _ _ (types ∙ i))
+    pub heard-no-headers : {tip : ℕ} → tip ≡ st .sync .knownTip → typeid ≡ 101 → steps.isAtTip st (argsOf c) [] tip ≡ heard
+    heard-no-headers e i = ap (λ (x : ℕ). steps.isAtTip st (argsOf c) [] x) e ∙ empty true (eq-eqb _ _ (types ∙ i))
 
     pub heard-nothing : (typeid ≡ 101 → ⊥) → steps.continues st (argsOf c) [] ≡ heard
     heard-nothing i = empty false (ne-eqb _ _ (λ x. i (sym types ∙ x)))
 
-pub answered-alike : (st : State) (c : Call) (p : Plan) (before : List Act) (tip peer peer′ : ℕ) (o o′ : Outcome)
+pub answered-alike : (st : State) (c : Call) (p : Plan) (before : List Act) (tip : ℕ) {peer peer′ : ℕ} {o o′ : Outcome}
     → sketchIn st c p ≡ sketchOf st c (steps.answers st (argsOf c) peer before tip o) → peer′ ≡ peer → o′ ≡ o
     → sketchIn st c p ≡ sketchOf st c (steps.answers st (argsOf c) peer′ before tip o′)
-answered-alike st c p before tip peer peer′ o o′ k e f = rw (e, f) k
+answered-alike st c p before tip k e f = rw (e, f) k
 
 pub quiet-tip : (t : Bool) (o : Option ℕ) → isQuiet (cond t (sectionsWork false o) Nothing) ≡ true
 quiet-tip true o = quiet-sections o

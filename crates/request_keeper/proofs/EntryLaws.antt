@@ -14,19 +14,26 @@ use Rattle.model.specs.Image.{encode, decode, wellFormed}
 use Rattle.model.proofs.FinishedLaws.{held}
 use Rattle.refusals.specs.Refusals.{givenRefusal}
 use Rattle.refusals.proofs.RefusalLaws.{refusal-split}
-use Rattle.model.specs.Calls.{unless, isFlag, Call, Answer, Result, refused, stepRefusal, step, Opening, Opened, open', Asked, questionRefusal, questionPairs, question}
+use Rattle.model.specs.Calls.{isFlag, Call, Answer, Result, refused, stepRefusal, step, Opening, Opened, open', Asked, questionRefusal, questionPairs, question}
 use Rattle.model.specs.Layout.{areaSize}
 
-pub not-opened : (state : List ℕ) (o : Opening) → eqb (length state) areaSize ≡ false → _≡_ {A = Opened} (record { number = 1; state = state }) (open' state o)
+pub not-opened : (state : List ℕ) (o : Opening)
+    → eqb (length state) areaSize ≡ false
+    → _≡_ {A = Opened} (record { number = 1; state = state }) (open' state o)
 unfolding open'
 not-opened state o t = rw t
 
-pub opened-here : (state exit : List ℕ) (o : Opening) → eqb (length state) areaSize ≡ true → exit ≡ encode (opened (o .settings) (o .clock) (o .height))
+pub opened-here : (state exit : List ℕ) (o : Opening)
+    → eqb (length state) areaSize ≡ true
+    → exit ≡ encode (opened (o .settings) (o .clock) (o .height))
     → _≡_ {A = Opened} (record { number = 0; state = exit }) (open' state o)
 unfolding open'
 opened-here state exit o t e = rw (t, e)
 
-pub not-stepped : (state area : List ℕ) (call : Call) (number : ℕ) (answer : Answer) → number ≡ givenRefusal state (length area) call → eqb number 0 ≡ false → answer ≡ refused number
+pub not-stepped : (state area : List ℕ) (call : Call) (number : ℕ) (answer : Answer)
+    → number ≡ givenRefusal state (length area) call
+    → eqb number 0 ≡ false
+    → answer ≡ refused number
     → _≡_ {A = Result} (record { answer = answer; state = state; commands = area }) (step state area call)
 unfolding step
 not-stepped state area call number answer e t a =
@@ -38,8 +45,10 @@ module _ (state area : List ℕ) (flag number : ℕ) (e : number ≡ questionRef
   unfolding question
   not-asked t = rw (sym e, t)
 
-  pub asked : eqb number 0 ≡ true → (size : ℕ) (exit : List ℕ) → size ≡ length (joined (questionPairs (decode state) flag))
-      → exit ≡ overwritten 0 (joined (questionPairs (decode state) flag)) area → _≡_ {A = Asked} (record { number = 0; length = size; commands = exit }) (question state area flag)
+  pub asked : eqb number 0 ≡ true → (size : ℕ) (exit : List ℕ)
+      → size ≡ length (joined (questionPairs (decode state) flag))
+      → exit ≡ overwritten 0 (joined (questionPairs (decode state) flag)) area
+      → _≡_ {A = Asked} (record { number = 0; length = size; commands = exit }) (question state area flag)
   unfolding question
   asked t size exit l w = rw (sym e, t, l, w)
 

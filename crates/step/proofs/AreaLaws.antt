@@ -65,7 +65,8 @@ module _ (area : List ℕ) (l : length area ≡ areaSize) (f : Bytes area) (ok :
   unfolding decode evictedOf headIn
   evicted-held =
       let few : pendingCount area + evictedCount area ≤ trackedLimit = formed area ok .tracked in
-      let n : regionAt + (length (drop regionAt area) - evictedCount area * idSize) ≡ areaSize - evictedCount area * idSize = rw (length-drop regionAt area) (omega arith) in
+      let n : regionAt + (length (drop regionAt area) - evictedCount area * idSize) ≡ areaSize - evictedCount area * idSize =
+      rw (length-drop regionAt area) (omega arith) in
       rw (drop-drop (length (drop regionAt area) - evictedCount area * idSize) regionAt area, n)
 
   pub area-given : (call : Call) (ids continuation stored peers view : List ℕ)

@@ -53,7 +53,8 @@ module _ (gate : Bool) (clock : ℕ) where
 
 -- ---- a plan that follows the model's
 
-no-retries : (check : Bool) (first : List Sending) (retried : List Sending) (rest : List Sending) → (check ≡ true → first ≡ []) → (check ≡ false → retried ≡ [])
+no-retries : (check : Bool) (first : List Sending) (retried : List Sending) (rest : List Sending)
+    → (check ≡ true → first ≡ []) → (check ≡ false → retried ≡ [])
     → retried ++ (first ++ rest) ≡ first ++ (retried ++ rest)
 no-retries true first retried rest e f = rw (e refl)
 no-retries false first retried rest e f = rw (f refl)
@@ -71,7 +72,10 @@ module _ (st : State) (c : calls.Call) (p : Plan) (f : Follows st c p) where
   acts-are = sym (ap (λ (s : Sketch). s .acts) (f .sketch))
 
   performed-is : steps.performed st args
-      ≡ record { pending = acted .pending; sendings = announced (listedPeer (p .announces)) (idsIn (c .continuation)) ++ (acted .sendings ++ said (listedPeer (p .says))) }
+      ≡ record {
+        pending = acted .pending;
+        sendings = announced (listedPeer (p .announces)) (idsIn (c .continuation)) ++ (acted .sendings ++ said (listedPeer (p .says)));
+      }
   unfolding steps.performed actedBy argsOf
   performed-is =
       let gate : Bool = eqb (c .gate) 1 in
@@ -156,4 +160,5 @@ module _ (st : State) (c : calls.Call) (p : Plan) (f : Follows st c p) where
   head-after pending evicted m n =
       ap (λ (h : Head). counted h pending evicted) head-is
       ∙ ap (λ (k : ℕ). counted (headBy st c (c .clock) (steps.plan st args .mode) (steps.plan st args .sync)) k evicted) (m ∙ ap length carried-pending)
-      ∙ ap (λ (k : ℕ). counted (headBy st c (c .clock) (steps.plan st args .mode) (steps.plan st args .sync)) (length (steps.after st args .pending)) k) (n ∙ ap length carried-evicted)
+      ∙ ap (λ (k : ℕ). counted (headBy st c (c .clock) (steps.plan st args .mode) (steps.plan st args .sync)) (length (steps.after st args .pending)) k)
+      (n ∙ ap length carried-evicted)

@@ -66,26 +66,40 @@ module _ (area commands : List ℕ) (call : calls.Call) (g : givenRefusal area (
 
 -- ---- what the work answered
 
+-- the counts of a work whose sendings begin at this place, with this batch
+abbrev pub countsOf : ℕ → ℕ → Worked → Counts
+countsOf at batch w =
+    record {
+      pending = length (w .pending);
+      evicted = length (w .evicted);
+      retried = w .retried;
+      fresh = w .fresh;
+      abandoned = w .abandoned;
+      forgotten = w .forgotten;
+      at = at + length (sentBytes batch (w .sendings));
+      batch = batch + length (w .sendings);
+    }
+
 module _ (at batch : ℕ) (w : Worked) where
   pub full-fails : Full ≡ performedAs at batch w → fits w ≡ false
   unfolding performedAs
   full-fails = go (fits w) refl
     where
       go : (b : Bool) → fits w ≡ b
-          → Full ≡ cond b (Finished (record { pending = length (w .pending); evicted = length (w .evicted); retried = w .retried; fresh = w .fresh; abandoned = w .abandoned; forgotten = w .forgotten; at = at + length (sentBytes batch (w .sendings)); batch = batch + length (w .sendings) })) Full
+          → Full ≡ cond b (Finished (countsOf at batch w)) Full
           → fits w ≡ false
       go true e h = let z : _≡_ {A = ℕ} 0 1 = cc in absurd (lt-irrefl 0 (omega arith))
       go false e h = e
 
   pub done-fits : (counts : Counts) → Finished counts ≡ performedAs at batch w
       → (fits w ≡ true)
-      × (counts ≡ record { pending = length (w .pending); evicted = length (w .evicted); retried = w .retried; fresh = w .fresh; abandoned = w .abandoned; forgotten = w .forgotten; at = at + length (sentBytes batch (w .sendings)); batch = batch + length (w .sendings) })
+      × (counts ≡ countsOf at batch w)
   unfolding performedAs
   done-fits counts = go (fits w) refl
     where
       go : (b : Bool) → fits w ≡ b
-          → Finished counts ≡ cond b (Finished (record { pending = length (w .pending); evicted = length (w .evicted); retried = w .retried; fresh = w .fresh; abandoned = w .abandoned; forgotten = w .forgotten; at = at + length (sentBytes batch (w .sendings)); batch = batch + length (w .sendings) })) Full
+          → Finished counts ≡ cond b (Finished (countsOf at batch w)) Full
           → (fits w ≡ true)
-          × (counts ≡ record { pending = length (w .pending); evicted = length (w .evicted); retried = w .retried; fresh = w .fresh; abandoned = w .abandoned; forgotten = w .forgotten; at = at + length (sentBytes batch (w .sendings)); batch = batch + length (w .sendings) })
+          × (counts ≡ countsOf at batch w)
       go true e h = (e, cc)
       go false e h = let z : _≡_ {A = ℕ} 0 1 = cc in absurd (lt-irrefl 0 (omega arith))

@@ -13,7 +13,8 @@ use Rattle.fields.proofs.AllLaws.{either}
 use Rattle.fields.proofs.FilterLaws.{length-kept}
 use Rattle.fields.proofs.SortLaws.{length-inserted}
 use Rattle.model.specs.Protocol.{Id, isAmong, headerType, trackedLimit}
-use Rattle.model.specs.Delivery.{Request, Verdict, waiting, retried, abandoned, forgotten, verdict, afterVerdict, checkTimeouts, markRetried, isPending, idBefore, markRequested, markReceived, pendingAfterEviction, evictedAfterEviction, purgePeer, purgeAll}
+use Rattle.model.specs.Delivery.{Request, Verdict, waiting, retried, abandoned, forgotten, verdict, afterVerdict, checkTimeouts, markRetried, isPending}
+use Rattle.model.specs.Delivery.{idBefore, markRequested, markReceived, pendingAfterEviction, evictedAfterEviction, purgePeer, purgeAll}
 use Rattle.model.specs.Settings.{Settings}
 use Rattle.model.specs.Requests.{Pair, isStored, wanted, requestAnnounced}
 use Rattle.model.specs.Sections.{Item}
@@ -39,7 +40,8 @@ checked-few : (settings : Settings) (clock : ℕ) (rs : List Request) → length
 checked-few settings clock [] = omega arith
 checked-few settings clock (r ∷ rs) = go (verdict settings clock r) (checked-few settings clock rs)
   where
-    go : (v : Verdict) → length (checkTimeouts settings clock rs) ≤ length rs → length (afterVerdict clock v r (checkTimeouts settings clock rs)) ≤ length (r ∷ rs)
+    go : (v : Verdict) → length (checkTimeouts settings clock rs) ≤ length rs
+        → length (afterVerdict clock v r (checkTimeouts settings clock rs)) ≤ length (r ∷ rs)
     go waiting h = omega arith
     go retried h = omega arith
     go abandoned h = omega arith
@@ -56,15 +58,19 @@ marked-few clock typeId peer (id ∷ ids) pending =
     (omega (arith, length-inserted idBefore new pending)) in
     omega (arith, marked-few clock typeId peer ids next)
 
-asked-few : (gate : Bool) (clock typeId peer : ℕ) (ids : List Id) (pending : List Request) → length (requestAnnounced gate clock typeId peer ids pending .pending) ≤ length ids + length pending
+asked-few : (gate : Bool) (clock typeId peer : ℕ) (ids : List Id) (pending : List Request)
+    → length (requestAnnounced gate clock typeId peer ids pending .pending) ≤ length ids + length pending
 asked-few true clock typeId peer ids pending = marked-few clock typeId peer ids pending
 asked-few false clock typeId peer ids pending = omega arith
 
 wanted-few : (pending : List Request) (typeId : ℕ) (pairs : List Pair) (ids : List Id) → length (wanted pending typeId pairs ids) ≤ length ids
 unfolding wanted
 wanted-few pending typeId pairs ids =
-    omega
-    (arith, length-kept (λ (id : Id). not (isStored pairs typeId id)) (kept (λ (id : Id). not (isPending id pending)) ids), length-kept (λ (id : Id). not (isPending id pending)) ids)
+    omega (
+      arith,
+      length-kept (λ (id : Id). not (isStored pairs typeId id)) (kept (λ (id : Id). not (isPending id pending)) ids),
+      length-kept (λ (id : Id). not (isPending id pending)) ids,
+    )
 
 untold : (announces : Listed) → isTold announces ≡ false → announces ≡ Nobody
 untold (Peer peer) e = absurd (false≢true (sym e))

@@ -39,10 +39,14 @@ completed-by h places image l n =
     let e : drop 74 front ≡ take 438 (drop 74 image) = drop-take 74 438 image in
     rw (a, d, e, drop-drop 2048 512 image)
 
-pub completes : (stalling : Stalling) (count : ℕ) (h : Head) (image places image′ : List ℕ) → length image ≡ areaSize → length places ≡ length (midOf 512 2048 image)
-    → Stalls stalling count (midOf 512 2048 image) places → image′ ≡ overwritten 0 (headBytes h) (putMid 512 2048 image places)
-    → (peers : List ℕ) → length peers ≡ count → take 2048 (drop 512 image) ≡ placesOf peers → image′ ≡ completed h (placesOf (stalledThen stalling peers)) image
-completes stalling count h image places image′ l n s w peers m e =
+pub completes : (stalling : Stalling) (h : Head) (image : List ℕ) {count : ℕ} {places image′ : List ℕ}
+    → length image ≡ areaSize
+    → length places ≡ length (midOf 512 2048 image)
+    → Stalls stalling count (midOf 512 2048 image) places
+    → image′ ≡ overwritten 0 (headBytes h) (putMid 512 2048 image places)
+    → (peers : List ℕ) → length peers ≡ count → take 2048 (drop 512 image) ≡ placesOf peers
+    → image′ ≡ completed h (placesOf (stalledThen stalling peers)) image
+completes stalling h image {places = places} l n s w peers m e =
     let k : length places ≡ 2048 = n ∙ mid-len 512 regionAt image (omega arith) in
     w ∙ completed-by h places image l k ∙ ap (λ (x : List ℕ). completed h x image) (s peers m e)
 

@@ -7,5 +7,6 @@ pub mod DirectLaws
 pub mod EndLaws
 pub mod FillingLaws
 pub mod PlannedLaws
+pub mod SettledLaws
 pub mod StepLaws
 pub mod WorkLaws

@@ -34,14 +34,24 @@ read-places peers count l =
 -- ---- written
 
 -- a set that has the same bytes as these peers
-places-written : (held peers places : List ℕ) (count : ℕ) → places ≡ joined (map (toBe 8) held) ++ zeros (2048 - 8 * count) → map (toBe 8) held ≡ map (toBe 8) peers → count ≡ length peers
+places-written : (held peers places : List ℕ) (count : ℕ)
+    → places ≡ joined (map (toBe 8) held) ++ zeros (2048 - 8 * count)
+    → map (toBe 8) held ≡ map (toBe 8) peers
+    → count ≡ length peers
     → places ≡ placesOf peers
 unfolding placesOf
 places-written held peers places count w e n =
     let z : 2048 - 8 * count ≡ (256 - length peers) * 8 = omega arith in
     w ∙ rw (e, z)
 
-module _ (held after places places′ : List ℕ) (count n m peer : ℕ) (read : held ≡ map fromBe (entries 8 count places)) (as-many : n ≡ count) (joins : after ≡ held ++ (peer ∷ [])) (one-more : m ≡ n + 1) (written : places′ ≡ joined (map (toBe 8) after) ++ zeros (2048 - 8 * m)) where
+-- these peers written to places, and zeros behind them
+abbrev pub Writes : List ℕ → ℕ → List ℕ → Type 0
+Writes held count places = places ≡ joined (map (toBe 8) held) ++ zeros (2048 - 8 * count)
+
+module _ {held after places places′ : List ℕ} {count n m : ℕ} (peer : ℕ)
+    (read : held ≡ map fromBe (entries 8 count places)) (as-many : n ≡ count)
+    (joins : after ≡ held ++ (peer ∷ [])) (one-more : m ≡ n + 1)
+    (written : Writes after m places′) where
   -- the set read, with one peer more, and written
   pub joined-written : (peers : List ℕ) → length peers ≡ count → places ≡ placesOf peers → places′ ≡ placesOf (peers ++ (peer ∷ []))
   joined-written peers l e =
@@ -60,20 +70,24 @@ module _ (held after places places′ : List ℕ) (count n m peer : ℕ) (read :
 
 -- ---- by what becomes of the set
 
-module _ (stalling : Stalling) (count : ℕ) (places : List ℕ) where
-  abbrev pub Stalls : List ℕ → Type 0
-  Stalls places′ = (peers : List ℕ) → length peers ≡ count → places ≡ placesOf peers → places′ ≡ placesOf (stalledThen stalling peers)
+abbrev pub Stalls : Stalling → ℕ → List ℕ → List ℕ → Type 0
+Stalls stalling count places places′ =
+    (peers : List ℕ) → length peers ≡ count → places ≡ placesOf peers → places′ ≡ placesOf (stalledThen stalling peers)
 
-  pub stays : stalling ≡ Stay → Stalls places
+module _ {stalling : Stalling} {count : ℕ} {places : List ℕ} where
+  pub stays : stalling ≡ Stay → Stalls stalling count places places
   stays e = λ peers l h. rw e h
 
-  pub empties : (held places′ : List ℕ) (n : ℕ) → stalling ≡ Empty → held ≡ [] → n ≡ 0 → places′ ≡ joined (map (toBe 8) held) ++ zeros (2048 - 8 * n) → Stalls places′
-  empties held places′ n e none few w = λ peers l h. rw e (places-written held [] places′ n w (ap (map (toBe 8)) none) few)
+  pub empties : {held places′ : List ℕ} {n : ℕ}
+      → stalling ≡ Empty → held ≡ [] → n ≡ 0 → Writes held n places′ → Stalls stalling count places places′
+  empties {held} {places′} {n} e none few w = λ peers l h. rw e (places-written held [] places′ n w (ap (map (toBe 8)) none) few)
 
-  pub join-room : (peer : ℕ) → stalling ≡ Join peer → stalledCountThen stalling count ≤ 256 → count < 256
-  join-room peer e few =
-      let n : count + 1 ≤ 256 = rw e at few in
-      omega arith
+  pub joins : {places′ : List ℕ} {peer : ℕ} → stalling ≡ Join peer
+      → ((peers : List ℕ) → length peers ≡ count → places ≡ placesOf peers → places′ ≡ placesOf (peers ++ (peer ∷ [])))
+      → Stalls stalling count places places′
+  joins e w = λ peers l h. rw e (w peers l h)
 
-  pub joins : (places′ : List ℕ) (peer : ℕ) → stalling ≡ Join peer → ((peers : List ℕ) → length peers ≡ count → places ≡ placesOf peers → places′ ≡ placesOf (peers ++ (peer ∷ []))) → Stalls places′
-  joins places′ peer e w = λ peers l h. rw e (w peers l h)
+pub join-room : {stalling : Stalling} {peer : ℕ} (count : ℕ) → stalling ≡ Join peer → stalledCountThen stalling count ≤ 256 → count < 256
+join-room count e few =
+    let n : count + 1 ≤ 256 = rw e at few in
+    omega arith

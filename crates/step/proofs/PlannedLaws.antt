@@ -1,10 +1,10 @@
 -- A planned step at each place of its code: what it asks of its callees, and how it ends. One law for each.
-use Prim.Native.Nat.{ℕ, _+_, _-_, _/_, _%_, _≤_, _<_}
+use Prim.Native.Nat.{ℕ, _-_, _%_, _≤_, _<_}
 use mathlib.Core.Path.{_≡_, refl, sym, ap, _∙_}
 use mathlib.Core.Bool.{Bool, true, false}
-use mathlib.Core.List.{List, _++_}
+use mathlib.Core.List.{List}
 use native.Mathlib.Omega.{arith}
-use lib.ListN.{length, take, drop}
+use lib.ListN.{length, take}
 use borrow.Rule.Slice.PartMut.{midOf, putMid, put-same}
 use Rattle.fields.specs.Facts.{Bytes}
 use Rattle.fields.specs.Overwrite.{overwritten}
@@ -16,7 +16,6 @@ use Rattle.model.specs.Demand3.{InWidth}
 use Rattle.image.specs.declared.head.Head.{Head}
 use Rattle.peers.specs.declared.Listed.the-variants.{Nobody}
 use Rattle.peers.specs.Peers.{listedPeer}
-use Rattle.commands.specs.Sent.{sentBytes}
 use Rattle.plan.specs.declared.Call.{Call}
 use Rattle.plan.specs.declared.Plan.{Plan}
 use Rattle.work.specs.declared.Counts.{Counts}
@@ -26,18 +25,16 @@ use Rattle.work.specs.Worked as worked
 use Rattle.work.specs.Worked.{Tracked, Performs, isOneList, Untouched}
 use Rattle.work_asks.specs.Carried.{carriedBy}
 use Rattle.plan.specs.Plans.{callOf}
-use Rattle.step.specs.Stalling.{placesOf, stalledThen, stalledCountThen}
-use Rattle.step.specs.Finished.{said, counted, completed}
 use Rattle.step.proofs.SaidLaws.{said-short}
 use Rattle.step.specs.Copies.{worksOnCopies}
 use Rattle.step.specs.Planned.{Lists, called, workOf, Planned, StepsTo}
 use Rattle.step.proofs.EndLaws.{done-fits}
+use Rattle.step.proofs.SettledLaws.{CountsFew, last, ImageSettled, answered, CopiedBack}
 use Rattle.step.proofs.StepLaws.{too-many, too-stalled, finish-ready, finishes}
 use Rattle.step.proofs.FillingLaws.{nobody-told}
 use Rattle.step.proofs.DirectLaws.{not-full, direct-finishes}
-use Rattle.step.proofs.WorkLaws.{front-kept, tail-put, its-continuation, its-ids, area-long, commands-long, lists-whole, stored-fit, view-fits, work-tracked, work-given}
-use Rattle.model.specs.Layout.{areaSize, idListSize, idSize, mostBytes, regionAt}
-use Rattle.model.specs.Protocol.{trackedLimit}
+use Rattle.step.proofs.WorkLaws.{front-kept, tail-put, its-continuation, area-long, commands-long, lists-whole, stored-fit, view-fits, work-tracked, work-given}
+use Rattle.model.specs.Layout.{areaSize, idListSize, idSize, regionAt}
 
 -- A planned step of values that are within their types.
 pub record Entered (area commands : List ℕ) (head : Head) (plan : Plan) (call : Call) (lent : Lists) : Type 0 where
@@ -57,36 +54,6 @@ abbrev CarrySays : Head → Plan → Call → Lists → List ℕ → List ℕ �
 CarrySays head plan call lent region out answer region′ out′ =
     (st : State) (c : calls.Call) → worked.Given head region call (lent .ids) (lent .stored) (lent .peers) (lent .view) st c → c .continuation ≡ lent .continuation
     → Performs 0 0 (carriedBy st c plan) out answer region′ out′
-
--- what settling asks of the counts
-abbrev CountsFew : Plan → Counts → ℕ → Type 0
-CountsFew plan counts count =
-    ((stalledCountThen (plan .stalling) count ≤ 256) × (counts .at ≤ mostBytes))
-    × ((counts .pending ≤ trackedLimit) × ((counts .evicted ≤ trackedLimit) × ((counts .retried ≤ trackedLimit) × ((counts .fresh ≤ trackedLimit) × ((counts .abandoned ≤ trackedLimit) × (counts .forgotten ≤ trackedLimit))))))
-
--- the last command's bytes
-abbrev last : Plan → Counts → List ℕ
-last plan counts = sentBytes (counts .batch) (said (listedPeer (plan .says)))
-
--- the image that settling leaves, and its answer
-abbrev ImageSettled : Plan → Counts → ℕ → List ℕ → List ℕ → Type 0
-ImageSettled plan counts count image image′ =
-    (old : List ℕ) → length old ≡ count → take 2048 (drop 512 image) ≡ placesOf old
-    → image′ ≡ completed (counted (plan .head) (counts .pending) (counts .evicted)) (placesOf (stalledThen (plan .stalling) old)) image
-
-abbrev answered : Plan → Counts → calls.Answer
-answered plan counts =
-    record {
-      number = 0;
-      outcome = plan .outcome;
-      retried = counts .retried;
-      fresh = counts .fresh;
-      abandoned = counts .abandoned;
-      forgotten = counts .forgotten;
-      pending = counts .pending;
-      evicted = counts .evicted;
-      length = counts .at + length (last plan counts);
-    }
 
 -- a refusal leaves both areas
 stops : (area commands : List ℕ) (c : calls.Call) (n : ℕ) {r : calls.Answer} → r ≡ calls.refused n
@@ -119,7 +86,8 @@ module _ {area commands : List ℕ} {head : Head} {plan : Plan} {call : Call} {l
             ),
           )
 
-      pub carried : {answer : Performed} {region′ out′ : List ℕ} → CarrySays head plan call lent (midOf regionAt (length image - regionAt) image) out answer region′ out′
+      pub carried : {answer : Performed} {region′ out′ : List ℕ}
+          → CarrySays head plan call lent (midOf regionAt (length image - regionAt) image) out answer region′ out′
           → Performs 0 0 (workOf area call lent plan) out answer region′ out′
       carried says =
           let p = e .planned in
@@ -138,7 +106,8 @@ module _ {area commands : List ℕ} {head : Head} {plan : Plan} {call : Call} {l
         pub stalled-stops : {r : calls.Answer} → 256 < plan .head .stalled → r ≡ calls.refused 11 → StepsTo area commands call lent r area commands
         stalled-stops many r =
             let p = e .planned in
-            stops area commands (called call lent) 11 r (too-stalled area commands (called call lent) plan (p .given) (p .follows) (p .seen) counts (sym f ∙ d .answered) many)
+            stops area commands (called call lent) 11 r
+            (too-stalled area commands (called call lent) plan (p .given) (p .follows) (p .seen) counts (sym f ∙ d .answered) many)
 
         pub settle-asks : plan .head .stalled ≤ 256 → CountsFew plan counts (head .stalled)
         settle-asks few =
@@ -146,10 +115,10 @@ module _ {area commands : List ℕ} {head : Head} {plan : Plan} {call : Call} {l
             finish-ready area commands (called call lent) plan (p .given) (p .follows) (p .seen) counts (sym f ∙ d .answered) few (e .bytes) (e .width) head (p .read)
 
         -- on copies: an image that was the area, and room for commands
-        pub settled-on-copies : {image area′ commands′ : List ℕ} {r : calls.Answer} → image ≡ area → areaSize ≤ length out → plan .head .stalled ≤ 256
+        pub settled-on-copies : {image area′ commands′ : List ℕ} {r : calls.Answer}
+            → image ≡ area → areaSize ≤ length out → plan .head .stalled ≤ 256
             → ImageSettled plan counts (head .stalled) (putMid regionAt (length image - regionAt) image region) area′
-            × ((commands′ ≡ take (counts .at + length (last plan counts)) (overwritten (counts .at) (last plan counts) out′) ++ drop (counts .at + length (last plan counts)) commands)
-            × (r ≡ answered plan counts))
+            × (CopiedBack plan counts out′ commands commands′ × (r ≡ answered plan counts))
             → StepsTo area commands call lent r area′ commands′
         settled-on-copies {image} {area′} {commands′} {r} same enough few settled =
             let p = e .planned in
@@ -158,7 +127,8 @@ module _ {area commands : List ℕ} {head : Head} {plan : Plan} {call : Call} {l
             let long-enough : regionAt ≤ length image = omega (arith, long p, ap length same) in
             finishes area commands (called call lent) plan (p .given) (p .follows) (p .seen) counts done few (e .bytes) (e .width) head (p .read)
             (putMid regionAt (length image - regionAt) image region) out out′ area′ commands′ r
-            (front-kept regionAt image region long-enough ∙ ap (take regionAt) same) (tail-put regionAt image region long-enough ∙ d .left full) enough (d .written full)
+            (front-kept regionAt image region long-enough ∙ ap (take regionAt) same)
+            (tail-put regionAt image region long-enough ∙ d .left full) enough (d .written full)
             (settled .0) (settled .1 .0) (settled .1 .1)
 
     -- on the areas themselves

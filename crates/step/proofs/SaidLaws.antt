@@ -27,18 +27,20 @@ no-ids (b ∷ bytes) h = absurd (lt-irrefl 0 (omega arith))
 -- What was said, and the place behind it.
 module _ (says : Listed) (at batch : ℕ) (out : List ℕ) where
   abbrev pub Said : List ℕ → ℕ → Type 0
-  Said out′ end = (out′ ≡ overwritten at (sentBytes batch (said (listedPeer says))) out) × (end ≡ at + length (sentBytes batch (said (listedPeer says))))
+  Said out′ end =
+      (out′ ≡ overwritten at (sentBytes batch (said (listedPeer says))) out)
+      × (end ≡ at + length (sentBytes batch (said (listedPeer says))))
 
   pub unsaid : says ≡ Nobody → Said out at
   unfolding sentBytes
   unsaid e = rw e (sym (overwritten-nil at out), sym (add-zero at))
 
-  pub said-to : (peer : ℕ) (ids out′ : List ℕ) (end : ℕ) → says ≡ Peer peer → length ids ≡ 0
+  pub said-to : (ids : List ℕ) {out′ : List ℕ} {peer end : ℕ} → says ≡ Peer peer → length ids ≡ 0
       → out′ ≡ overwritten at (commandBytes (record { kind = 3; typeId = 0; batch = batch; peer = peer; ids = idsIn ids })) out
       → end ≡ at + 16 + length ids
       → Said out′ end
   unfolding sentBytes commandBytes
-  said-to peer ids out′ end e h w n =
+  said-to ids e h w n =
       let i : idsIn ids ≡ [] = no-ids ids (omega arith) in
       rw e (rw i at w, omega arith)
 
@@ -51,6 +53,6 @@ pub said-end : (at batch end : ℕ) (peer : Option ℕ) → end ≡ at + length 
 said-end at batch end peer e = omega (arith, said-short batch peer)
 
 -- the length among the numbers told
-pub told-length : (r : Answer) (x : calls.Answer) → answerOf r ≡ x → r .length ≡ x .length
+pub told-length : (r : Answer) {x : calls.Answer} → answerOf r ≡ x → r .length ≡ x .length
 unfolding answerOf
-told-length r x e = ap (λ (y : calls.Answer). y .length) e
+told-length r e = ap (λ (y : calls.Answer). y .length) e

@@ -47,9 +47,11 @@ use Rattle.work_asks.specs.Carried.{carriedBy}
 use Rattle.step.specs.Stalling.{placesOf, stalledThen, stalledCountThen}
 use Rattle.step.specs.Finished.{said, counted, completed}
 use Rattle.step.proofs.AreaLaws.{area-well, area-encode, places-held}
-use Rattle.step.proofs.CarriedLaws.{carried-pending, carried-evicted, carried-bytes, carried-retried, carried-abandoned, carried-forgotten, carried-fresh, carried-fits, outcome-is, seen-is, stalled-is, stalled-count, head-after}
+use Rattle.step.proofs.CarriedLaws.{carried-pending, carried-evicted, carried-bytes, carried-retried, carried-abandoned, carried-forgotten}
+use Rattle.step.proofs.CarriedLaws.{carried-fresh, carried-fits, outcome-is, seen-is, stalled-is, stalled-count, head-after}
 use Rattle.step.proofs.FinishedLaws.{completed-encode}
-use Rattle.step.proofs.EndLaws.{untouched, few, ends-9, ends-10, ends-11, passes, ends-finished, full-fails, done-fits}
+use Rattle.step.proofs.EndLaws.{untouched, few, ends-9, ends-10, ends-11, passes, ends-finished, countsOf, full-fails, done-fits}
+use Rattle.step.proofs.SettledLaws.{Few, CountsFew, last, end, ImageSettled, answered, CopiedBack}
 use Rattle.model.specs.Layout.{areaSize, mostBytes, regionAt}
 
 -- ---- a part of two lists that begin alike, and records by their fields
@@ -61,7 +63,8 @@ part-same n k m x y h e =
     sym (drop-take n k x) ∙ ap (drop n) (a ∙ ap (take (n + k)) e ∙ sym b) ∙ drop-take n k y
 
 -- two writes one behind another, copied to the front of another list
-front-written : (a b whole out out₁ s s′ : List ℕ) (at : ℕ) → whole ≡ a ++ b → at ≡ length a → length whole ≤ length out → out₁ ≡ overwritten 0 a out
+front-written : (a b whole out out₁ s s′ : List ℕ) (at : ℕ)
+    → whole ≡ a ++ b → at ≡ length a → length whole ≤ length out → out₁ ≡ overwritten 0 a out
     → s′ ≡ take (at + length b) (overwritten at b out₁) ++ drop (at + length b) s → s′ ≡ overwritten 0 whole s
 unfolding overwritten
 front-written a b whole out out₁ s s′ at w n room o e =
@@ -72,7 +75,8 @@ front-written a b whole out out₁ s s′ at w n room o e =
     let t : take (at + length b) (overwritten at b out₁) ≡ a ++ b = rw (q, k) (front-read-back (a ++ b) out) in
     e ∙ rw (t, k, w, zero-add (length (a ++ b)))
 
-same-answer : {o o′ r r′ n n′ b b′ t t′ q q′ v v′ l l′ : ℕ} → o ≡ o′ → r ≡ r′ → n ≡ n′ → b ≡ b′ → t ≡ t′ → q ≡ q′ → v ≡ v′ → l ≡ l′
+same-answer : {o o′ r r′ n n′ b b′ t t′ q q′ v v′ l l′ : ℕ}
+    → o ≡ o′ → r ≡ r′ → n ≡ n′ → b ≡ b′ → t ≡ t′ → q ≡ q′ → v ≡ v′ → l ≡ l′
     → _≡_ {A = calls.Answer} (record { number = 0; outcome = o; retried = r; fresh = n; abandoned = b; forgotten = t; pending = q; evicted = v; length = l })
     (record { number = 0; outcome = o′; retried = r′; fresh = n′; abandoned = b′; forgotten = t′; pending = q′; evicted = v′; length = l′ })
 same-answer a b c d e f g h = rw (a, b, c, d, e, f, g, h)
@@ -92,9 +96,6 @@ module _ (st : State) (c : calls.Call) (p : Plan) where
 
   fresh-few : cond (isCheckBy (p .work)) (length (st .sync .evicted)) 0 ≤ length (st .sync .evicted)
   fresh-few = either (λ (n : ℕ). n ≤ length (st .sync .evicted)) (isCheckBy (p .work)) (length (st .sync .evicted)) 0 (omega arith) (omega arith)
-
-abbrev Few : Counts → Type 0
-Few counts = (counts .pending ≤ trackedLimit) × ((counts .evicted ≤ trackedLimit) × ((counts .retried ≤ trackedLimit) × ((counts .fresh ≤ trackedLimit) × ((counts .abandoned ≤ trackedLimit) × (counts .forgotten ≤ trackedLimit)))))
 
 stalled-then : (st : State) (c : calls.Call) (s : Stalling) (peers : List ℕ) → st .sync .stalledPeers ≡ peers → stalledThen s peers ≡ stalledBy st c s
 stalled-then st c Stay peers e = sym e
@@ -147,18 +148,31 @@ module _ (area commands : List ℕ) (c : calls.Call) (p : Plan) (g : givenRefusa
         not-refused-call : callRefusal old c ≡ 0
         not-refused-call = passes area commands c g seen tracked stalled-few
 
-        counts-are : counts ≡ record { pending = length (w .pending); evicted = length (w .evicted); retried = w .retried; fresh = w .fresh; abandoned = w .abandoned; forgotten = w .forgotten; at = 0 + length (sentBytes 0 (w .sendings)); batch = 0 + length (w .sendings) }
+        counts-are : counts ≡ countsOf 0 0 w
         counts-are = done-fits 0 0 w counts d .1
 
         counts-few : Few counts
         unfolding fits carriedBy workedBy
         counts-few =
             let t : length (old .pending) + length (old .sync .evicted) ≤ trackedLimit = well .tracked in
-            let u : length (w .pending) + length (w .evicted) ≤ trackedLimit = leb-true (length (w .pending) + length (w .evicted)) trackedLimit (done-fits 0 0 w counts d .0) in
-            rw counts-are
-            (omega arith, (omega arith, (omega (arith, count-few old c p delivery.retried), (omega (arith, fresh-few old c p), (omega (arith, count-few old c p delivery.abandoned), omega (arith, count-few old c p delivery.forgotten))))))
+            let u : length (w .pending) + length (w .evicted) ≤ trackedLimit =
+            leb-true (length (w .pending) + length (w .evicted)) trackedLimit (done-fits 0 0 w counts d .0) in
+            let judged-few = count-few old c p in
+            rw counts-are (
+              omega arith,
+              (
+                omega arith,
+                (
+                  omega (arith, judged-few delivery.retried),
+                  (
+                    omega (arith, fresh-few old c p),
+                    (omega (arith, judged-few delivery.abandoned), omega (arith, judged-few delivery.forgotten)),
+                  ),
+                ),
+              ),
+            )
 
-        bytes-are : stepBytes old (argsOf c) ≡ sentBytes 0 (w .sendings) ++ sentBytes (counts .batch) (said (listedPeer (p .says)))
+        bytes-are : stepBytes old (argsOf c) ≡ sentBytes 0 (w .sendings) ++ last p counts
         bytes-are =
             carried-bytes old c p f ∙ sent-append 0 (w .sendings) (said (listedPeer (p .says)))
             ∙ ap (λ (n : ℕ). sentBytes 0 (w .sendings) ++ sentBytes n (said (listedPeer (p .says)))) (sym (ap (λ (k : Counts). k .batch) counts-are))
@@ -166,7 +180,7 @@ module _ (area commands : List ℕ) (c : calls.Call) (p : Plan) (g : givenRefusa
         at-is : counts .at ≡ length (sentBytes 0 (w .sendings))
         at-is = ap (λ (k : Counts). k .at) counts-are ∙ zero-add (length (sentBytes 0 (w .sendings)))
 
-        end-is : counts .at + length (sentBytes (counts .batch) (said (listedPeer (p .says)))) ≡ length (stepBytes old (argsOf c))
+        end-is : end p counts ≡ length (stepBytes old (argsOf c))
         end-is = rw (bytes-are, length-append (sentBytes 0 (w .sendings)), at-is)
 
         place-few : counts .at ≤ mostBytes
@@ -185,7 +199,7 @@ module _ (area commands : List ℕ) (c : calls.Call) (p : Plan) (g : givenRefusa
             omega (arith, stalled-count old c p f)
 
         -- what finishing requires
-        pub finish-ready : (head : Head) → head ≡ headIn area → ((stalledCountThen (p .stalling) (head .stalled) ≤ 256) × (counts .at ≤ mostBytes)) × Few counts
+        pub finish-ready : (head : Head) → head ≡ headIn area → CountsFew p counts (head .stalled)
         finish-ready head h = ((room-stalled head h, place-few), counts-few)
 
         -- the image
@@ -193,53 +207,61 @@ module _ (area commands : List ℕ) (c : calls.Call) (p : Plan) (g : givenRefusa
           places-kept : take 2048 (drop 512 image) ≡ placesOf (old .sync .stalledPeers)
           places-kept = part-same 512 2048 regionAt image area (omega arith) front ∙ places-held area (given-facts .stateSize) bytes (given-facts .image)
 
-          image-finished : completed (counted (p .head) (counts .pending) (counts .evicted)) (placesOf (stalledThen (p .stalling) (old .sync .stalledPeers))) image ≡ encode new
+          image-finished :
+              completed (counted (p .head) (counts .pending) (counts .evicted)) (placesOf (stalledThen (p .stalling) (old .sync .stalledPeers))) image ≡ encode new
           image-finished =
               let h : counted (p .head) (counts .pending) (counts .evicted) ≡ headOf new =
-              head-after old c p f (counts .pending) (counts .evicted) (ap (λ (k : Counts). k .pending) counts-are) (ap (λ (k : Counts). k .evicted) counts-are) in
-              let s : stalledThen (p .stalling) (old .sync .stalledPeers) ≡ new .sync .stalledPeers = stalled-then old c (p .stalling) (old .sync .stalledPeers) refl ∙ stalled-is old c p f in
-              let r : regionOf (w .pending) (w .evicted) ≡ regionOf (new .pending) (new .sync .evicted) = rw (carried-pending old c p f, carried-evicted old c p f) in
+              head-after old c p f (counts .pending) (counts .evicted)
+              (ap (λ (k : Counts). k .pending) counts-are) (ap (λ (k : Counts). k .evicted) counts-are) in
+              let s : stalledThen (p .stalling) (old .sync .stalledPeers) ≡ new .sync .stalledPeers =
+              stalled-then old c (p .stalling) (old .sync .stalledPeers) refl ∙ stalled-is old c p f in
+              let r : regionOf (w .pending) (w .evicted) ≡ regionOf (new .pending) (new .sync .evicted) =
+              rw (carried-pending old c p f, carried-evicted old c p f) in
               let e₁ : take 438 (drop 74 image) ≡ take 438 (drop 74 (encode old)) =
-              part-same 74 438 regionAt image area (omega arith) front ∙ ap (λ (x : List ℕ). take 438 (drop 74 x)) (sym (area-encode area (given-facts .stateSize) bytes (given-facts .image))) in
+              part-same 74 438 regionAt image area (omega arith) front
+              ∙ ap (λ (x : List ℕ). take 438 (drop 74 x)) (sym (area-encode area (given-facts .stateSize) bytes (given-facts .image))) in
               ap (λ (x : Head). completed x (placesOf (stalledThen (p .stalling) (old .sync .stalledPeers))) image) h
               ∙ ap (λ (x : List ℕ). completed (headOf new) (placesOf x) image) s
               ∙ completed-encode old new (well-sized old well) (well-sized new (step-well old c well width not-refused-call)) image e₁ (back ∙ r)
 
         -- the commands
         commands-finished : (out out₁ commands′ : List ℕ) → areaSize ≤ length out → out₁ ≡ overwritten 0 (sentBytes 0 (w .sendings)) out
-            → commands′
-            ≡ take (counts .at + length (sentBytes (counts .batch) (said (listedPeer (p .says))))) (overwritten (counts .at) (sentBytes (counts .batch) (said (listedPeer (p .says)))) out₁)
-            ++ drop (counts .at + length (sentBytes (counts .batch) (said (listedPeer (p .says))))) commands
+            → CopiedBack p counts out₁ commands commands′
             → commands′ ≡ overwritten 0 (stepBytes old (argsOf c)) commands
         commands-finished out out₁ commands′ room o e =
-            front-written (sentBytes 0 (w .sendings)) (sentBytes (counts .batch) (said (listedPeer (p .says)))) (stepBytes old (argsOf c)) out out₁ commands commands′ (counts .at)
+            front-written (sentBytes 0 (w .sendings)) (last p counts) (stepBytes old (argsOf c)) out out₁ commands commands′ (counts .at)
             bytes-are at-is (let m = step-bytes-most old c well width not-refused-call in omega arith) o e
 
         answer-finished : (answer : calls.Answer)
-            → answer ≡ record { number = 0; outcome = p .outcome; retried = counts .retried; fresh = counts .fresh; abandoned = counts .abandoned; forgotten = counts .forgotten; pending = counts .pending; evicted = counts .evicted; length = counts .at + length (sentBytes (counts .batch) (said (listedPeer (p .says)))) }
+            → answer ≡ answered p counts
             → answer ≡ stepAnswer old (argsOf c)
         unfolding stepAnswer
         answer-finished answer e =
-            let retried′ : counts .retried ≡ steps.countOf old (argsOf c) delivery.retried = ap (λ (k : Counts). k .retried) counts-are ∙ carried-retried old c p f in
+            let retried′ : counts .retried ≡ steps.countOf old (argsOf c) delivery.retried =
+            ap (λ (k : Counts). k .retried) counts-are ∙ carried-retried old c p f in
             let fresh′ : counts .fresh ≡ steps.freshCount old (argsOf c) = ap (λ (k : Counts). k .fresh) counts-are ∙ carried-fresh old c p f in
-            let abandoned′ : counts .abandoned ≡ steps.countOf old (argsOf c) delivery.abandoned = ap (λ (k : Counts). k .abandoned) counts-are ∙ carried-abandoned old c p f in
-            let forgotten′ : counts .forgotten ≡ steps.countOf old (argsOf c) delivery.forgotten = ap (λ (k : Counts). k .forgotten) counts-are ∙ carried-forgotten old c p f in
-            let pending′ : counts .pending ≡ length (new .pending) = ap (λ (k : Counts). k .pending) counts-are ∙ ap length (carried-pending old c p f) in
-            let evicted′ : counts .evicted ≡ length (new .sync .evicted) = ap (λ (k : Counts). k .evicted) counts-are ∙ ap length (carried-evicted old c p f) in
+            let abandoned′ : counts .abandoned ≡ steps.countOf old (argsOf c) delivery.abandoned =
+            ap (λ (k : Counts). k .abandoned) counts-are ∙ carried-abandoned old c p f in
+            let forgotten′ : counts .forgotten ≡ steps.countOf old (argsOf c) delivery.forgotten =
+            ap (λ (k : Counts). k .forgotten) counts-are ∙ carried-forgotten old c p f in
+            let pending′ : counts .pending ≡ length (new .pending) =
+            ap (λ (k : Counts). k .pending) counts-are ∙ ap length (carried-pending old c p f) in
+            let evicted′ : counts .evicted ≡ length (new .sync .evicted) =
+            ap (λ (k : Counts). k .evicted) counts-are ∙ ap length (carried-evicted old c p f) in
             e ∙ same-answer (outcome-is old c p f) retried′ fresh′ abandoned′ forgotten′ pending′ evicted′ end-is
 
         -- Both areas and the answer.
-        pub finishes : (head : Head) → head ≡ headIn area → (image out out₁ state′ commands′ : List ℕ) (answer : calls.Answer) → take regionAt image ≡ take regionAt area → drop regionAt image ≡ regionOf (w .pending) (w .evicted)
+        pub finishes : (head : Head) → head ≡ headIn area → (image out out₁ state′ commands′ : List ℕ) (answer : calls.Answer)
+            → take regionAt image ≡ take regionAt area
+            → drop regionAt image ≡ regionOf (w .pending) (w .evicted)
             → areaSize ≤ length out → out₁ ≡ overwritten 0 (sentBytes 0 (w .sendings)) out
-            → ((peers : List ℕ) → length peers ≡ head .stalled → take 2048 (drop 512 image) ≡ placesOf peers
-            → state′ ≡ completed (counted (p .head) (counts .pending) (counts .evicted)) (placesOf (stalledThen (p .stalling) peers)) image)
-            → commands′
-            ≡ take (counts .at + length (sentBytes (counts .batch) (said (listedPeer (p .says))))) (overwritten (counts .at) (sentBytes (counts .batch) (said (listedPeer (p .says)))) out₁)
-            ++ drop (counts .at + length (sentBytes (counts .batch) (said (listedPeer (p .says))))) commands
-            → answer ≡ record { number = 0; outcome = p .outcome; retried = counts .retried; fresh = counts .fresh; abandoned = counts .abandoned; forgotten = counts .forgotten; pending = counts .pending; evicted = counts .evicted; length = counts .at + length (sentBytes (counts .batch) (said (listedPeer (p .says)))) }
+            → ImageSettled p counts (head .stalled) image state′
+            → CopiedBack p counts out₁ commands commands′
+            → answer ≡ answered p counts
             → record { answer = answer; state = state′; commands = commands′ } ≡ step area commands c
         finishes head h image out out₁ state′ commands′ answer front back room o s k a =
-            let s′ : state′ ≡ encode new = s (old .sync .stalledPeers) (stalled-before ∙ sym (ap (λ (x : Head). x .stalled) h)) (places-kept image front back) ∙ image-finished image front back in
+            let as-many : length (old .sync .stalledPeers) ≡ head .stalled = stalled-before ∙ sym (ap (λ (x : Head). x .stalled) h) in
+            let s′ : state′ ≡ encode new = s (old .sync .stalledPeers) as-many (places-kept image front back) ∙ image-finished image front back in
             let k′ : commands′ ≡ overwritten 0 (stepBytes old (argsOf c)) commands = commands-finished out out₁ commands′ room o k in
             let a′ : answer ≡ stepAnswer old (argsOf c) = answer-finished answer a in
             same-result a′ s′ k′ ∙ sym (ends-finished area commands c g seen tracked stalled-few)

@@ -30,8 +30,10 @@ add-result c = search needs
 
 returns : tie.Need-returns
 returns c =
-    let a = c .before .before .before .before .before .args in
-    let high = c .before .before .wide in
+    let s : tie.Start = search in
+    let first : tie.After-wide = search in
+    let a = s .args in
+    let high = first .wide in
     let low = c .wide2 in (
       low-parts (a .s .now) (a .at) 1 (a .at + 1) 1 2 (low .result) (high .result) _ refl refl (omega arith) (omega arith)
           (low-one (a .s .now) (a .at) (low .result) (omega arith) (low .ensures .1) (low .ensures .0))

@@ -32,12 +32,15 @@ add-result c = search needs
 
 returns : tie.Need-returns
 returns c =
-    let s = c .before .before .before .before .before in
+    let s : tie.Start = search in
+    let first : tie.After-wide = search in
     let bytes = s .args .s .now in
     let at = s .args .at in
     let h : at + 2 ≤ length bytes = s .pre in
-    let e : fromBe (take (1 + 1) (drop at bytes)) ≡ fromBe (take 1 (drop at bytes)) * 256 ^ 1 + fromBe (take 1 (drop (at + 1) bytes)) = fromBe-split 1 1 at bytes h in
-    omega (arith, e, fromBe-one at bytes (omega arith), fromBe-one (at + 1) bytes (omega arith), c .wide2 .ensures, c .before .before .wide .ensures)
+    let e : fromBe (take (1 + 1) (drop at bytes)) ≡ fromBe (take 1 (drop at bytes)) * 256 ^ 1 + fromBe (take 1 (drop (at + 1) bytes)) =
+    fromBe-split 1 1 at bytes h
+    in
+    omega (arith, e, fromBe-one at bytes (omega arith), fromBe-one (at + 1) bytes (omega arith), c .wide2 .ensures, first .wide .ensures)
 
 pub pair-spec : {M : Type 1} → statement M
 pair-spec =

@@ -48,11 +48,15 @@ add-result-3 c = search needs
 
 returns : tie.Need-returns
 returns c =
-    let a = c .before .before .before .before .before .args in
+    let s : tie.Start = search in
+    let sixth : tie.After-low-pair = search in
+    let fourth : tie.After-low-pair2 = search in
+    let second : tie.After-low-pair3 = search in
+    let a = s .args in
     let p = c .low-pair4 in
-    let q = c .before .low-pair3 in
-    let r = c .before .before .low-pair2 in
-    let t = c .before .before .before .low-pair in
+    let q = second .low-pair3 in
+    let r = fourth .low-pair2 in
+    let t = sixth .low-pair in
     let last : ℕ = t .result * 65536 + r .result in
     let behind : ℕ = last * 65536 + q .result in
     low-parts (a .s .now) (a .at) 2 (a .at + 2) 6 8 (p .result) behind _ refl refl (omega arith) (p .ensures .1) (p .ensures .0)

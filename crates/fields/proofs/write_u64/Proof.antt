@@ -15,9 +15,12 @@ same-length c = search needs
 
 returns : tie.Need-returns
 returns c =
-    let a = c .before .before .before .before .before .before .args in
-    let t = c .before .before .before .turned in
-    let w = c .before .before .write-low-first in
+    let s : tie.Start = search in
+    let turn : tie.After-turned = search in
+    let write : tie.After-write-low-first = search in
+    let a = s .args in
+    let t = turn .turned in
+    let w = write .write-low-first in
     low-turned (a .at) 8 (a .n) (t .result) (a .s .now) (w .last .0) (t .ensures) (w .ensures)
 
 pub write-u64-spec : {M : Type 1} → statement M

@@ -1,11 +1,6 @@
 -- By the length of the area, and what `open` ensures.
 use borrow.Author.Needs.{needs}
 use borrow.Author.Tests.{eq-eqb, ne-eqb}
-use mathlib.Core.Path.{_≡_, refl}
-use mathlib.Core.Bool.{true, false}
-use lib.ListN.{length}
-use lib.Dec.{eqb}
-use Rattle.model.specs.Calls.{open'}
 use Rattle.settings.specs.Values.{settingsOf}
 use Rattle.request_keeper.proofs.EntryLaws.{opened-here, not-opened}
 use Rattle.request_keeper.proofs.request_keeper_open.Statement.{statement}
@@ -22,7 +17,10 @@ same-length c = search needs
 
 returns-2 : tie.Need-returns-2
 unfolding settingsOf
-returns-2 c = opened-here _ _ _ (eq-eqb _ _ (c .before .before .before .before .if1 .left)) (c .before .before .«open» .ensures)
+returns-2 c =
+    let long : tie.Else1 = search in
+    let opened : tie.After-open = search in
+    opened-here _ _ _ (eq-eqb _ _ (long .if1 .left)) (opened .«open» .ensures)
 
 pub request-keeper-open-spec : {M : Type 1} → statement M
 request-keeper-open-spec = tie.close (tie.spec returns open-requires same-length returns-2)

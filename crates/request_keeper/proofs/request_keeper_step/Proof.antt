@@ -1,7 +1,6 @@
 -- The refusals 1 to 8 decide; behind them `run` has the equation.
 use borrow.Author.Needs.{needs}
 use borrow.Author.Tests.{ne-eqb}
-use mathlib.Core.Path.{sym, _∙_}
 use Rattle.plan.specs.Plans.{callOf}
 use Rattle.request_keeper.proofs.EntryLaws.{not-stepped}
 use Rattle.request_keeper.proofs.request_keeper_step.Statement.{statement}
@@ -19,8 +18,10 @@ same-length c = search needs
 returns : tie.Need-returns
 unfolding callOf
 returns c =
-    let r = c .before .before .step-refusal in
-    not-stepped _ _ _ (r .result) _ (r .ensures) (ne-eqb _ _ (c .before .if1 .taken)) (c .refused .ensures)
+    let decided : tie.After-step-refusal = search in
+    let stops : tie.Then1 = search in
+    let r = decided .step-refusal in
+    not-stepped _ _ _ (r .result) _ (r .ensures) (ne-eqb _ _ (stops .if1 .taken)) (c .refused .ensures)
 
 run-requires : tie.Need-run-requires
 run-requires c κs = search needs
@@ -33,7 +34,7 @@ same-length-3 c = search needs
 
 returns-2 : tie.Need-returns-2
 unfolding callOf
-returns-2 c = c .before .before .before .before .run .ensures
+returns-2 c = let ran : tie.After-run = search in ran .run .ensures
 
 pub request-keeper-step-spec : {M : Type 1} → statement M
 request-keeper-step-spec =

@@ -5,7 +5,7 @@ use Rattle.model.specs.Image.{decode}
 use Rattle.model.specs.Calls as calls
 use Rattle.plan.specs.declared.Plan.{Plan}
 use Rattle.plan.specs.Plans.{callOf, Follows}
-use Rattle.step.specs.Planned.{lists, Planned}
+use Rattle.step.specs.Planned.{Lists, lists, Planned}
 use Rattle.step.proofs.StepLaws.{unseen}
 use Rattle.step.proofs.WorkLaws.{area-long, plan-ready, plan-follows}
 use borrow.Author.Needs.{needs}
@@ -32,11 +32,16 @@ module _ (s : tie.Start) where
   abbrev commands : List ℕ
   commands = s .args .commands .now
 
+  abbrev lent : Lists
+  lent = lists (s .args .ids .now) (s .args .continuation .now) (s .args .stored .now) (s .args .peers .now) (s .args .view .now)
+
   abbrev call : calls.Call
   call = callOf (s .args .call) (s .args .ids .now) (s .args .continuation .now) (s .args .stored .now) (s .args .peers .now) (s .args .view .now)
 
   long : length area ≡ areaSize
-  long = area-long (s .args .call) (s .args .ids .now) (s .args .continuation .now) (s .args .stored .now) (s .args .peers .now) (s .args .view .now) area commands (s .pre)
+  long =
+      area-long (s .args .call) (s .args .ids .now) (s .args .continuation .now) (s .args .stored .now) (s .args .peers .now) (s .args .view .now)
+      area commands (s .pre)
 
 -- ---- the header read
 
@@ -56,12 +61,13 @@ module _ (c : tie.After-plan-step) where
   follows : Follows (decode (area (start header))) (call (start header)) plan
   follows =
       let a = start header .args in
-      plan-follows (a .call) (a .ids .now) (a .continuation .now) (a .stored .now) (a .peers .now) (a .view .now) (a .state .now) (a .commands .now) (start header .pre)
+      plan-follows (a .call) (a .ids .now) (a .continuation .now) (a .stored .now) (a .peers .now) (a .view .now)
+      (a .state .now) (a .commands .now) (start header .pre)
       (header .read-head .result) (header .read-head .ensures) plan (c .plan-step .ensures)
 
   planned : plan .seen ≡ true
       → Planned (area (start header)) (commands (start header)) (header .read-head .result) plan (start header .args .call)
-      (lists (start header .args .ids .now) (start header .args .continuation .now) (start header .args .stored .now) (start header .args .peers .now) (start header .args .view .now))
+      (lent (start header))
   planned seen = record { given = start header .pre; read = header .read-head .ensures; follows = follows; seen = seen }
 
 -- ---- the needs
@@ -83,7 +89,8 @@ plan-step-requires c κs =
     let h : tie.After-read-head = search in
     let s = start h in
     let a = s .args in
-    plan-ready (a .call) (a .ids .now) (a .continuation .now) (a .stored .now) (a .peers .now) (a .view .now) (area s) (commands s) (s .pre) (h .read-head .result) (h .read-head .ensures)
+    plan-ready (a .call) (a .ids .now) (a .continuation .now) (a .stored .now) (a .peers .now) (a .view .now)
+    (area s) (commands s) (s .pre) (h .read-head .result) (h .read-head .ensures)
 
 refused-requires : tie.Need-refused-requires
 refused-requires c κs = search needs

@@ -14,7 +14,8 @@ unfolding headOf headBy steps.continues steps.unmarked argsOf
 returns c = (
   refl,
   λ st call h e.
-      sketched st call _ (steps.continues st (argsOf call) (actsBy st call (c .args .head .downloaded) (c .args .work))) refl (rw (sym h, e)) (append-nil (actsBy st call (c .args .head .downloaded) (c .args .work))) refl refl,
+      let acts = actsBy st call (c .args .head .downloaded) (c .args .work) in
+      sketched st call _ (steps.continues st (argsOf call) acts) refl (rw (sym h, e)) (append-nil acts) refl refl,
 )
 
 pub continues-spec : {M : Type 1} → statement M

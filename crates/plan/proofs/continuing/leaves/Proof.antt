@@ -14,7 +14,8 @@ unfolding headOf headBy steps.leaves steps.withoutPeer argsOf
 returns c = (
   refl,
   λ st call o m h e eo em.
-      sketched st call _ (steps.leaves st (argsOf call) o m (actsBy st call (c .args .head .downloaded) (c .args .work))) (sym eo) (rw (sym h, e, em)) (append-nil (actsBy st call (c .args .head .downloaded) (c .args .work))) refl refl,
+      let acts = actsBy st call (c .args .head .downloaded) (c .args .work) in
+      sketched st call _ (steps.leaves st (argsOf call) o m acts) (sym eo) (rw (sym h, e, em)) (append-nil acts) refl refl,
 )
 
 pub leaves-spec : {M : Type 1} → statement M

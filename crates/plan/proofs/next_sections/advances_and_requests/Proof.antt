@@ -24,19 +24,26 @@ sections-work-requires c κs = search needs
 returns : tie.Need-returns
 unfolding headOf headBy steps.advancesAndRequests steps.sectionsFrom steps.unmarked argsOf
 returns c =
-    let a = c .before .before .before .before .before .before .args in
-    let r = c .before .before .before .advance-downloaded-height in
-    let seen = c .before .before .sections-seen in
-    let work = c .before .sections-work in (
+    let s : tie.Start = search in
+    let five : tie.After-advance-downloaded-height = search in
+    let look : tie.After-sections-seen = search in
+    let four : tie.After-sections-work = search in
+    let a = s .args in
+    let r = five .advance-downloaded-height in
+    let seen = look .sections-seen in
+    let work = four .sections-work in (
       work .ensures,
       λ st call h e eh ep ev.
           let to = reached st call (a .from) (r .result) (a .view .now) (a .height) eh ev (r .ensures) in
-          let s : seen .result ≡ steps.sectionsFrom st (argsOf call) (steps.advanceFrom st (argsOf call) (a .from) .height) .inView = seen-by st call (r .result .height) (seen .result) (a .peers .now) (a .view .now) (a .height) eh ep ev (seen .ensures) ∙ rw (to .height) in
+          let sees : seen .result ≡ steps.sectionsFrom st (argsOf call) (steps.advanceFrom st (argsOf call) (a .from) .height) .inView =
+          seen-by st call (r .result .height) (seen .result) (a .peers .now) (a .view .now) (a .height) eh ep ev (seen .ensures) ∙ rw (to .height)
+          in
+          let asks = asked st call (a .purges) (r .result .height) (a .peers .now) (work .result) ep (work .ensures) in
           sketched st call _ (steps.advancesAndRequests st (argsOf call) (a .from)) refl
           (rw (to .height, sym h, e))
-          (append-nil (actsBy st call (r .result .height) (work .result)) ∙ asked st call (a .purges) (r .result .height) (a .peers .now) (work .result) ep (work .ensures) ∙ rw (to .height))
+          (append-nil (actsBy st call (r .result .height) (work .result)) ∙ asks ∙ rw (to .height))
           refl
-          (ap (λ b. b && seen .result) (to .seen) ∙ ap (λ b. steps.advanceFrom st (argsOf call) (a .from) .inView && b) s),
+          (ap (λ b. b && seen .result) (to .seen) ∙ ap (λ b. steps.advanceFrom st (argsOf call) (a .from) .inView && b) sees),
     )
 
 pub advances-and-requests-spec : {M : Type 1} → statement M

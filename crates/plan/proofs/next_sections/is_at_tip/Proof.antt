@@ -26,10 +26,13 @@ sections-work-requires c κs = search needs
 returns : tie.Need-returns
 unfolding headOf headBy steps.isAtTip steps.sectionsFrom argsOf
 returns c =
-    let a = c .before .before .before .before .before .before .args in
-    let seen = c .before .sections-seen in
+    let s : tie.Start = search in
+    let syncing : tie.Then1 = search in
+    let look : tie.After-sections-seen = search in
+    let a = s .args in
+    let seen = look .sections-seen in
     let work = c .sections-work in
-    let t : a .head .mode ≡ 2 = c .before .before .if1 .taken in (
+    let t : a .head .mode ≡ 2 = syncing .if1 .taken in (
       rw (eq-eqb _ _ t) (work .ensures),
       (
         refl,
@@ -37,9 +40,10 @@ returns c =
             let m = is-mode st (a .head) h 2 t in
             let d : a .head .downloaded ≡ st .sync .downloaded = rw (sym h) in
             let before = announceTo (listedPeer (a .announces)) (idsIn (call .continuation)) in
+            let asks = asked st call false (st .sync .downloaded) (a .peers .now) (work .result) ep (work .ensures) in
             sketched st call _ (steps.isAtTip st (argsOf call) before (a .tip)) refl
             (rw (sym h, e))
-            (rw (m, d) (ap (λ l. before ++ l) (append-nil (actsBy st call (st .sync .downloaded) (work .result)) ∙ asked st call false (st .sync .downloaded) (a .peers .now) (work .result) ep (work .ensures))))
+            (rw (m, d) (ap (λ l. before ++ l) (append-nil (actsBy st call (st .sync .downloaded) (work .result)) ∙ asks)))
             refl
             (rw (m, sym d) (seen-by st call (a .head .downloaded) (seen .result) (a .peers .now) (a .view .now) (a .height) eh ep ev (seen .ensures))),
       ),
@@ -48,7 +52,8 @@ returns c =
 returns-2 : tie.Need-returns-2
 unfolding headOf headBy steps.isAtTip steps.sectionsFrom argsOf
 returns-2 c =
-    let a = c .before .before .before .before .args in
+    let s : tie.Start = search in
+    let a = s .args in
     let t : a .head .mode ≡ 2 → ⊥ = c .if1 .left in (
       rw (ne-eqb _ _ t),
       (

@@ -23,8 +23,10 @@ says-if-requires c κs = search needs
 returns : tie.Need-returns
 unfolding headOf headBy settingsOf sendClockOf clockFrom steps.entersSyncing argsOf
 returns c =
-    let a = c .before .before .before .before .before .args in
-    let r = c .before .before .send-by in (
+    let s : tie.Start = search in
+    let send : tie.After-send-by = search in
+    let a = s .args in
+    let r = send .send-by in (
       refl,
       (
         refl,

@@ -23,8 +23,10 @@ says-if-requires c κs = search needs
 returns : tie.Need-returns
 unfolding headOf headBy clockFrom steps.answers steps.unmarked steps.sent steps.sayTo argsOf
 returns c =
-    let a = c .before .before .before .before .before .args in
-    let r = c .before .before .send-by in (
+    let s : tie.Start = search in
+    let send : tie.After-send-by = search in
+    let a = s .args in
+    let r = send .send-by in (
       refl,
       (
         refl,

@@ -1,7 +1,6 @@
--- Each outcome by the part that it leads to.
+-- Each outcome by the part that it leads to: `answered-alike`.
 use borrow.Author.Needs.{needs}
 use mathlib.Core.Path.{ap}
-use Rattle.model.specs.Events as events
 use Rattle.plan_messages.specs.Heard.{outcomeOf}
 use Rattle.plan_messages.proofs.MessageLaws.{answered-alike, quiet-tip}
 use Rattle.model.specs.Peers.{firstOf}
@@ -32,33 +31,39 @@ falls-behind-requires c κs = search needs
 
 returns : tie.Need-returns
 returns c =
-    let a = c .before .before .before .before .before .args in
+    let s : tie.Start = search in
+    let a = s .args in
+    let told : tie.After-enum-told = search in
     let r = c .replies in (
       rw (r .ensures .0),
       λ st d h n ep ev.
           let m = numbers d (a .call) n in
-          answered-alike st d _ _ (a .tip) (a .call .peer) (d .peer) events.Continue (outcomeOf (a .heard)) (r .ensures .1 .1 st d h (m .clock)) (m .peer) (ap outcomeOf (c .before .enum-told .given .1)),
+          answered-alike st d _ _ (a .tip) (r .ensures .1 .1 st d h (m .clock)) (m .peer) (ap outcomeOf (told .enum-told .given .1)),
     )
 
 returns-2 : tie.Need-returns-2
 unfolding steps.answers
 returns-2 c =
-    let a = c .before .before .before .before .before .args in
+    let s : tie.Start = search in
+    let a = s .args in
+    let told : tie.After-enum-told2 = search in
     let r = c .is-at-tip in (
       rw (r .ensures .0) (quiet-tip (eqb (a .head .mode) 2) (firstOf (peersIn (a .peers .now)))),
       λ st d h n ep ev.
           let m = numbers d (a .call) n in
-          answered-alike st d _ _ (a .tip) (a .call .peer) (d .peer) events.Synced (outcomeOf (a .heard)) (r .ensures .1 .1 st d h (m .clock) (m .height) ep ev) (m .peer) (ap outcomeOf (c .before .enum-told2 .given .1)),
+          answered-alike st d _ _ (a .tip) (r .ensures .1 .1 st d h (m .clock) (m .height) ep ev) (m .peer) (ap outcomeOf (told .enum-told2 .given .1)),
     )
 
 returns-3 : tie.Need-returns-3
 returns-3 c =
-    let a = c .before .before .before .before .before .args in
+    let s : tie.Start = search in
+    let a = s .args in
+    let told : tie.After-enum-told3 = search in
     let r = c .falls-behind in (
       rw (r .ensures .0),
       λ st d h n ep ev.
           let m = numbers d (a .call) n in
-          answered-alike st d _ _ (a .tip) (a .call .peer) (d .peer) events.BehindPeer (outcomeOf (a .heard)) (r .ensures .1 st d h (m .clock)) (m .peer) (ap outcomeOf (c .before .enum-told3 .given .1)),
+          answered-alike st d _ _ (a .tip) (r .ensures .1 st d h (m .clock)) (m .peer) (ap outcomeOf (told .enum-told3 .given .1)),
     )
 
 pub answers-spec : {M : Type 1} → statement M

@@ -20,7 +20,8 @@ returns c =
     let r = c .enters-syncing in (
       r .ensures .0,
       λ st call h e.
-          r .ensures .1 .1 st call BehindPeer (st .lastClock) (st .mode) (withKnownTip (withStalledPeers (steps.unmarked st (argsOf call)) []) (c .before .args .tip)) (rw (sym h)) e refl refl,
+          let sync = withKnownTip (withStalledPeers (steps.unmarked st (argsOf call)) []) (c .before .args .tip) in
+          r .ensures .1 .1 st call BehindPeer (st .lastClock) (st .mode) sync (rw (sym h)) e refl refl,
     )
 
 pub falls-behind-spec : {M : Type 1} → statement M

@@ -1,4 +1,4 @@
--- By what is made of it: tip, announcement and outcome.
+-- By what is made of it, tip, announcement and outcome: `heard-by`.
 use borrow.Author.Needs.{needs}
 use mathlib.Core.Path.{ap, _∙_}
 use Rattle.peers.specs.Peers.{listedPeer}
@@ -28,14 +28,18 @@ answers-requires c κs = search needs
 returns : tie.Need-returns
 unfolding headOf
 returns c =
-    let a = c .before .before .before .before .before .before .before .before .before .before .before .args in
-    let tip = c .before .before .before .before .before .before .raised-tip in
-    let goes = c .before .before .before .before .before .continues-chain in
-    let announces = c .before .before .before .before .says-if in
-    let heard = c .before .tip-outcome in (
+    let s : tie.Start = search in
+    let raised : tie.After-raised-tip = search in
+    let chain : tie.After-continues-chain = search in
+    let say : tie.After-says-if = search in
+    let comes : tie.After-tip-outcome = search in
+    let tip = raised .raised-tip in
+    let goes = chain .continues-chain in
+    let announces = say .says-if in
+    let heard = comes .tip-outcome in (
       c .answers .ensures .0,
       λ st d h n ep ev.
-          let m = numbers d (a .call) n in
+          let m = numbers d (s .args .call) n in
           c .answers .ensures .1 st d h n ep ev
           ∙ ap (λ p. sketchOf st d p)
           (heard-by st d (goes .result) (tip .result) (outcomeOf (heard .result)) (listedPeer (announces .result))

@@ -1,4 +1,4 @@
--- By the definition, in each case.
+-- By the definition, in each case of `all_stalled`.
 use borrow.Author.Needs.{needs}
 use borrow.Author.Tests.{not-true, not-false}
 use mathlib.Core.Path.{_≡_, sym, ap, _∙_}
@@ -13,16 +13,26 @@ all-stalled-requires c κs = search needs
 
 returns : tie.Need-returns
 unfolding stalledAfterSelect
-returns c = λ st call es.
-    let peers = peersIn (c .before .before .before .args .peers .now) in
-    let t : isSome (firstUnstalled (st .sync .stalledPeers) peers) ≡ false = ap (λ l. isSome (firstUnstalled l peers)) es ∙ not-true _ (sym (c .before .all-stalled .ensures) ∙ c .if1 .taken) in
+returns c =
+    let s : tie.Start = search in
+    let all : tie.After-all-stalled = search in
+    let peers = peersIn (s .args .peers .now) in
+    λ st call es.
+    let t : isSome (firstUnstalled (st .sync .stalledPeers) peers) ≡ false =
+    ap (λ l. isSome (firstUnstalled l peers)) es ∙ not-true _ (sym (all .all-stalled .ensures) ∙ c .if1 .taken)
+    in
     rw t
 
 returns-2 : tie.Need-returns-2
 unfolding stalledAfterSelect
-returns-2 c = λ st call es.
-    let peers = peersIn (c .before .before .before .args .peers .now) in
-    let t : isSome (firstUnstalled (st .sync .stalledPeers) peers) ≡ true = ap (λ l. isSome (firstUnstalled l peers)) es ∙ not-false _ (sym (c .before .all-stalled .ensures) ∙ c .if1 .left) in
+returns-2 c =
+    let s : tie.Start = search in
+    let all : tie.After-all-stalled = search in
+    let peers = peersIn (s .args .peers .now) in
+    λ st call es.
+    let t : isSome (firstUnstalled (st .sync .stalledPeers) peers) ≡ true =
+    ap (λ l. isSome (firstUnstalled l peers)) es ∙ not-false _ (sym (all .all-stalled .ensures) ∙ c .if1 .left)
+    in
     rw t
 
 pub selecting-spec : {M : Type 1} → statement M

@@ -20,9 +20,9 @@ progresses-syncing-requires c κs = search needs
 
 returns : tie.Need-returns
 returns c =
-    let a = c .before .before .before .before .before .args in
+    let s : tie.Start = search in
     let r = c .progresses-syncing in
-    (r .ensures .0, λ st call h e eh ep ev. rw (is-mode st (a .head) h 2 (c .before .if1 .taken)) (r .ensures .1 st call h e eh ep ev))
+    (r .ensures .0, λ st call h e eh ep ev. rw (is-mode st (s .args .head) h 2 (c .before .if1 .taken)) (r .ensures .1 st call h e eh ep ev))
 
 sections-seen-requires : tie.Need-sections-seen-requires
 sections-seen-requires c κs = search needs
@@ -33,16 +33,20 @@ sections-work-requires c κs = search needs
 returns-2 : tie.Need-returns-2
 unfolding headOf headBy steps.progresses steps.unmarked argsOf
 returns-2 c =
-    let a = c .before .before .before .before .before .before .args in
-    let seen = c .before .sections-seen in
+    let s : tie.Start = search in
+    let elsewhere : tie.Else1 = search in
+    let look : tie.After-sections-seen = search in
+    let a = s .args in
+    let seen = look .sections-seen in
     let work = c .sections-work in (
       rw (work .ensures) (quiet-sections (firstOf (peersIn (a .peers .now)))),
       λ st call h e eh ep ev.
           let d = downloaded-of st (a .head) h in
-          rw (not-mode st (a .head) h 2 (c .before .before .if1 .left))
+          let asks = asked st call false (a .head .downloaded) (a .peers .now) (work .result) ep (work .ensures) in
+          rw (not-mode st (a .head) h 2 (elsewhere .if1 .left))
           (sketched st call _ (steps.progresses st (argsOf call) false) refl
           (rw (sym h, e))
-          (append-nil (actsBy st call (a .head .downloaded) (work .result)) ∙ asked st call false (a .head .downloaded) (a .peers .now) (work .result) ep (work .ensures) ∙ rw d)
+          (append-nil (actsBy st call (a .head .downloaded) (work .result)) ∙ asks ∙ rw d)
           refl
           (seen-by st call (a .head .downloaded) (seen .result) (a .peers .now) (a .view .now) (a .height) eh ep ev (seen .ensures) ∙ rw d)),
     )

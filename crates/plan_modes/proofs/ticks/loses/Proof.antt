@@ -23,8 +23,10 @@ continues-requires c κs = search needs
 returns : tie.Need-returns
 unfolding steps.loses
 returns c =
-    let a = c .before .before .before .before .args in
-    let t : a .peer ≡ a .head .peer → ⊥ = c .before .if1 .taken in (
+    let s : tie.Start = search in
+    let other : tie.Then1 = search in
+    let a = s .args in
+    let t : a .peer ≡ a .head .peer → ⊥ = other .if1 .taken in (
       rw (ne-eqb _ _ t) (c .continues .ensures .0),
       λ st call h e ep.
           let p : eqb (a .peer) (st .sync .syncPeer) ≡ false = ne-eqb _ _ (λ x. t (x ∙ sym (peer-of st (a .head) h))) in
@@ -37,9 +39,12 @@ leaves-requires c κs = search needs
 returns-2 : tie.Need-returns-2
 unfolding steps.loses
 returns-2 c =
-    let a = c .before .before .before .before .before .before .args in
-    let t : a .peer ≡ a .head .peer = c .before .before .before .if1 .left in
-    let u : a .head .mode ≡ 2 → ⊥ = c .before .if2 .taken in (
+    let s : tie.Start = search in
+    let its : tie.Else1 = search in
+    let elsewhere : tie.Then2 = search in
+    let a = s .args in
+    let t : a .peer ≡ a .head .peer = its .if1 .left in
+    let u : a .head .mode ≡ 2 → ⊥ = elsewhere .if2 .taken in (
       rw (eq-eqb _ _ t, ne-eqb _ _ u) (c .leaves .ensures .0),
       λ st call h e ep.
           let p : eqb (a .peer) (st .sync .syncPeer) ≡ true = eq-eqb _ _ (t ∙ peer-of st (a .head) h) in
@@ -55,18 +60,25 @@ leaves-requires-2 c κs = search needs
 returns-3 : tie.Need-returns-3
 unfolding steps.loses argsOf
 returns-3 c =
-    let a = c .before .before .before .before .before .before .before .args in
-    let t : a .peer ≡ a .head .peer = c .before .before .before .before .if1 .left in
-    let u : a .head .mode ≡ 2 = c .before .before .if2 .left in
+    let s : tie.Start = search in
+    let its : tie.Else1 = search in
+    let here : tie.Else2 = search in
+    let a = s .args in
+    let t : a .peer ≡ a .head .peer = its .if1 .left in
+    let u : a .head .mode ≡ 2 = here .if2 .left in
     let work = c .before .lose-work in (
       rw (eq-eqb _ _ t, eq-eqb _ _ u) (c .leaves2 .ensures .0 ∙ work .ensures),
       λ st call h e ep.
           let same = t ∙ peer-of st (a .head) h in
           let p : eqb (a .peer) (st .sync .syncPeer) ≡ true = eq-eqb _ _ same in
-          let asked : actsBy st call (a .head .downloaded) (work .result) ≡ steps.askOrphans st (argsOf call) (st .sync .syncPeer) (firstOf (peersIn (call .peers))) = rw (work .ensures, sym ep) (lost-asked st call (a .head .downloaded) (firstOf (peersIn (call .peers)))) in
+          let first = firstOf (peersIn (call .peers)) in
+          let asked : actsBy st call (a .head .downloaded) (work .result) ≡ steps.askOrphans st (argsOf call) (st .sync .syncPeer) first =
+          rw (work .ensures, sym ep) (lost-asked st call (a .head .downloaded) first)
+          in
           rw (p, is-mode st (a .head) h 2 u)
           (c .leaves2 .ensures .1 st call SyncPeerGone seeking h e refl refl
-          ∙ ap (λ l. sketchOf st call (steps.leaves st (argsOf call) SyncPeerGone seeking l)) (asked ∙ ap (λ x. steps.askOrphans st (argsOf call) x (firstOf (peersIn (call .peers)))) (sym same))),
+          ∙ ap (λ l. sketchOf st call (steps.leaves st (argsOf call) SyncPeerGone seeking l))
+          (asked ∙ ap (λ x. steps.askOrphans st (argsOf call) x first) (sym same))),
     )
 
 pub loses-spec : {M : Type 1} → statement M

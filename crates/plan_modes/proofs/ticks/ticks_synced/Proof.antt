@@ -1,13 +1,11 @@
 -- In each case of the first listed peer; rule 2 by SendLaws, rule 5 by its callee.
 use borrow.Author.Needs.{needs}
-use mathlib.Core.Path.{_≡_, refl, sym, ap, _∙_}
-use mathlib.Core.Option.{none, some}
+use mathlib.Core.Path.{refl, sym, ap, _∙_}
+use mathlib.Core.Option.{some}
 use Rattle.model.specs.Steps as steps
 use Rattle.model.specs.Calls.{argsOf}
 use Rattle.model.specs.State.{seeking}
 use Rattle.model.specs.Events.{SyncPeerGone}
-use Rattle.model.specs.Peers.{firstOf}
-use Rattle.model.specs.Lists.{peersIn}
 use Rattle.peers.specs.Peers.{listedPeer}
 use Rattle.image.specs.Heads.{headOf}
 use Rattle.plan.specs.Plans.{headBy}
@@ -33,8 +31,8 @@ leaves-requires c κs = search needs
 returns : tie.Need-returns
 unfolding steps.ticksSynced
 returns c =
-    let a = c .before .before .before .before .before .before .args in
-    let f : firstOf (peersIn (a .peers .now)) ≡ none = sym (c .before .before .before .first-listed .ensures) ∙ ap listedPeer (c .before .enum-told .given .1) in
+    let listed : tie.After-first-listed = search in
+    let f = sym (listed .first-listed .ensures) ∙ ap listedPeer (c .before .enum-told .given .1) in
     (rw (c .leaves .ensures .0), λ st call h e eh ep ev. rw f (c .leaves .ensures .1 st call SyncPeerGone seeking h e refl refl))
 
 send-by-requires : tie.Need-send-by-requires
@@ -49,10 +47,14 @@ advance-downloaded-height-requires c κs = search needs
 returns-2 : tie.Need-returns-2
 unfolding headOf headBy clockFrom steps.ticksSynced steps.unmarked steps.sent steps.sayTo argsOf
 returns-2 c =
-    let a = c .before .before .before .before .before .before .before .before .before .before .before .before .args in
-    let peer = c .before .before .before .before .before .before .before .peer .given .0 .0 in
-    let f : firstOf (peersIn (a .peers .now)) ≡ some peer = sym (c .before .before .before .before .before .before .before .before .before .first-listed .ensures) ∙ ap listedPeer (c .before .before .before .before .before .before .before .peer .given .1) in
-    let r = c .before .before .before .send-by in
+    let s : tie.Start = search in
+    let listed : tie.After-first-listed = search in
+    let told : tie.After-peer = search in
+    let send : tie.After-send-by = search in
+    let a = s .args in
+    let peer = told .peer .given .0 .0 in
+    let f = sym (listed .first-listed .ensures) ∙ ap listedPeer (told .peer .given .1) in
+    let r = send .send-by in
     let says = c .before .says-if in
     let advance = c .advance-downloaded-height in (
       refl,

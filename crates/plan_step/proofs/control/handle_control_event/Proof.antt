@@ -1,4 +1,4 @@
--- By the kind.
+-- By the kind: `needed`, `reorged`.
 use borrow.Author.Needs.{needs}
 use mathlib.Core.Path.{sym, _∙_}
 use Rattle.model.specs.Peers.{firstOf}
@@ -21,20 +21,30 @@ advances-and-requests-requires c κs = search needs
 
 returns : tie.Need-returns
 returns c =
-    let a = c .before .before .before .before .args in
+    let s : tie.Start = search in
+    let a = s .args in
     let r = c .continues in
     λ st d h n ep ev lo hi.
     let m = numbers d (a .call) n in
-    needed st d (r .result) (a .head .peer) (m .kind ∙ c .before .match .keys1) (peer-of st (a .head) h) (rw (r .ensures .0)) (r .ensures .1 st d h (m .clock))
+    needed st d (r .result) (a .head .peer)
+    (m .kind ∙ c .before .match .keys1)
+    (peer-of st (a .head) h)
+    (rw (r .ensures .0))
+    (r .ensures .1 st d h (m .clock))
 
 returns-2 : tie.Need-returns-2
 returns-2 c =
-    let a = c .before .before .before .before .before .args in
+    let s : tie.Start = search in
+    let a = s .args in
+    let fell : tie.After-fallen = search in
     let r = c .advances-and-requests in
     λ st d h n ep ev lo hi.
     let m = numbers d (a .call) n in
-    reorged st d (r .result) (firstOf (peersIn (a .peers .now))) (c .before .fallen .result) (second (d .kind) (a .call .kind) (m .kind) 3 lo hi (c .before .before .match .rest .1))
-    (rw (m .fork, sym (downloaded-of st (a .head) h)) (c .before .fallen .ensures)) (r .ensures .0) (r .ensures .1 st d h (m .clock) (m .height) ep ev)
+    reorged st d (r .result) (firstOf (peersIn (a .peers .now))) (fell .fallen .result)
+    (second (d .kind) (a .call .kind) (m .kind) 3 lo hi (c .before .before .match .rest .1))
+    (rw (m .fork, sym (downloaded-of st (a .head) h)) (fell .fallen .ensures))
+    (r .ensures .0)
+    (r .ensures .1 st d h (m .clock) (m .height) ep ev)
 
 pub handle-control-event-spec : {M : Type 1} → statement M
 handle-control-event-spec =

@@ -1,4 +1,4 @@
--- By the kind.
+-- By the kind: `announced-follows`, `sync-info-follows`, `other-follows`.
 use borrow.Author.Needs.{needs}
 use mathlib.Core.Path.{_∙_}
 use Rattle.plan.proofs.KindLaws.{third}
@@ -18,26 +18,38 @@ continues-requires c κs = search needs
 
 returns : tie.Need-returns
 returns c =
-    let a = c .before .before .before .before .before .args in
+    let s : tie.Start = search in
+    let a = s .args in
     let r = c .hears-announced in
     λ st d h n ei ep ev lo hi.
-    announced-follows st d (r .result) (numbers d (a .call) n .kind ∙ c .before .match .keys1) (r .ensures .0) (r .ensures .1 st d h n ei ep ev)
+    announced-follows st d (r .result)
+    (numbers d (a .call) n .kind ∙ c .before .match .keys1)
+    (r .ensures .0)
+    (r .ensures .1 st d h n ei ep ev)
 
 returns-2 : tie.Need-returns-2
 returns-2 c =
-    let a = c .before .before .before .before .before .args in
+    let s : tie.Start = search in
+    let a = s .args in
     let r = c .hears-sync-info in
     λ st d h n ei ep ev lo hi.
-    sync-info-follows st d (r .result) (numbers d (a .call) n .kind ∙ c .before .match .keys2) (r .ensures .0) (r .ensures .1 st d h n ep ev)
+    sync-info-follows st d (r .result)
+    (numbers d (a .call) n .kind ∙ c .before .match .keys2)
+    (r .ensures .0)
+    (r .ensures .1 st d h n ep ev)
 
 returns-3 : tie.Need-returns-3
 returns-3 c =
-    let a = c .before .before .before .before .before .args in
+    let s : tie.Start = search in
+    let a = s .args in
     let r = c .continues in
     let o = c .before .match .rest in
     λ st d h n ei ep ev lo hi.
     let m = numbers d (a .call) n in
-    other-follows st d (r .result) (third (d .kind) (a .call .kind) (m .kind) 5 lo hi (o .0 .1) (o .1)) (rw (r .ensures .0)) (r .ensures .1 st d h (m .clock))
+    other-follows st d (r .result)
+    (third (d .kind) (a .call .kind) (m .kind) 5 lo hi (o .0 .1) (o .1))
+    (rw (r .ensures .0))
+    (r .ensures .1 st d h (m .clock))
 
 pub handle-event-spec : {M : Type 1} → statement M
 handle-event-spec =

@@ -1,4 +1,4 @@
--- By the kind.
+-- By the kind: `lost`, `received-follows`, `evicted-follows`.
 use borrow.Author.Needs.{needs}
 use mathlib.Core.Path.{refl, ap, _∙_}
 use Rattle.model.specs.Peers.{firstOf}
@@ -22,29 +22,43 @@ continues-requires c κs = search needs
 
 returns : tie.Need-returns
 returns c =
-    let a = c .before .before .before .before .args in
+    let s : tie.Start = search in
+    let a = s .args in
     let r = c .loses in
     λ st d h n ep ev lo hi.
     let m = numbers d (a .call) n in
-    lost st d (r .result) (firstOf (peersIn (a .peers .now))) (a .head) (a .call .peer) (m .kind ∙ c .before .match .keys1) h (m .peer) (r .ensures .0) (r .ensures .1 st d h (m .clock) ep)
+    lost st d (r .result) (firstOf (peersIn (a .peers .now))) (a .head) (a .call .peer)
+    (m .kind ∙ c .before .match .keys1)
+    h
+    (m .peer)
+    (r .ensures .0)
+    (r .ensures .1 st d h (m .clock) ep)
 
 returns-2 : tie.Need-returns-2
 unfolding headOf
 returns-2 c =
-    let a = c .before .before .before .before .args in
+    let s : tie.Start = search in
+    let a = s .args in
     let r = c .advances in
     λ st d h n ep ev lo hi.
     let m = numbers d (a .call) n in
-    received-follows st d (r .result) (m .kind ∙ c .before .match .keys2) (r .ensures .0) (r .ensures .1 st d (st .mode) h (m .clock) (m .height) ev (ap (λ x. x .mode) h) (λ x. refl))
+    received-follows st d (r .result)
+    (m .kind ∙ c .before .match .keys2)
+    (r .ensures .0)
+    (r .ensures .1 st d (st .mode) h (m .clock) (m .height) ev (ap (λ x. x .mode) h) (λ x. refl))
 
 returns-3 : tie.Need-returns-3
 returns-3 c =
-    let a = c .before .before .before .before .args in
+    let s : tie.Start = search in
+    let a = s .args in
     let r = c .continues in
     let o = c .before .match .rest in
     λ st d h n ep ev lo hi.
     let m = numbers d (a .call) n in
-    evicted-follows st d (r .result) (third (d .kind) (a .call .kind) (m .kind) 8 lo hi (o .0 .1) (o .1)) (r .ensures .0) (r .ensures .1 st d h (m .clock))
+    evicted-follows st d (r .result)
+    (third (d .kind) (a .call .kind) (m .kind) 8 lo hi (o .0 .1) (o .1))
+    (r .ensures .0)
+    (r .ensures .1 st d h (m .clock))
 
 pub ids-step-spec : {M : Type 1} → statement M
 ids-step-spec =

@@ -14,11 +14,13 @@ picks-requires c κs = search needs
 
 returns : tie.Need-returns
 returns c =
-    let a = c .before .before .before .before .args in
+    let s : tie.Start = search in
+    let a = s .args in
+    let read : tie.After-read-stalled = search in
     let r = c .picks in
     λ st d h n ep es e.
     let m = numbers d (a .call) n in
-    picked st d (r .result) (a .peers .now) e ep (r .ensures .0) (r .ensures .1 st d h (m .clock) ep (es ∙ sym (c .before .read-stalled .ensures .0)))
+    picked st d (r .result) (a .peers .now) e ep (r .ensures .0) (r .ensures .1 st d h (m .clock) ep (es ∙ sym (read .read-stalled .ensures .0)))
 
 pub pick-spec : {M : Type 1} → statement M
 pick-spec = tie.close (tie.spec read-stalled-requires picks-requires returns)

@@ -1,4 +1,4 @@
--- By the kind.
+-- By the kind: `progress-follows`, `check-follows`, what `scheduled_tick` ensures.
 use borrow.Author.Needs.{needs}
 use mathlib.Core.Path.{ap, _∙_}
 use Rattle.model.specs.Peers.{firstOf}
@@ -21,23 +21,34 @@ scheduled-tick-requires c κs = search needs
 
 returns : tie.Need-returns
 returns c =
-    let a = c .before .before .before .before .before .args in
+    let s : tie.Start = search in
+    let a = s .args in
     let r = c .progresses in
     λ st d h n ep ev es lo hi.
     let m = numbers d (a .call) n in
-    progress-follows st d (r .result) (m .kind ∙ c .before .match .keys1) (r .ensures .0) (r .ensures .1 st d h (m .clock) (m .height) ep ev)
+    progress-follows st d (r .result)
+    (m .kind ∙ c .before .match .keys1)
+    (r .ensures .0)
+    (r .ensures .1 st d h (m .clock) (m .height) ep ev)
 
 returns-2 : tie.Need-returns-2
 returns-2 c =
-    let a = c .before .before .before .before .before .args in
+    let s : tie.Start = search in
+    let a = s .args in
     let r = c .checks in
     λ st d h n ep ev es lo hi.
     let m = numbers d (a .call) n in
-    check-follows st d (r .result) (m .kind ∙ c .before .match .keys2) (firstOf (peersIn (a .peers .now))) (r .ensures .0 .0) (ap listedPeer (r .ensures .0 .1)) (r .ensures .1 st d h (m .clock) (m .height) ep ev)
+    check-follows st d (r .result)
+    (m .kind ∙ c .before .match .keys2)
+    (firstOf (peersIn (a .peers .now)))
+    (r .ensures .0 .0)
+    (ap listedPeer (r .ensures .0 .1))
+    (r .ensures .1 st d h (m .clock) (m .height) ep ev)
 
 returns-3 : tie.Need-returns-3
 returns-3 c =
-    let a = c .before .before .before .before .before .args in
+    let s : tie.Start = search in
+    let a = s .args in
     let o = c .before .match .rest in
     λ st d h n ep ev es lo hi.
     let m = numbers d (a .call) n in

@@ -175,7 +175,8 @@ returns-3 c =
     let told : tie.After-counts = search in
     let work : tie.After-carry-out = search in
     let here = entry work in
-    settled-on-copies (entered here) (performs work) (told .counts .given .0 .0) (told .counts .given .1) (copy here) (roomy here) (past .if1 .left) (done .finish .ensures)
+    settled-on-copies (entered here) (performs work) (told .counts .given .0 .0) (told .counts .given .1)
+    (copy here) (roomy here) (past .if1 .left) (done .finish .ensures)
 
 pub work-in-spec : {M : Type 1} → statement M
 work-in-spec =

@@ -25,7 +25,13 @@ same-length c = search needs
 
 returns : tie.Need-returns
 unfolding counted
-returns c = let s = c .before .before .before .before .before .before .before .before .before in let a = s .args in let m = c .before .before .before .before .before .before .stall in let w = c .before .before .write-head in completes (a .stalling) (a .count) (counted (a .head) (a .counts .pending) (a .counts .evicted)) (a .image .now) (m .last .0) (w .last .0) (s .pre .0) (m .kept .0) (m .ensures) (w .ensures)
+returns c =
+    let s : tie.Start = search in
+    let stalled : tie.After-stall = search in
+    let wrote : tie.After-write-head = search in
+    let a = s .args in
+    completes (a .stalling) (counted (a .head) (a .counts .pending) (a .counts .evicted)) (a .image .now)
+    (s .pre .0) (stalled .stall .kept .0) (stalled .stall .ensures) (wrote .write-head .ensures)
 
 pub complete-spec : {M : Type 1} → statement M
 complete-spec =

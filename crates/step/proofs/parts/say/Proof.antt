@@ -11,16 +11,25 @@ enum-told : tie.Need-enum-told
 enum-told c = search needs
 
 returns : tie.Need-returns
-returns c = let s = c .before .before .before .before in let a = s .args in unsaid (a .says) (a .at) (a .batch) (a .out .now) (c .enum-told .given .1)
+returns c =
+    let s : tie.Start = search in
+    let a = s .args in
+    unsaid (a .says) (a .at) (a .batch) (a .out .now) (c .enum-told .given .1)
 
 put-command-requires : tie.Need-put-command-requires
-put-command-requires c κs = let s = c .before .before .before .before .before .before in search needs
+put-command-requires c κs = search needs
 
 same-length : tie.Need-same-length
 same-length c = search needs
 
 returns-2 : tie.Need-returns-2
-returns-2 c = let s = c .before .before .before .before .before .before .before .before .before in let a = s .args in let m = c .before .before .put-command in said-to (a .says) (a .at) (a .batch) (a .out .now) (c .before .before .before .before .before .says .given .0 .0) (a .none .now) (m .last .0) (m .result) (c .before .before .before .before .before .says .given .1) (s .pre .0) (m .ensures .0) (m .ensures .1)
+returns-2 c =
+    let s : tie.Start = search in
+    let told : tie.After-says = search in
+    let put : tie.After-put-command = search in
+    let a = s .args in
+    let m = put .put-command in
+    said-to (a .says) (a .at) (a .batch) (a .out .now) (a .none .now) (told .says .given .1) (s .pre .0) (m .ensures .0) (m .ensures .1)
 
 pub say-spec : {M : Type 1} → statement M
 say-spec =
