@@ -5,7 +5,6 @@
 // opening the state area, a step both areas, a question the command area. docs/SPEED.md has what they cost.
 ghost use mathlib.Core.Path.{_≡_};
 ghost use Rattle.model.specs.Calls.{open', step, question};
-ghost use Rattle.step.specs.Answers.{answerOf};
 use plan::Call;
 use settings::Settings;
 use step::finish::Answer;
@@ -57,7 +56,7 @@ pub extern "C" fn request_keeper_step(
     peers: &[u8],
     view: &[u8],
 ) -> Answer
-    ensures { λ r. ⌜ record { answer = answerOf r; state = now (state .exit); commands = now (commands .exit) } ≡ step (now (state .entry)) (now (commands .entry)) (record { kind = kind; clock = clock; gate = gate; height = height; peer = peer; typeid = typeid; fork = fork; parsed = parsed; hastip = hastip; tip = tip; ids = now (ids .entry); continuation = now (continuation .entry); stored = now (stored .entry); peers = now (peers .entry); view = now (view .entry) }) ⌝ }
+    ensures { λ r. ⌜ record { answer = record { number = r .number; outcome = r .outcome; retried = r .retried; fresh = r .fresh; abandoned = r .abandoned; forgotten = r .forgotten; pending = r .pending; evicted = r .evicted; length = r .length }; state = now (state .exit); commands = now (commands .exit) } ≡ step (now (state .entry)) (now (commands .entry)) (record { kind = kind; clock = clock; gate = gate; height = height; peer = peer; typeid = typeid; fork = fork; parsed = parsed; hastip = hastip; tip = tip; ids = now (ids .entry); continuation = now (continuation .entry); stored = now (stored .entry); peers = now (peers .entry); view = now (view .entry) }) ⌝ }
 {
     let call = Call {
         kind,

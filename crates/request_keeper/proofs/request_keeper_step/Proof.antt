@@ -2,6 +2,7 @@
 use borrow.Author.Needs.{needs}
 use borrow.Author.Tests.{ne-eqb}
 use Rattle.plan.specs.Plans.{callOf}
+use Rattle.step.specs.Answers.{answerOf}
 use Rattle.request_keeper.proofs.EntryLaws.{not-stepped}
 use Rattle.request_keeper.proofs.request_keeper_step.Statement.{statement}
 use Rattle.request_keeper.proofs.request_keeper_step.Tie as tie
@@ -16,7 +17,7 @@ same-length : tie.Need-same-length
 same-length c = search needs
 
 returns : tie.Need-returns
-unfolding callOf
+unfolding callOf answerOf
 returns c =
     let decided : tie.After-step-refusal = search in
     let stops : tie.Then1 = search in
@@ -33,7 +34,7 @@ same-length-3 : tie.Need-same-length-3
 same-length-3 c = search needs
 
 returns-2 : tie.Need-returns-2
-unfolding callOf
+unfolding callOf answerOf
 returns-2 c = let ran : tie.After-run = search in ran .run .ensures
 
 pub request-keeper-step-spec : {M : Type 1} → statement M
