@@ -31,3 +31,4 @@ pub mod StepLaws
 pub mod SyncLaws
 pub mod Well
 pub mod Widths
+pub mod Promises

@@ -17,3 +17,4 @@ pub mod Sections
 pub mod Settings
 pub mod State
 pub mod Steps
+pub mod Promises

@@ -1,0 +1,2 @@
+-- The promises, proved: what specs/Promises says of any finished call.
+pub mod SeenLaws
