@@ -13,7 +13,7 @@ use Rattle.fields.specs.Overwrite.{overwritten}
 use Rattle.fields.proofs.OrderLaws.{and-left, and-right}
 use Rattle.model.specs.State.{State}
 use Rattle.model.specs.Steps
-use Rattle.model.specs.Steps.{Step, ofMode, after, commands}
+use Rattle.model.specs.Steps.{Step, ofMode, planOf, plan, after, commands}
 use Rattle.model.specs.Image.{decode, encode, wellFormed}
 use Rattle.model.specs.Lists.{idsIn}
 use Rattle.model.specs.Commands.{commandsIn}
@@ -99,6 +99,30 @@ pub data Kind (call : Call) : Step → Type 0 where
   sectionTick : call .kind ≡ numbers.sectionTick → Kind call Steps.sectionTick
   sendFailure : call .kind ≡ numbers.sendFailure → Kind call Steps.sendFailure
   endOfStream : call .kind ≡ numbers.endOfStream → Kind call Steps.endOfStream
+
+-- a call of a kind is that step
+pub step-of : (call : Call) {step : Step} → Kind call step → stepOf call ≡ step
+unfolding stepOf
+step-of call (start e) = rw e
+step-of call (pick e) = rw e
+step-of call (neededModifier e) = rw e
+step-of call (reorg e) = rw e
+step-of call (announcedIds e) = rw e
+step-of call (syncInfo e) = rw e
+step-of call (otherMessage e) = rw e
+step-of call (lostPeer e) = rw e
+step-of call (receivedIds e) = rw e
+step-of call (evictedIds e) = rw e
+step-of call (progress e) = rw e
+step-of call (check e) = rw e
+step-of call (scheduledTick e) = rw e
+step-of call (sectionTick e) = rw e
+step-of call (sendFailure e) = rw e
+step-of call (endOfStream e) = rw e
+
+pub plan-of : (st : State) (call : Call) {step : Step} → Kind call step → plan st (argsOf call) ≡ planOf st (argsOf call) step
+unfolding plan argsOf
+plan-of st call k = ap (planOf st (argsOf call)) (step-of call k)
 
 module _ (call : Call) where
   is : {step : Step} → stepOf call ≡ step → Kind call step → Kind call (stepOf call)
