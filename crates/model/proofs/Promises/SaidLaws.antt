@@ -90,6 +90,15 @@ pub quiet-retries : (items : List Item) → All Quiet (retrySendings items)
 unfolding retrySendings
 quiet-retries items = quiet-batches (batchesOf items)
 
+quiet-asks : (pairs : List Pair) (peerOf : Batch → ℕ) (batches : List Batch)
+    → All QuietAct (map (λ (b : Batch). ask (b .typeId) (peerOf b) pairs (b .ids)) batches)
+quiet-asks pairs peerOf [] = tt
+quiet-asks pairs peerOf (b ∷ batches) = (tt, quiet-asks pairs peerOf batches)
+
+quiet-announce : (peer : ℕ) (ids : List Id) → All QuietAct (announce peer ids)
+quiet-announce peer [] = tt
+quiet-announce peer (id ∷ ids) = (tt, tt)
+
 -- ---- rule 2
 
 module _ (settings : Settings) (clock : ℕ) (sendClock : SendClock) where
@@ -132,11 +141,6 @@ module _ (st : State) (a : Args) where
   unfolding sayTo sent
   says-after p acts peer q e c = says-then p acts peer (st .sync .sendClock) refl q e c
 
-  quiet-asks : (pairs : List Pair) (peerOf : Batch → ℕ) (batches : List Batch)
-      → All QuietAct (map (λ (b : Batch). ask (b .typeId) (peerOf b) pairs (b .ids)) batches)
-  quiet-asks pairs peerOf [] = tt
-  quiet-asks pairs peerOf (b ∷ batches) = (tt, quiet-asks pairs peerOf batches)
-
   quiet-sections : (height : ℕ) → All QuietAct (sectionsFrom st a height .acts)
   unfolding sectionsFrom requestNextSections requestSectionsFrom
   quiet-sections height = go (firstOf (a .peers))
@@ -177,10 +181,6 @@ module _ (st : State) (a : Args) where
   says-answers peer acts tip SyncPeerGone q = quiet tt
   says-answers peer acts tip Stalled q = quiet tt
   says-answers peer acts tip EndOfStream q = quiet tt
-
-  quiet-announce : (peer : ℕ) (ids : List Id) → All QuietAct (announce peer ids)
-  quiet-announce peer [] = tt
-  quiet-announce peer (id ∷ ids) = (tt, tt)
 
   quiet-continuation : (parsed : Bool) (known : Option ℕ) (peer : ℕ) (ids : List Id) → All QuietAct (continuation parsed (a .chainHeight) known peer ids)
   unfolding continuation
