@@ -1,3 +1,6 @@
 -- The promises, proved: what specs/Promises says of any finished call.
 pub mod SeenLaws
 pub mod OutcomesKept
+pub mod SaidLaws
+pub mod CountLaws
+pub mod RunsKept
