@@ -35,7 +35,9 @@ unfolding retryTarget
 goes-to [] failed = again tt
 goes-to (peer ∷ peers) failed = go (eqb peer failed) refl (goes-to peers failed)
   where
-    go : (t : Bool) → eqb peer failed ≡ t → GoesTo peers failed (retryTarget peers failed) → GoesTo (peer ∷ peers) failed (cond t (retryTarget peers failed) peer)
+    go :
+        (t : Bool) → eqb peer failed ≡ t → GoesTo peers failed (retryTarget peers failed)
+        → GoesTo (peer ∷ peers) failed (cond t (retryTarget peers failed) peer)
     go true e g = passes peers failed (retryTarget peers failed) peer (eqb-true peer failed e) g
     go false e g = another peer [] peers refl tt (eqb-false peer failed e)
 
