@@ -4,3 +4,5 @@ pub mod OutcomesKept
 pub mod SaidLaws
 pub mod CountLaws
 pub mod RunsKept
+pub mod VerdictLaws
+pub mod CheckAsked
