@@ -1,5 +1,5 @@
 -- The downloaded height and the known tip are as promised.
-use Prim.Native.Nat.{ℕ, suc, _+_, _≤_, _<_, max, min}
+use Prim.Native.Nat.{ℕ, _+_, _<_, max, min}
 use mathlib.Core.Path.{_≡_, refl, sym, _∙_, subst}
 use mathlib.Core.Bool.{Bool, true, false, cond, _&&_}
 use mathlib.Core.Logic.{_⊎_, inl, inr, ⊎-elim}
@@ -17,7 +17,8 @@ use Rattle.model.specs.Peers.{firstOf, selectPeer}
 use Rattle.model.specs.Requests.{Act, ask}
 use Rattle.model.specs.Events.{Outcome, Continue, Synced, BehindPeer, SyncPeerGone, EndOfStream, tipOutcome, raisedTip, continuation}
 use Rattle.model.specs.Steps.{Step, Args, Plan, plan, planOf, after, unmarked, withoutPeer, continues, leaves, advances, advancesAndRequests}
-use Rattle.model.specs.Steps.{entersSyncing, picks, isAtTip, answers, hearsSyncInfo, hearsAnnounced, askOrphans, loses, ticksSyncing, ticksSynced, progresses, checks, evicts}
+use Rattle.model.specs.Steps.{entersSyncing, picks, isAtTip, answers, hearsSyncInfo, hearsAnnounced, askOrphans, loses, ticksSyncing}
+use Rattle.model.specs.Steps.{ticksSynced, progresses, checks, evicts}
 use Rattle.model.specs.Lists.{idsIn}
 use Rattle.model.specs.Calls.{Call, argsOf}
 use Rattle.model.specs.Promises.Numbers as numbers
@@ -27,12 +28,12 @@ use Rattle.model.specs.Promises.Heights.{LooksOn, inReorg, StartsFrom, D
 use Rattle.model.proofs.Promises.SeenLaws
 use Rattle.model.proofs.Promises.SeenLaws.{Finished, seenAs, Kind, kind-of, mode-of}
 use Rattle.model.proofs.Promises.ViewLaws.{raised-reaches}
-use Rattle.model.proofs.Promises.LookLaws.{here, starts-here, raised, Reading, looks, looksAndAsks, asks, neither, plan-reads}
+use Rattle.model.proofs.Promises.LookLaws.{here, starts-here, args, risen, Reading, looks, looksAndAsks, asks, neither, plan-reads}
 
 -- ---- the downloaded height
 
 module _ (s : Seen) where
-  rises-as-promised : (from : ℕ) → LooksOn s → StartsFrom s from → s .after .sync .downloaded ≡ raised s from .height → Downloaded s
+  rises-as-promised : (from : ℕ) → LooksOn s → StartsFrom s from → s .after .sync .downloaded ≡ risen s from .height → Downloaded s
   rises-as-promised from l starts e =
       let r = raised-reaches (view s) (s .call .height) from in
       record {
@@ -59,11 +60,12 @@ module _ (s : Seen) where
   downloaded-by p (looks from l n starts d v) e = rises-as-promised from l starts (e ∙ d)
   downloaded-by p (looksAndAsks from l n starts d v) e = rises-as-promised from l starts (e ∙ d)
   downloaded-by p (asks l n d v) e = stays-as-promised l (e ∙ d)
-  downloaded-by p (neither l n d v) e = stays-as-promised l (e ∙ d)
+  downloaded-by p (neither l n still) e = stays-as-promised l (e ∙ still .0)
 
 pub downloaded-kept : (st : State) (call : Call) → Finished st call → Downloaded (seenAs st call)
 unfolding after
-downloaded-kept st call f = downloaded-by (seenAs st call) (plan st (argsOf call)) (plan-reads (seenAs st call) (kind-of st call f) (mode-of st call f)) refl
+downloaded-kept st call f =
+    downloaded-by (seenAs st call) (plan st (argsOf call)) (plan-reads (seenAs st call) (kind-of st call f) (mode-of st call f)) refl
 
 -- ---- the known tip
 
@@ -73,7 +75,8 @@ data Tip (s : Seen) (known : ℕ) : Type 0 where
   hears : Heard s (s .call .tip) → known ≡ max (s .before .sync .knownTip) (s .call .tip) → Tip s known
 
 higher : (a b : ℕ) → (max a b ≡ a) ⊎ (max a b ≡ b)
-higher a b = ⊎-elim (λ (l : a < b). inr (omega arith)) (λ m. inl (⊎-elim (λ (e : a ≡ b). omega arith) (λ (l : b < a). omega arith) m)) (trichotomy a b)
+higher a b =
+    ⊎-elim (λ (l : a < b). inr (omega arith)) (λ m. inl (⊎-elim (λ (e : a ≡ b). omega arith) (λ (l : b < a). omega arith) m)) (trichotomy a b)
 
 tip-as-promised : (s : Seen) → Tip s (s .after .sync .knownTip) → KnownTip s
 tip-as-promised s (stays deaf e) = record { neverFalls = omega arith; reaches = λ tip h. absurd (deaf tip h); noFurther = inl e }
@@ -151,7 +154,8 @@ module _ (st : State) (a : Args) where
   unfolding evicts unmarked
   evicts-same gone = refl
 
-  answers-tip : (peer tip : ℕ) (acts : List Act) (reached ahead : Bool) → answers st a peer acts tip (cond reached Synced (cond ahead BehindPeer Continue)) .sync .knownTip ≡ tip
+  answers-tip : (peer tip : ℕ) (acts : List Act) (reached ahead : Bool)
+      → answers st a peer acts tip (cond reached Synced (cond ahead BehindPeer Continue)) .sync .knownTip ≡ tip
   unfolding answers entersSyncing unmarked
   answers-tip peer tip acts true ahead = at-tip-same acts tip
   answers-tip peer tip acts false true = refl
@@ -165,8 +169,10 @@ module _ (st : State) (a : Args) where
     where
       known : ℕ
       known = st .sync .knownTip
+
       go : (heard : Option ℕ)
-          → answers st a peer (continuation parsed (a .chainHeight) heard peer said) (raisedTip known heard) (tipOutcome (eqb peer (st .sync .syncPeer)) (a .chainHeight) heard) .sync .knownTip
+          → answers st a peer (continuation parsed (a .chainHeight) heard peer said) (raisedTip known heard)
+          (tipOutcome (eqb peer (st .sync .syncPeer)) (a .chainHeight) heard) .sync .knownTip
           ≡ raisedTip known heard
       go none = answers-tip peer (raisedTip known none) (continuation parsed (a .chainHeight) none peer said) false false
       go (some tip) =
@@ -188,44 +194,43 @@ module _ (s : Seen) where
       go true false p n = stays (λ tip h. eqb-false (s .call .hastip) 1 n (h .named)) refl
       go false named p n = stays (λ tip h. eqb-false (s .call .parsed) 1 p (h .parsed)) refl
 
-  step-tips : {step : Step} → Kind (s .call) step → Tip s (planOf (s .before) (argsOf (s .call)) step .sync .knownTip)
+  step-tips : {step : Step} → Kind (s .call) step → Tip s (planOf (s .before) (args s) step .sync .knownTip)
   unfolding planOf
-  step-tips (SeenLaws.start k) = stays (unheard numbers.start k refl) (advances-same (s .before) (argsOf (s .call)) seeking)
+  step-tips (SeenLaws.start k) = stays (unheard numbers.start k refl) (advances-same (s .before) (args s) seeking)
   step-tips (SeenLaws.pick k) =
       stays (unheard numbers.pick k refl)
-      (picks-same (s .before) (argsOf (s .call)) (selectPeer (s .before .sync .stalledPeers) (argsOf (s .call) .peers)))
+      (picks-same (s .before) (args s) (selectPeer (s .before .sync .stalledPeers) (args s .peers)))
   step-tips (SeenLaws.neededModifier k) =
       stays (unheard numbers.neededModifier k refl)
-      (continues-same (s .before) (argsOf (s .call)) (ask (s .call .typeid) (s .before .sync .syncPeer) (argsOf (s .call) .stored) (ids s) ∷ []))
+      (continues-same (s .before) (args s) (ask (s .call .typeid) (s .before .sync .syncPeer) (args s .stored) (ids s) ∷ []))
   step-tips (SeenLaws.reorg k) =
-      stays (unheard numbers.reorg k refl) (both-same (s .before) (argsOf (s .call)) (min (s .before .sync .downloaded) (s .call .fork)))
+      stays (unheard numbers.reorg k refl) (both-same (s .before) (args s) (min (s .before .sync .downloaded) (s .call .fork)))
   step-tips (SeenLaws.announcedIds k) =
-      stays (unheard numbers.announcedIds k refl) (ids-same (s .before) (argsOf (s .call)) (s .call .peer) (s .call .typeid) (ids s))
+      stays (unheard numbers.announcedIds k refl) (ids-same (s .before) (args s) (s .call .peer) (s .call .typeid) (ids s))
   step-tips (SeenLaws.syncInfo k) =
-      subst (Tip s)
-      (sym (info-tip (s .before) (argsOf (s .call)) (s .call .peer) (eqb (s .call .parsed) 1) (cond (eqb (s .call .hastip) 1) (some (s .call .tip)) none) (idsIn (s .call .continuation))))
-      (info-tips k)
-  step-tips (SeenLaws.otherMessage k) = stays (unheard numbers.otherMessage k refl) (continues-same (s .before) (argsOf (s .call)) [])
-  step-tips (SeenLaws.lostPeer k) = stays (unheard numbers.lostPeer k refl) (loses-same (s .before) (argsOf (s .call)) (s .call .peer))
-  step-tips (SeenLaws.receivedIds k) = stays (unheard numbers.receivedIds k refl) (advances-same (s .before) (argsOf (s .call)) (s .before .mode))
-  step-tips (SeenLaws.evictedIds k) = stays (unheard numbers.evictedIds k refl) (evicts-same (s .before) (argsOf (s .call)) (ids s))
+      let named = cond (eqb (s .call .hastip) 1) (some (s .call .tip)) none in
+      subst (Tip s) (sym (info-tip (s .before) (args s) (s .call .peer) (eqb (s .call .parsed) 1) named (idsIn (s .call .continuation)))) (info-tips k)
+  step-tips (SeenLaws.otherMessage k) = stays (unheard numbers.otherMessage k refl) (continues-same (s .before) (args s) [])
+  step-tips (SeenLaws.lostPeer k) = stays (unheard numbers.lostPeer k refl) (loses-same (s .before) (args s) (s .call .peer))
+  step-tips (SeenLaws.receivedIds k) = stays (unheard numbers.receivedIds k refl) (advances-same (s .before) (args s) (s .before .mode))
+  step-tips (SeenLaws.evictedIds k) = stays (unheard numbers.evictedIds k refl) (evicts-same (s .before) (args s) (ids s))
   step-tips (SeenLaws.progress k) =
-      stays (unheard numbers.progress k refl) (progresses-same (s .before) (argsOf (s .call)) (isMode (s .before .mode) syncing))
-  step-tips (SeenLaws.check k) = stays (unheard numbers.check k refl) (checks-same (s .before) (argsOf (s .call)) (isMode (s .before .mode) syncing))
+      stays (unheard numbers.progress k refl) (progresses-same (s .before) (args s) (isMode (s .before .mode) syncing))
+  step-tips (SeenLaws.check k) = stays (unheard numbers.check k refl) (checks-same (s .before) (args s) (isMode (s .before .mode) syncing))
   step-tips (SeenLaws.scheduledTick k) =
       let st = s .before in
-      let a = argsOf (s .call) in
+      let a = args s in
       let late = settings.stalled (st .settings) (a .clock) (st .sync .lastProgress) in
       stays (unheard numbers.scheduledTick k refl)
       (either (Same st a) (isMode (st .mode) syncing) (ticksSyncing st a late) (ticksSynced st a (firstOf (a .peers)))
       (ticks-syncing-same st a late) (ticks-synced-same st a (firstOf (a .peers))))
   step-tips (SeenLaws.sectionTick k) =
-      stays (unheard numbers.sectionTick k refl) (both-same (s .before) (argsOf (s .call)) (s .before .sync .downloaded))
+      stays (unheard numbers.sectionTick k refl) (both-same (s .before) (args s) (s .before .sync .downloaded))
   step-tips (SeenLaws.sendFailure k) =
-      stays (unheard numbers.sendFailure k refl) (leaves-same (s .before) (argsOf (s .call)) SyncPeerGone seeking [])
+      stays (unheard numbers.sendFailure k refl) (leaves-same (s .before) (args s) SyncPeerGone seeking [])
   step-tips (SeenLaws.endOfStream k) =
       stays (unheard numbers.endOfStream k refl)
-      (leaves-same (s .before) (argsOf (s .call)) EndOfStream (cond (isMode (s .before .mode) seeking) ended seeking) [])
+      (leaves-same (s .before) (args s) EndOfStream (cond (isMode (s .before .mode) seeking) ended seeking) [])
 
 pub known-tip-kept : (st : State) (call : Call) → Finished st call → KnownTip (seenAs st call)
 unfolding after plan argsOf

@@ -1,6 +1,6 @@
 -- Which steps look how far the height can rise and which ask for sections, from where, and what they read for it: one pass over the kinds.
-use Prim.Native.Nat.{ℕ, suc, _+_, _≤_, _<_, min}
-use mathlib.Core.Path.{_≡_, refl, sym, ap, _∙_, subst}
+use Prim.Native.Nat.{ℕ, _+_, _≤_, _<_, min}
+use mathlib.Core.Path.{_≡_, refl, sym, ap, _∙_}
 use mathlib.Core.Bool.{Bool, true, false, cond, _&&_, _||_, false≢true}
 use mathlib.Core.Logic.{_⊎_, inl, inr, ⊎-elim}
 use mathlib.Core.List.{List, [], _∷_, cons≢nil}
@@ -17,12 +17,13 @@ use Rattle.model.specs.State.{Mode, new, seeking, syncing, synced, ended
 use Rattle.model.specs.Peers.{firstOf, selectPeer}
 use Rattle.model.specs.Requests.{Act, ask}
 use Rattle.model.specs.Sections.{Advance, Sections, advanceDownloadedHeight, requestNextSections}
-use Rattle.model.specs.Events.{Outcome, Continue, Synced, BehindPeer, SyncPeerGone, Stalled, EndOfStream, tipOutcome, raisedTip, continuation}
+use Rattle.model.specs.Events.{Outcome, Continue, Synced, BehindPeer, SyncPeerGone, EndOfStream, tipOutcome, raisedTip, continuation}
 use Rattle.model.specs.Steps
-use Rattle.model.specs.Steps.{Step, Plan, ofMode, planOf, plan, unmarked, withoutPeer, advanceFrom, sectionsFrom, continues, leaves, advances, advancesAndRequests}
-use Rattle.model.specs.Steps.{Args, askOrphans, entersSyncing, picks, isAtTip, answers, hearsSyncInfo, hearsAnnounced, loses, ticksSyncing, ticksSynced, progresses, checks, evicts}
+use Rattle.model.specs.Steps.{Step, Args, Plan, ofMode, planOf, plan, unmarked, withoutPeer, advanceFrom, sectionsFrom, continues, leaves}
+use Rattle.model.specs.Steps.{advances, advancesAndRequests, entersSyncing, picks, isAtTip, answers, hearsSyncInfo, hearsAnnounced}
+use Rattle.model.specs.Steps.{askOrphans, loses, ticksSyncing, ticksSynced, progresses, checks, evicts}
 use Rattle.model.specs.Lists.{idsIn}
-use Rattle.model.specs.Calls.{Call, argsOf, stepOf}
+use Rattle.model.specs.Calls.{argsOf, stepOf}
 use Rattle.model.specs.Promises.Numbers as numbers
 use Rattle.model.specs.Promises.Words.{Seen, ids, peers, view}
 use Rattle.model.specs.Promises.Outcomes.{Heard, NothingAhead, noHeaders, tipReached}
@@ -34,33 +35,35 @@ use Rattle.model.proofs.Promises.SeenLaws.{Kind}
 
 -- ---- modes
 
-is-syncing : (m : Mode) → isMode m syncing ≡ true → m ≡ syncing
+pub is-syncing : (m : Mode) → isMode m syncing ≡ true → m ≡ syncing
 is-syncing new e = absurd (false≢true e)
 is-syncing seeking e = absurd (false≢true e)
 is-syncing syncing e = refl
 is-syncing synced e = absurd (false≢true e)
 is-syncing ended e = absurd (false≢true e)
 
-is-synced : (m : Mode) → hasSyncPeer m ≡ true → isMode m syncing ≡ false → m ≡ synced
+pub is-synced : (m : Mode) → hasSyncPeer m ≡ true → isMode m syncing ≡ false → m ≡ synced
 is-synced new h e = absurd (false≢true h)
 is-synced seeking h e = absurd (false≢true h)
 is-synced syncing h e = absurd (false≢true (sym e))
 is-synced synced h e = refl
 is-synced ended h e = absurd (false≢true h)
 
-not-syncing : (m : Mode) → isMode m syncing ≡ false → m ≡ syncing → ⊥
+pub not-syncing : (m : Mode) → isMode m syncing ≡ false → m ≡ syncing → ⊥
 not-syncing m e f = false≢true (sym e ∙ ap (λ x. isMode x syncing) f)
 
 -- ---- where a step starts from
 
 either-least : (a b : ℕ) → (min a b ≡ b) ⊎ (min a b ≡ a)
-either-least a b = ⊎-elim (λ (l : a < b). inr (omega arith)) (λ m. inl (⊎-elim (λ (e : a ≡ b). omega arith) (λ (l : b < a). omega arith) m)) (trichotomy a b)
+either-least a b =
+    ⊎-elim (λ (l : a < b). inr (omega arith)) (λ m. inl (⊎-elim (λ (e : a ≡ b). omega arith) (λ (l : b < a). omega arith) m)) (trichotomy a b)
 
 least : (a b x : ℕ) → (x ≡ b) ⊎ (x ≡ a) → x ≤ b → x ≤ a → x ≡ min a b
 least a b x (inl e) p q = omega arith
 least a b x (inr e) p q = omega arith
 
 module _ (s : Seen) where
+  -- the downloaded height before the step
   abbrev pub here : ℕ
   here = s .before .sync .downloaded
 
@@ -77,6 +80,7 @@ module _ (s : Seen) where
     where
       lowest : (z : ℕ) → StartsFrom s z → s .call .kind ≡ numbers.reorg → z ≡ min here (s .call .fork)
       lowest z r k = least here (s .call .fork) z (r .inReorg k .0) (r .inReorg k .1) (r .noHigher)
+
       go : Dec (s .call .kind ≡ numbers.reorg) → x ≡ y
       go (yes k) = lowest x p k ∙ sym (lowest y q k)
       go (no o) = p .elsewhere o ∙ sym (q .elsewhere o)
@@ -89,10 +93,12 @@ mayLook kind =
     || (eqb kind numbers.reorg
     || (eqb kind numbers.receivedIds || (eqb kind numbers.sectionTick || (eqb kind numbers.check || eqb kind numbers.scheduledTick))))
 
+-- whatever the step is told
+abbrev alwaysAsks : ℕ → Bool
+alwaysAsks kind = eqb kind numbers.reorg || (eqb kind numbers.progress || eqb kind numbers.sectionTick)
+
 abbrev mayAsk : ℕ → Bool
-mayAsk kind =
-    eqb kind numbers.reorg
-    || (eqb kind numbers.progress || (eqb kind numbers.sectionTick || (eqb kind numbers.announcedIds || eqb kind numbers.syncInfo)))
+mayAsk kind = alwaysAsks kind || (eqb kind numbers.announcedIds || eqb kind numbers.syncInfo)
 
 module _ (s : Seen) where
   look-kind : LooksOn s → mayLook (s .call .kind) ≡ true
@@ -135,16 +141,12 @@ module _ (s : Seen) where
   look-at-tick k (inCheck e m) = absurd (omega (arith, k, e))
   look-at-tick k (atTick e m p) = (m, p)
 
-  -- a message asks for sections on entry to synced only
-  ask-of-message : (s .call .kind ≡ numbers.announcedIds) ⊎ (s .call .kind ≡ numbers.syncInfo) → NextSections s → NothingAhead s × (s .before .mode ≡ syncing)
-  ask-of-message (inl k) (asked.inReorg e) = absurd (omega (arith, k, e))
-  ask-of-message (inl k) (asked.onProgress e) = absurd (omega (arith, k, e))
-  ask-of-message (inl k) (asked.atSectionTick e) = absurd (omega (arith, k, e))
-  ask-of-message (inl k) (asked.onEntry n m) = (n, m)
-  ask-of-message (inr k) (asked.inReorg e) = absurd (omega (arith, k, e))
-  ask-of-message (inr k) (asked.onProgress e) = absurd (omega (arith, k, e))
-  ask-of-message (inr k) (asked.atSectionTick e) = absurd (omega (arith, k, e))
-  ask-of-message (inr k) (asked.onEntry n m) = (n, m)
+  -- others ask on entry to synced only
+  ask-on-entry : (kind : ℕ) → s .call .kind ≡ kind → alwaysAsks kind ≡ false → NextSections s → NothingAhead s × (s .before .mode ≡ syncing)
+  ask-on-entry kind k not (asked.inReorg e) = absurd (false≢true (sym not ∙ ap alwaysAsks (sym k ∙ e)))
+  ask-on-entry kind k not (asked.onProgress e) = absurd (false≢true (sym not ∙ ap alwaysAsks (sym k ∙ e)))
+  ask-on-entry kind k not (asked.atSectionTick e) = absurd (false≢true (sym not ∙ ap alwaysAsks (sym k ∙ e)))
+  ask-on-entry kind k not (asked.onEntry n m) = (n, m)
 
   ahead-of-ids : s .call .kind ≡ numbers.announcedIds → NothingAhead s → (s .call .typeid ≡ numbers.aHeader) × (ids s ≡ [])
   ahead-of-ids k (noHeaders e t i) = (t, i)
@@ -158,204 +160,218 @@ module _ (s : Seen) where
 
 -- ---- what a step reads
 
+abbrev pub args : Seen → Args
+args s = argsOf (s .call)
+
 -- rule 5 from a height
-abbrev pub raised : Seen → ℕ → Advance
-raised s from = advanceDownloadedHeight (view s) (s .call .height) from
+abbrev pub risen : Seen → ℕ → Advance
+risen s from = advanceDownloadedHeight (view s) (s .call .height) from
 
 -- rule 4 from a height
 abbrev pub window : Seen → ℕ → Sections
 window s from = requestNextSections (view s) (s .call .height) from (peers s)
 
+-- A plan that leaves the height and reads none.
+abbrev pub Still : Seen → Plan → Type 0
+Still s p = (p .sync .downloaded ≡ here s) × (p .inView ≡ true)
+
 -- A plan runs rule 5, rule 4, both or neither, as the promises say; the downloaded height and the heights read are those of the rules.
 pub data Reading (s : Seen) (p : Plan) : Type 0 where
   looks :
-      (from : ℕ) → LooksOn s → (NextSections s → ⊥) → StartsFrom s from → p .sync .downloaded ≡ raised s from .height
-      → p .inView ≡ raised s from .inView → Reading s p
+      (from : ℕ) → LooksOn s → (NextSections s → ⊥) → StartsFrom s from → p .sync .downloaded ≡ risen s from .height
+      → p .inView ≡ risen s from .inView → Reading s p
   looksAndAsks :
-      (from : ℕ) → LooksOn s → NextSections s → StartsFrom s from → p .sync .downloaded ≡ raised s from .height
-      → p .inView ≡ raised s from .inView && window s (raised s from .height) .inView → Reading s p
+      (from : ℕ) → LooksOn s → NextSections s → StartsFrom s from → p .sync .downloaded ≡ risen s from .height
+      → p .inView ≡ risen s from .inView && window s (risen s from .height) .inView → Reading s p
   asks : (LooksOn s → ⊥) → NextSections s → p .sync .downloaded ≡ here s → p .inView ≡ window s (here s) .inView → Reading s p
-  neither : (LooksOn s → ⊥) → (NextSections s → ⊥) → p .sync .downloaded ≡ here s → p .inView ≡ true → Reading s p
-
--- A plan that leaves the height and reads none.
-abbrev Still : Seen → Plan → Type 0
-Still s p = (p .sync .downloaded ≡ here s) × (p .inView ≡ true)
+  neither : (LooksOn s → ⊥) → (NextSections s → ⊥) → Still s p → Reading s p
 
 module _ (s : Seen) where
-  continues-still : (acts : List Act) → Still s (continues (s .before) (argsOf (s .call)) acts)
+  continues-still : (acts : List Act) → Still s (continues (s .before) (args s) acts)
   unfolding continues unmarked
   continues-still acts = (refl, refl)
 
-  leaves-still : (outcome : Outcome) (mode : Mode) (acts : List Act) → Still s (leaves (s .before) (argsOf (s .call)) outcome mode acts)
+  leaves-still : (outcome : Outcome) (mode : Mode) (acts : List Act) → Still s (leaves (s .before) (args s) outcome mode acts)
   unfolding leaves withoutPeer
   leaves-still outcome mode acts = (refl, refl)
 
-  picks-still : (peer : Option ℕ) → Still s (picks (s .before) (argsOf (s .call)) peer)
+  picks-still : (peer : Option ℕ) → Still s (picks (s .before) (args s) peer)
   unfolding picks entersSyncing unmarked
   picks-still none = (refl, refl)
   picks-still (some peer) = (refl, refl)
 
-  loses-still : (peer : ℕ) → Still s (loses (s .before) (argsOf (s .call)) peer)
+  loses-still : (peer : ℕ) → Still s (loses (s .before) (args s) peer)
   unfolding loses
   loses-still peer =
       let st = s .before in
-      let a = argsOf (s .call) in
+      let a = args s in
       let acts = cond (isMode (st .mode) syncing) (askOrphans st a peer (firstOf (a .peers))) [] in
       either (Still s) (eqb peer (st .sync .syncPeer)) (leaves st a SyncPeerGone seeking acts) (continues st a [])
       (leaves-still SyncPeerGone seeking acts) (continues-still [])
 
-  evicts-still : (gone : List Id) → Still s (evicts (s .before) (argsOf (s .call)) gone)
+  evicts-still : (gone : List Id) → Still s (evicts (s .before) (args s) gone)
   unfolding evicts unmarked
   evicts-still gone = (refl, refl)
 
-  ticks-syncing-still : (late : Bool) → Still s (ticksSyncing (s .before) (argsOf (s .call)) late)
+  ticks-syncing-still : (late : Bool) → Still s (ticksSyncing (s .before) (args s) late)
   unfolding ticksSyncing withoutPeer
   ticks-syncing-still true = (refl, refl)
   ticks-syncing-still false = (refl, refl)
 
   -- an answer to a sync info other than Synced
-  answers-still : (peer tip : ℕ) (acts : List Act) (ahead : Bool) → Still s (answers (s .before) (argsOf (s .call)) peer acts tip (cond ahead BehindPeer Continue))
+  answers-still : (peer tip : ℕ) (acts : List Act) (ahead : Bool) → Still s (answers (s .before) (args s) peer acts tip (cond ahead BehindPeer Continue))
   unfolding answers entersSyncing unmarked
   answers-still peer tip acts true = (refl, refl)
   answers-still peer tip acts false = (refl, refl)
 
   quiet : (kind : ℕ) → s .call .kind ≡ kind → mayLook kind ≡ false → mayAsk kind ≡ false → (p : Plan) → Still s p → Reading s p
-  quiet kind k l n p h = neither (no-look s kind k l) (no-ask s kind k n) (h .0) (h .1)
+  quiet kind k l n p h = neither (no-look s kind k l) (no-ask s kind k n) h
 
   -- ---- rule 5
 
-  advances-reads : (mode : Mode) → LooksOn s → (NextSections s → ⊥) → (s .call .kind ≡ numbers.reorg → ⊥) → Reading s (advances (s .before) (argsOf (s .call)) mode)
+  advances-reads : (mode : Mode) → LooksOn s → (NextSections s → ⊥) → (s .call .kind ≡ numbers.reorg → ⊥) → Reading s (advances (s .before) (args s) mode)
   unfolding advances advanceFrom argsOf
   advances-reads mode l n other = looks (here s) l n (starts-here s other) refl refl
 
-  check-reads : s .call .kind ≡ numbers.check → Reading s (checks (s .before) (argsOf (s .call)) (isMode (s .before .mode) syncing))
+  check-reads : s .call .kind ≡ numbers.check → Reading s (checks (s .before) (args s) (isMode (s .before .mode) syncing))
   unfolding checks advanceFrom argsOf unmarked
   check-reads k = go (isMode (s .before .mode) syncing) refl
     where
-      go : (t : Bool) → isMode (s .before .mode) syncing ≡ t → Reading s (checks (s .before) (argsOf (s .call)) t)
+      go : (t : Bool) → isMode (s .before .mode) syncing ≡ t → Reading s (checks (s .before) (args s) t)
       go true m =
           looks (here s) (inCheck k (is-syncing (s .before .mode) m)) (no-ask s numbers.check k refl) (starts-here s (λ e. omega (arith, k, e))) refl refl
-      go false m =
-          neither (λ l. not-syncing (s .before .mode) m (look-in-check s k l)) (no-ask s numbers.check k refl) refl refl
+      go false m = neither (λ l. not-syncing (s .before .mode) m (look-in-check s k l)) (no-ask s numbers.check k refl) (refl, refl)
 
   tick-synced-reads : s .call .kind ≡ numbers.scheduledTick → s .before .mode ≡ synced → (listed : List ℕ) → peers s ≡ listed
-      → Reading s (ticksSynced (s .before) (argsOf (s .call)) (firstOf listed))
+      → Reading s (ticksSynced (s .before) (args s) (firstOf listed))
   unfolding ticksSynced advanceFrom argsOf
   tick-synced-reads k m [] e =
-      let still = leaves-still SyncPeerGone seeking [] in
-      neither (λ l. look-at-tick s k l .1 e) (no-ask s numbers.scheduledTick k refl) (still .0) (still .1)
+      neither (λ l. look-at-tick s k l .1 e) (no-ask s numbers.scheduledTick k refl) (leaves-still SyncPeerGone seeking [])
   tick-synced-reads k m (peer ∷ others) e =
-      looks (here s) (atTick k m (λ q. cons≢nil (sym e ∙ q))) (no-ask s numbers.scheduledTick k refl) (starts-here s (λ r. omega (arith, k, r))) refl refl
+      looks (here s) (atTick k m (λ q. cons≢nil (sym e ∙ q))) (no-ask s numbers.scheduledTick k refl)
+      (starts-here s (λ r. omega (arith, k, r))) refl refl
 
-  tick-reads : s .call .kind ≡ numbers.scheduledTick → hasSyncPeer (s .before .mode) ≡ true → Reading s (planOf (s .before) (argsOf (s .call)) Steps.scheduledTick)
+  tick-reads : s .call .kind ≡ numbers.scheduledTick → hasSyncPeer (s .before .mode) ≡ true → Reading s (planOf (s .before) (args s) Steps.scheduledTick)
   unfolding planOf argsOf
   tick-reads k h = go (isMode (s .before .mode) syncing) refl
     where
       st : State
       st = s .before
+
       a : Args
-      a = argsOf (s .call)
+      a = args s
+
       late : Bool
       late = settings.stalled (st .settings) (a .clock) (st .sync .lastProgress)
+
       go : (t : Bool) → isMode (st .mode) syncing ≡ t → Reading s (cond t (ticksSyncing st a late) (ticksSynced st a (firstOf (a .peers))))
       go true m =
-          let still = ticks-syncing-still late in
-          neither (λ l. false≢true (sym (ap (λ x. isMode x syncing) (look-at-tick s k l .0)) ∙ m)) (no-ask s numbers.scheduledTick k refl) (still .0) (still .1)
+          neither (λ l. false≢true (sym (ap (λ x. isMode x syncing) (look-at-tick s k l .0)) ∙ m)) (no-ask s numbers.scheduledTick k refl)
+          (ticks-syncing-still late)
       go false m = tick-synced-reads k (is-synced (st .mode) h m) (peers s) refl
 
   -- ---- rules 5 and 4
 
-  both-read : (from : ℕ) → LooksOn s → NextSections s → StartsFrom s from → Reading s (advancesAndRequests (s .before) (argsOf (s .call)) from)
+  both-read : (from : ℕ) → LooksOn s → NextSections s → StartsFrom s from → Reading s (advancesAndRequests (s .before) (args s) from)
   unfolding advancesAndRequests advanceFrom sectionsFrom argsOf
   both-read from l n starts = looksAndAsks from l n starts refl refl
 
   -- ---- rule 4
 
-  progress-reads : s .call .kind ≡ numbers.progress → (t : Bool) → Reading s (progresses (s .before) (argsOf (s .call)) t)
+  progress-reads : s .call .kind ≡ numbers.progress → (t : Bool) → Reading s (progresses (s .before) (args s) t)
   unfolding progresses sectionsFrom argsOf unmarked
   progress-reads k true = asks (no-look s numbers.progress k refl) (asked.onProgress k) refl refl
   progress-reads k false = asks (no-look s numbers.progress k refl) (asked.onProgress k) refl refl
 
   at-tip-reads : (acts : List Act) (tip : ℕ) → (LooksOn s → ⊥) → (NextSections s → s .before .mode ≡ syncing) → NothingAhead s
-      → Reading s (isAtTip (s .before) (argsOf (s .call)) acts tip)
+      → Reading s (isAtTip (s .before) (args s) acts tip)
   unfolding isAtTip sectionsFrom argsOf
   at-tip-reads acts tip l n ahead = go (isMode (s .before .mode) syncing) refl
     where
       here-read : Bool → Bool
       here-read t = (cond t (window s (here s)) (record { acts = []; inView = true })) .inView
-      go : (t : Bool) → isMode (s .before .mode) syncing ≡ t → Reading s (isAtTip (s .before) (argsOf (s .call)) acts tip)
+
+      go : (t : Bool) → isMode (s .before .mode) syncing ≡ t → Reading s (isAtTip (s .before) (args s) acts tip)
       go true m = asks l (asked.onEntry ahead (is-syncing (s .before .mode) m)) refl (ap here-read m)
-      go false m = neither l (λ q. not-syncing (s .before .mode) m (n q)) refl (ap here-read m)
+      go false m = neither l (λ q. not-syncing (s .before .mode) m (n q)) (refl, ap here-read m)
 
   ids-read : s .call .kind ≡ numbers.announcedIds → (list : List Id) → ids s ≡ list
-      → Reading s (hearsAnnounced (s .before) (argsOf (s .call)) (s .call .peer) (s .call .typeid) list)
+      → Reading s (hearsAnnounced (s .before) (args s) (s .call .peer) (s .call .typeid) list)
   unfolding hearsAnnounced
   ids-read k [] e = go (eqb (s .call .typeid) headerType) refl
     where
       st : State
       st = s .before
+
       a : Args
-      a = argsOf (s .call)
+      a = args s
+
       go : (t : Bool) → eqb (s .call .typeid) headerType ≡ t → Reading s (cond t (isAtTip st a [] (st .sync .knownTip)) (continues st a []))
       go true h =
-          at-tip-reads [] (st .sync .knownTip) (no-look s numbers.announcedIds k refl) (λ n. ask-of-message s (inl k) n .1)
+          at-tip-reads [] (st .sync .knownTip) (no-look s numbers.announcedIds k refl) (λ n. ask-on-entry s numbers.announcedIds k refl n .1)
           (noHeaders k (eqb-true (s .call .typeid) headerType h) e)
       go false h =
-          let still = continues-still [] in
           neither (no-look s numbers.announcedIds k refl)
-          (λ n. eqb-false (s .call .typeid) headerType h (ahead-of-ids s k (ask-of-message s (inl k) n .0) .0)) (still .0) (still .1)
+          (λ n. eqb-false (s .call .typeid) headerType h (ahead-of-ids s k (ask-on-entry s numbers.announcedIds k refl n .0) .0)) (continues-still [])
   ids-read k (id ∷ others) e =
-      let acts = cond (isAnnounceable (s .call .typeid)) (ask (s .call .typeid) (s .call .peer) (argsOf (s .call) .stored) (id ∷ others) ∷ []) [] in
-      let still = continues-still acts in
-      neither (no-look s numbers.announcedIds k refl) (λ n. cons≢nil (sym e ∙ ahead-of-ids s k (ask-of-message s (inl k) n .0) .1)) (still .0) (still .1)
+      let acts = cond (isAnnounceable (s .call .typeid)) (ask (s .call .typeid) (s .call .peer) (args s .stored) (id ∷ others) ∷ []) [] in
+      neither (no-look s numbers.announcedIds k refl)
+      (λ n. cons≢nil (sym e ∙ ahead-of-ids s k (ask-on-entry s numbers.announcedIds k refl n .0) .1)) (continues-still acts)
 
   -- a sync info that names no tip
   unheard-reads : (peer tip : ℕ) (acts : List Act) → s .call .kind ≡ numbers.syncInfo → (Heard s (s .call .tip) → ⊥)
-      → Reading s (answers (s .before) (argsOf (s .call)) peer acts tip Continue)
+      → Reading s (answers (s .before) (args s) peer acts tip Continue)
   unheard-reads peer tip acts k deaf =
-      let still = answers-still peer tip acts false in
-      neither (no-look s numbers.syncInfo k refl) (λ n. deaf (ahead-of-info s k (ask-of-message s (inr k) n .0) .0)) (still .0) (still .1)
+      neither (no-look s numbers.syncInfo k refl) (λ n. deaf (ahead-of-info s k (ask-on-entry s numbers.syncInfo k refl n .0) .0))
+      (answers-still peer tip acts false)
 
   heard-reads : (acts : List Act) (tip : ℕ) → Heard s (s .call .tip)
-      → Reading s (answers (s .before) (argsOf (s .call)) (s .call .peer) acts tip
+      → Reading s (answers (s .before) (args s) (s .call .peer) acts tip
       (tipOutcome (eqb (s .call .peer) (s .before .sync .syncPeer)) (s .call .height) (some (s .call .tip))))
   unfolding tipOutcome answers
   heard-reads acts tip heard = go (fromSyncPeer && leb (s .call .tip) (s .call .height)) refl
     where
       st : State
       st = s .before
+
       a : Args
-      a = argsOf (s .call)
+      a = args s
+
       k : s .call .kind ≡ numbers.syncInfo
       k = heard .kind
+
       fromSyncPeer : Bool
       fromSyncPeer = eqb (s .call .peer) (st .sync .syncPeer)
+
       ahead : Bool
       ahead = ltb (s .call .height + 1) (s .call .tip)
+
       go : (t : Bool) → fromSyncPeer && leb (s .call .tip) (s .call .height) ≡ t
           → Reading s (answers st a (s .call .peer) acts tip (cond t Synced (cond ahead BehindPeer Continue)))
       go true e =
-          at-tip-reads acts tip (no-look s numbers.syncInfo k refl) (λ n. ask-of-message s (inr k) n .1)
+          at-tip-reads acts tip (no-look s numbers.syncInfo k refl) (λ n. ask-on-entry s numbers.syncInfo k refl n .1)
           (tipReached (s .call .tip) heard
           (eqb-true (s .call .peer) (st .sync .syncPeer) (and-left fromSyncPeer (leb (s .call .tip) (s .call .height)) e))
           (leb-true (s .call .tip) (s .call .height) (and-right fromSyncPeer (leb (s .call .tip) (s .call .height)) e)))
       go false e =
-          let still = answers-still (s .call .peer) tip acts ahead in
           neither (no-look s numbers.syncInfo k refl)
           (λ n.
-            let h = ahead-of-info s k (ask-of-message s (inr k) n .0) in
-            false≢true (sym e ∙ rw (eq-eqb (s .call .peer) (st .sync .syncPeer) (h .1), le-leb (s .call .tip) (s .call .height) (h .2))))
-          (still .0) (still .1)
+          let h = ahead-of-info s k (ask-on-entry s numbers.syncInfo k refl n .0) in
+          false≢true (sym e ∙ rw (eq-eqb (s .call .peer) (st .sync .syncPeer) (h .1), le-leb (s .call .tip) (s .call .height) (h .2))))
+          (answers-still (s .call .peer) tip acts ahead)
 
   info-reads : s .call .kind ≡ numbers.syncInfo → (said : List Id)
-      → Reading s (hearsSyncInfo (s .before) (argsOf (s .call)) (s .call .peer) (eqb (s .call .parsed) 1) (cond (eqb (s .call .hastip) 1) (some (s .call .tip)) none) said)
+      → Reading s
+      (hearsSyncInfo (s .before) (args s) (s .call .peer) (eqb (s .call .parsed) 1) (cond (eqb (s .call .hastip) 1) (some (s .call .tip)) none) said)
   unfolding hearsSyncInfo tipOutcome argsOf
   info-reads k said = go (eqb (s .call .parsed) 1) (eqb (s .call .hastip) 1) refl refl
     where
       st : State
       st = s .before
+
       a : Args
-      a = argsOf (s .call)
+      a = args s
+
       go : (parsed named : Bool) → eqb (s .call .parsed) 1 ≡ parsed → eqb (s .call .hastip) 1 ≡ named
           → Reading s (hearsSyncInfo st a (s .call .peer) parsed (cond named (some (s .call .tip)) none) said)
       go true true p n =
@@ -371,32 +387,32 @@ module _ (s : Seen) where
   -- ---- every step
 
   step-reads : {step : Step} → Kind (s .call) step → ofMode (s .before .mode) (s .before .sync .entrySent) step ≡ true
-      → Reading s (planOf (s .before) (argsOf (s .call)) step)
+      → Reading s (planOf (s .before) (args s) step)
   unfolding planOf ofMode argsOf
   step-reads (SeenLaws.start k) mode = advances-reads seeking (atStart k) (no-ask s numbers.start k refl) (λ e. omega (arith, k, e))
   step-reads (SeenLaws.pick k) mode =
       let chosen = selectPeer (s .before .sync .stalledPeers) (peers s) in
-      quiet numbers.pick k refl refl (picks (s .before) (argsOf (s .call)) chosen) (picks-still chosen)
+      quiet numbers.pick k refl refl (picks (s .before) (args s) chosen) (picks-still chosen)
   step-reads (SeenLaws.neededModifier k) mode =
-      let acts = ask (s .call .typeid) (s .before .sync .syncPeer) (argsOf (s .call) .stored) (ids s) ∷ [] in
-      quiet numbers.neededModifier k refl refl (continues (s .before) (argsOf (s .call)) acts) (continues-still acts)
+      let acts = ask (s .call .typeid) (s .before .sync .syncPeer) (args s .stored) (ids s) ∷ [] in
+      quiet numbers.neededModifier k refl refl (continues (s .before) (args s) acts) (continues-still acts)
   step-reads (SeenLaws.reorg k) mode = both-read (min (here s) (s .call .fork)) (inReorg k) (asked.inReorg k) (starts-lower s k)
   step-reads (SeenLaws.announcedIds k) mode = ids-read k (ids s) refl
   step-reads (SeenLaws.syncInfo k) mode = info-reads k (idsIn (s .call .continuation))
-  step-reads (SeenLaws.otherMessage k) mode = quiet numbers.otherMessage k refl refl (continues (s .before) (argsOf (s .call)) []) (continues-still [])
-  step-reads (SeenLaws.lostPeer k) mode = quiet numbers.lostPeer k refl refl (loses (s .before) (argsOf (s .call)) (s .call .peer)) (loses-still (s .call .peer))
+  step-reads (SeenLaws.otherMessage k) mode = quiet numbers.otherMessage k refl refl (continues (s .before) (args s) []) (continues-still [])
+  step-reads (SeenLaws.lostPeer k) mode = quiet numbers.lostPeer k refl refl (loses (s .before) (args s) (s .call .peer)) (loses-still (s .call .peer))
   step-reads (SeenLaws.receivedIds k) mode =
       advances-reads (s .before .mode) (onReceipt k) (no-ask s numbers.receivedIds k refl) (λ e. omega (arith, k, e))
-  step-reads (SeenLaws.evictedIds k) mode = quiet numbers.evictedIds k refl refl (evicts (s .before) (argsOf (s .call)) (ids s)) (evicts-still (ids s))
+  step-reads (SeenLaws.evictedIds k) mode = quiet numbers.evictedIds k refl refl (evicts (s .before) (args s) (ids s)) (evicts-still (ids s))
   step-reads (SeenLaws.progress k) mode = progress-reads k (isMode (s .before .mode) syncing)
   step-reads (SeenLaws.check k) mode = check-reads k
   step-reads (SeenLaws.scheduledTick k) mode = tick-reads k mode
   step-reads (SeenLaws.sectionTick k) mode = both-read (here s) (atSectionTick k) (asked.atSectionTick k) (starts-here s (λ e. omega (arith, k, e)))
   step-reads (SeenLaws.sendFailure k) mode =
-      quiet numbers.sendFailure k refl refl (leaves (s .before) (argsOf (s .call)) SyncPeerGone seeking []) (leaves-still SyncPeerGone seeking [])
+      quiet numbers.sendFailure k refl refl (leaves (s .before) (args s) SyncPeerGone seeking []) (leaves-still SyncPeerGone seeking [])
   step-reads (SeenLaws.endOfStream k) mode =
       let next = cond (isMode (s .before .mode) seeking) ended seeking in
-      quiet numbers.endOfStream k refl refl (leaves (s .before) (argsOf (s .call)) EndOfStream next []) (leaves-still EndOfStream next [])
+      quiet numbers.endOfStream k refl refl (leaves (s .before) (args s) EndOfStream next []) (leaves-still EndOfStream next [])
 
   pub plan-reads : Kind (s .call) (stepOf (s .call)) → ofMode (s .before .mode) (s .before .sync .entrySent) (stepOf (s .call)) ≡ true
       → Reading s (plan (s .before) (argsOf (s .call)))

@@ -1,5 +1,5 @@
 -- Number 9: a plan is out of view exactly when the step reads a height that the lent view lacks.
-use Prim.Native.Nat.{ℕ, _+_, _≤_, _<_, min}
+use Prim.Native.Nat.{ℕ, _+_, min}
 use mathlib.Core.Path.{_≡_, refl, sym, _∙_, subst}
 use mathlib.Core.Bool.{Bool, true, false, _&&_, false≢true}
 use mathlib.Core.List.{[]}
@@ -14,9 +14,9 @@ use Rattle.model.specs.Promises.Heights.{Complete, LooksOn, StartsFrom}
 use Rattle.model.specs.Promises.Asked.{Present, NextSections}
 use Rattle.model.specs.Promises.Refusals.{Reached, AsksFrom, raised, asItStands, Reads, lookingOn, asking, Unseen, outside}
 use Rattle.model.proofs.Promises.SeenLaws.{Kind}
-use Rattle.model.proofs.Promises.ViewLaws.{Behind, Lacks, Reaches, reaches-once, raised-reaches, raised-lacks, raised-shows, sections-lack, sections-show}
-use Rattle.model.proofs.Promises.LookLaws as laws
-use Rattle.model.proofs.Promises.LookLaws.{here, starts-here, starts-once, window, Reading, looks, looksAndAsks, asks, neither, plan-reads}
+use Rattle.model.proofs.Promises.ViewLaws.{Behind, Lacks, Reaches, reaches-once, raised-reaches, raised-lacks, raised-shows}
+use Rattle.model.proofs.Promises.ViewLaws.{sections-lack, sections-show}
+use Rattle.model.proofs.Promises.LookLaws.{here, starts-once, risen, window, Reading, looks, looksAndAsks, asks, neither, plan-reads}
 
 module _ (s : Seen) where
   -- ---- a height that the view lacks is read
@@ -34,20 +34,20 @@ module _ (s : Seen) where
       let within = r .within in
       outside (lack .height) (asking from n (w .0) start (r .above) (omega arith) (omega arith) (r .behind)) (lack .lacked)
 
-  reached : (from : ℕ) → Reached s from (laws.raised s from .height)
+  reached : (from : ℕ) → Reached s from (risen s from .height)
   reached from =
       let r = raised-reaches (view s) (s .call .height) from in
       record { rises = r .rises; overComplete = r .over; asFar = r .asFar }
 
   reading-unseen : (p : Plan) → Reading s p → p .inView ≡ false → Unseen s
   reading-unseen p (looks from l n starts d v) e = lacked-looking from l starts (raised-lacks (view s) (s .call .height) from (sym v ∙ e))
-  reading-unseen p (looksAndAsks from l n starts d v) e = go (laws.raised s from .inView) refl (sym v ∙ e)
+  reading-unseen p (looksAndAsks from l n starts d v) e = go (risen s from .inView) refl (sym v ∙ e)
     where
-      go : (t : Bool) → laws.raised s from .inView ≡ t → t && window s (laws.raised s from .height) .inView ≡ false → Unseen s
-      go true a w = lacked-asking (laws.raised s from .height) n (raised from l starts (reached from)) w
+      go : (t : Bool) → risen s from .inView ≡ t → t && window s (risen s from .height) .inView ≡ false → Unseen s
+      go true a w = lacked-asking (risen s from .height) n (raised from l starts (reached from)) w
       go false a w = lacked-looking from l starts (raised-lacks (view s) (s .call .height) from a)
   reading-unseen p (asks l n d v) e = lacked-asking (here s) n (asItStands l refl) (sym v ∙ e)
-  reading-unseen p (neither l n d v) e = absurd (false≢true (sym e ∙ v))
+  reading-unseen p (neither l n still) e = absurd (false≢true (sym e ∙ still .1))
 
   pub unseen : Kind (s .call) (stepOf (s .call)) → ofMode (s .before .mode) (s .before .sync .entrySent) (stepOf (s .call)) ≡ true
       → plan (s .before) (argsOf (s .call)) .inView ≡ false → Unseen s
@@ -55,11 +55,11 @@ module _ (s : Seen) where
 
   -- ---- every height that is read is in the view
 
-  shown-looking : (from from′ height : ℕ) → StartsFrom s from → StartsFrom s from′ → laws.raised s from .inView ≡ true
+  shown-looking : (from from′ height : ℕ) → StartsFrom s from → StartsFrom s from′ → risen s from .inView ≡ true
       → Behind (λ h. Complete (view s h)) from′ (s .call .height) height → view s height ≡ none → ⊥
   shown-looking from from′ height starts starts′ e b lacked =
-      raised-shows (view s) (s .call .height) from e
-      (record { height = height; read = subst (λ f. Behind (λ h. Complete (view s h)) f (s .call .height) height) (starts-once s from′ from starts′ starts) b; lacked = lacked })
+      let same : from′ ≡ from = starts-once s from′ from starts′ starts in
+      raised-shows (view s) (s .call .height) from e (record { height = height; read = rw same at b; lacked = lacked })
 
   shown-asking : (from height : ℕ) → window s from .inView ≡ true → (peers s ≡ [] → ⊥)
       → Behind (λ h. Present (view s h)) from (min (from + windowSize) (s .call .height)) height → view s height ≡ none → ⊥
@@ -67,11 +67,11 @@ module _ (s : Seen) where
       sections-show (view s) (s .call .height) from (peers s) e listed (record { height = height; read = b; lacked = lacked })
 
   -- rule 4 starts where rule 5 got to, or where the height stands
-  asks-raised : (from height : ℕ) → LooksOn s → StartsFrom s from → AsksFrom s height → height ≡ laws.raised s from .height
+  asks-raised : (from height : ℕ) → LooksOn s → StartsFrom s from → AsksFrom s height → height ≡ risen s from .height
   asks-raised from height l starts (raised from′ l′ starts′ r) =
-      reaches-once (view s) from (s .call .height) height (laws.raised s from .height)
-      (subst (λ f. Reaches (view s) f (s .call .height) height) (starts-once s from′ from starts′ starts) (record { rises = r .rises; over = r .overComplete; asFar = r .asFar }))
-      (raised-reaches (view s) (s .call .height) from)
+      let there : Reaches (view s) from′ (s .call .height) height = record { rises = r .rises; over = r .overComplete; asFar = r .asFar } in
+      let same : from′ ≡ from = starts-once s from′ from starts′ starts in
+      reaches-once (view s) from (s .call .height) height (risen s from .height) (rw same at there) (raised-reaches (view s) (s .call .height) from)
   asks-raised from height l starts (asItStands other e) = absurd (other l)
 
   asks-here : (height : ℕ) → (LooksOn s → ⊥) → AsksFrom s height → height ≡ here s
@@ -83,18 +83,18 @@ module _ (s : Seen) where
       shown-looking from from′ height starts starts′ (sym v ∙ e) (record { above = above; within = within; behind = behind }) lacked
   reading-shows p (looks from l n starts d v) e height (asking from′ n′ listed start above few within behind) lacked = n n′
   reading-shows p (looksAndAsks from l n starts d v) e height (lookingOn from′ l′ starts′ above within behind) lacked =
-      shown-looking from from′ height starts starts′ (and-left (laws.raised s from .inView) (window s (laws.raised s from .height) .inView) (sym v ∙ e))
+      shown-looking from from′ height starts starts′ (and-left (risen s from .inView) (window s (risen s from .height) .inView) (sym v ∙ e))
       (record { above = above; within = within; behind = behind }) lacked
   reading-shows p (looksAndAsks from l n starts d v) e height (asking from′ n′ listed start above few within behind) lacked =
-      let w = and-right (laws.raised s from .inView) (window s (laws.raised s from .height) .inView) (sym v ∙ e) in
+      let w = and-right (risen s from .inView) (window s (risen s from .height) .inView) (sym v ∙ e) in
       shown-asking from′ height (subst (λ f. window s f .inView ≡ true) (sym (asks-raised from from′ l starts start)) w) listed
       (record { above = above; within = omega arith; behind = behind }) lacked
   reading-shows p (asks l n d v) e height (lookingOn from′ l′ starts′ above within behind) lacked = l l′
   reading-shows p (asks l n d v) e height (asking from′ n′ listed start above few within behind) lacked =
       shown-asking from′ height (subst (λ f. window s f .inView ≡ true) (sym (asks-here from′ l start)) (sym v ∙ e)) listed
       (record { above = above; within = omega arith; behind = behind }) lacked
-  reading-shows p (neither l n d v) e height (lookingOn from′ l′ starts′ above within behind) lacked = l l′
-  reading-shows p (neither l n d v) e height (asking from′ n′ listed start above few within behind) lacked = n n′
+  reading-shows p (neither l n still) e height (lookingOn from′ l′ starts′ above within behind) lacked = l l′
+  reading-shows p (neither l n still) e height (asking from′ n′ listed start above few within behind) lacked = n n′
 
   unseen-lacks : (p : Plan) → Reading s p → p .inView ≡ true → Unseen s → ⊥
   unseen-lacks p r e (outside height read lacked) = reading-shows p r e height read lacked

@@ -1,7 +1,7 @@
 -- Rules 4 and 5 over a view: which heights they read, how far the height gets, and when a height that they read is not in the view.
 use Prim.Native.Nat.{ℕ, zero, suc, _+_, _-_, _≤_, _<_, min}
 use mathlib.Core.Path.{_≡_, refl, sym, _∙_, subst}
-use mathlib.Core.Bool.{Bool, true, false, cond, _&&_, false≢true}
+use mathlib.Core.Bool.{Bool, true, false, cond, false≢true}
 use mathlib.Core.Logic.{_⊎_, inl, inr, ⊎-elim}
 use mathlib.Core.List.{List, [], _∷_, cons≢nil}
 use mathlib.Core.Option.{Option, none, some}
@@ -59,8 +59,8 @@ module _ (Good : ℕ → Type 0) (from n : ℕ) where
   behind-cases height b =
       ⊎-elim inl
       (λ (m : suc from < height).
-        let q = b .within in
-        inr (b .behind (suc from) (omega arith) m, record { above = m; within = omega arith; behind = λ h l u. b .behind h (omega arith) u }))
+      let q = b .within in
+      inr (b .behind (suc from) (omega arith) m, record { above = m; within = omega arith; behind = λ h l u. b .behind h (omega arith) u }))
       (eq-or-lt-of-le (b .above))
 
 -- A height that a rule reads, and that the view lacks.
@@ -99,11 +99,13 @@ advance-lacks (suc n) view from e = go (view (suc from)) refl (advance-lacks n v
   where
     further : Advance
     further = advanceWithin n view (suc from)
+
     on : (sections : List Section) (t : Bool) → view (suc from) ≡ some (present sections) → allStored sections ≡ t
         → (further .inView ≡ false → Lacks Complete view (suc from) (suc from + n))
         → (cond t further (record { height = from; inView = true })) .inView ≡ false → Lacks Complete view from (from + suc n)
     on sections true v s next e = lacks-next Complete view from n (rw v (stored-all sections s)) (next e)
     on sections false v s next e = absurd (false≢true (sym e))
+
     go : (header : Option Header) → view (suc from) ≡ header → (further .inView ≡ false → Lacks Complete view (suc from) (suc from + n))
         → past header from further .inView ≡ false → Lacks Complete view from (from + suc n)
     go none v next e = lacks-first Complete view from n v
@@ -116,13 +118,16 @@ advance-shows (suc n) view from e l = go (view (suc from)) refl (advance-shows n
   where
     further : Advance
     further = advanceWithin n view (suc from)
+
     stops : (header : Header) → view (suc from) ≡ some header → (Complete (some header) → ⊥) → ⊥
     stops header v bad = lacks-none Complete view from n (rw v tt) (λ c. bad (subst Complete v c)) l
+
     on : (sections : List Section) (t : Bool) → view (suc from) ≡ some (present sections) → allStored sections ≡ t
         → (further .inView ≡ true → Lacks Complete view (suc from) (suc from + n) → ⊥)
         → (cond t further (record { height = from; inView = true })) .inView ≡ true → ⊥
     on sections true v s next e = ⊎-elim (λ q. subst Shown q (rw v tt)) (λ p. next e (p .1)) (lacks-cases Complete view from n l)
     on sections false v s next e = stops (present sections) v (λ c. false≢true (sym s ∙ all-stored sections c))
+
     go : (header : Option Header) → view (suc from) ≡ header → (further .inView ≡ true → Lacks Complete view (suc from) (suc from + n) → ⊥)
         → past header from further .inView ≡ true → ⊥
     go none v next e = false≢true e
@@ -137,6 +142,7 @@ window-lacks (suc n) view peer from e = go (view (suc from)) refl (window-lacks 
   where
     further : Window
     further = windowWithin n view peer (suc from)
+
     go : (header : Option Header) → view (suc from) ≡ header → (further .inView ≡ false → Lacks Present view (suc from) (suc from + n))
         → widen header peer further .inView ≡ false → Lacks Present view from (from + suc n)
     go none v next e = lacks-first Present view from n v
@@ -149,6 +155,7 @@ window-shows (suc n) view peer from e l = go (view (suc from)) refl (window-show
   where
     further : Window
     further = windowWithin n view peer (suc from)
+
     go : (header : Option Header) → view (suc from) ≡ header → (further .inView ≡ true → Lacks Present view (suc from) (suc from + n) → ⊥)
         → widen header peer further .inView ≡ true → ⊥
     go none v next e = false≢true e
@@ -190,11 +197,13 @@ advance-reaches (suc n) view from = go (view (suc from)) refl (advance-reaches n
   where
     further : Advance
     further = advanceWithin n view (suc from)
+
     on : (sections : List Section) (t : Bool) → view (suc from) ≡ some (present sections) → allStored sections ≡ t
         → Reaches view (suc from) (suc from + n) (further .height)
         → Reaches view from (from + suc n) ((cond t further (record { height = from; inView = true })) .height)
     on sections true v s next = reaches-next view from n (further .height) (rw v (stored-all sections s)) next
     on sections false v s next = reaches-stopped view from (from + suc n) (λ c. false≢true (sym s ∙ all-stored sections (subst Complete v c)))
+
     go : (header : Option Header) → view (suc from) ≡ header → Reaches view (suc from) (suc from + n) (further .height)
         → Reaches view from (from + suc n) (past header from further .height)
     go none v next = reaches-stopped view from (from + suc n) (λ c. subst Complete v c)
