@@ -179,7 +179,6 @@ reaches-stopped view from most bad = reaches-here view from most (inr (λ c. bad
 reaches-next : (view : View) (from n height : ℕ) → Complete (view (suc from)) → Reaches view (suc from) (suc from + n) height
     → Reaches view from (from + suc n) height
 reaches-next view from n height good r =
-    let e : suc from + n ≡ from + suc n = omega arith in
     let q = r .rises in
     record {
       rises = omega arith;
