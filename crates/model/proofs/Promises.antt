@@ -6,3 +6,7 @@ pub mod CountLaws
 pub mod RunsKept
 pub mod VerdictLaws
 pub mod CheckAsked
+pub mod ViewLaws
+pub mod LookLaws
+pub mod HeightsKept
+pub mod ReadLaws
