@@ -10,3 +10,8 @@ pub mod ViewLaws
 pub mod LookLaws
 pub mod HeightsKept
 pub mod ReadLaws
+pub mod TellsLaws
+pub mod WrongCallLaws
+pub mod WrongListLaws
+pub mod WrongViewLaws
+pub mod RefusalsKept

@@ -1,0 +1,77 @@
+-- Refusals, proved: a call on good areas gets the first number from 4 to 11 whose condition in words holds, and 0 if none does.
+use Prim.Native.Nat.{ℕ, suc, _+_, _≤_}
+use mathlib.Core.Path.{_≡_, refl, sym, _∙_}
+use mathlib.Core.Bool.{Bool, true, false}
+use mathlib.Core.Logic.{inl, inr}
+use mathlib.Core.List.{List, [], _∷_}
+use lib.ListN.{length}
+use lib.Dec.{eqb}
+use borrow.Author.Tests.{le-leb, eqb-true, eq-eqb}
+use Rattle.model.specs.Layout.{areaSize}
+use Rattle.model.specs.Protocol.{trackedLimit, stalledLimit}
+use Rattle.model.specs.Steps.{plan, after}
+use Rattle.model.specs.Image.{decode, wellFormed}
+use Rattle.model.specs.Calls.{Call, unless, argsOf, callFits, resultRefusal, callRefusal, stepRefusal, step, stepAnswer}
+use Rattle.model.specs.Promises.Words.{Seen, seen}
+use Rattle.model.specs.Promises.Refusals
+use Rattle.model.specs.Promises.Refusals.{Unseen, FirstWrong, wrongs}
+use Rattle.model.proofs.StepLaws.{of-mode}
+use Rattle.model.proofs.Promises.ReadLaws.{unseen, all-seen}
+use Rattle.model.proofs.Promises.TellsLaws.{Tells, le-tells}
+use Rattle.model.proofs.Promises.WrongCallLaws.{call-tells, fits-kind}
+use Rattle.model.proofs.Promises.WrongListLaws.{lists-tell, peers-tell}
+use Rattle.model.proofs.Promises.WrongViewLaws.{view-tells}
+
+-- What a chain of tests gives, from one of them on. A record, so that a number is not opened into its cases.
+record Told (number first : ℕ) (Wrongs : List (Type 0)) : Type 0 where
+  told : FirstWrong number first Wrongs
+
+none-told : {first : ℕ} → Told 0 first []
+none-told = record { told = refl }
+
+-- one more test in front
+then-told : {ok : Bool} {Wrong : Type 0} {others first : ℕ} {Wrongs : List (Type 0)} → Tells ok Wrong → (ok ≡ true → Told others (suc first) Wrongs)
+    → Told (unless ok first others) first (Wrong ∷ Wrongs)
+then-told {ok} {Wrong} {others} {first} {Wrongs} t rest = record { told = go ok t rest }
+  where
+    go : (ok : Bool) → Tells ok Wrong → (ok ≡ true → Told others (suc first) Wrongs) → FirstWrong (unless ok first others) first (Wrong ∷ Wrongs)
+    go true t rest = inr (t .passed refl, rest refl .told)
+    go false t rest = inl (t .failed refl, refl)
+
+-- on good areas the call decides alone
+number-of : (state area : List ℕ) (call : Call) → length state ≡ areaSize → wellFormed state ≡ true → areaSize ≤ length area
+    → step state area call .answer .number ≡ callRefusal (decode state) call
+unfolding step stepRefusal stepAnswer
+number-of state area call size formed room =
+    let r : stepRefusal state area call ≡ callRefusal (decode state) call =
+    rw (eq-eqb (length state) areaSize size, formed, le-leb areaSize (length area) room) in
+    go (eqb (stepRefusal state area call) 0) refl ∙ r
+  where
+    go : (t : Bool) → eqb (stepRefusal state area call) 0 ≡ t → step state area call .answer .number ≡ stepRefusal state area call
+    go true e = rw e (sym (eqb-true (stepRefusal state area call) 0 e))
+    go false e = rw e
+
+-- 9: its laws need that 5 was passed
+seen-tells : (s : Seen) → callFits (s .before) (s .call) ≡ true → Tells (plan (s .before) (argsOf (s .call)) .inView) (Unseen s)
+seen-tells s fits =
+    let kind = fits-kind (s .before) (s .call) fits in
+    let mode = of-mode (s .before) (s .call) fits in
+    record { passed = all-seen s kind mode; failed = unseen s kind mode }
+
+-- the tests in their order
+call-told : (s : Seen) → Told (callRefusal (s .before) (s .call)) 4 (wrongs s)
+unfolding callRefusal resultRefusal
+call-told s =
+    let end = after (s .before) (argsOf (s .call)) in
+    then-told (le-tells (s .before .lastClock) (s .call .clock))
+    (λ e. then-told (call-tells s)
+    (λ fits. then-told (lists-tell s)
+    (λ e. then-told (peers-tell s)
+    (λ e. then-told (view-tells s)
+    (λ e. then-told (seen-tells s fits)
+    (λ e. then-told (le-tells (length (end .pending) + length (end .sync .evicted)) trackedLimit)
+    (λ e. then-told (le-tells (length (end .sync .stalledPeers)) stalledLimit) (λ e. none-told))))))))
+
+pub refusals-kept : Refusals.Refusals
+unfolding seen
+refusals-kept state area call bytes width size formed room = rw (number-of state area call size formed room) (call-told (seen state area call) .told)
