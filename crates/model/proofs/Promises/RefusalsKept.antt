@@ -1,9 +1,10 @@
--- Refusals, proved: a call on good areas gets the first number from 4 to 11 whose condition in words holds, and 0 if none does.
-use Prim.Native.Nat.{ℕ, suc, _+_, _≤_}
+-- Refusals, proved: a call gets the first number whose condition in words holds, and 0 if none does; a refusal touches nothing.
+use Prim.Native.Nat.{ℕ, zero, suc, _+_, _<_}
 use mathlib.Core.Path.{_≡_, refl, sym, _∙_}
 use mathlib.Core.Bool.{Bool, true, false}
 use mathlib.Core.Logic.{inl, inr}
 use mathlib.Core.List.{List, [], _∷_}
+use native.Mathlib.Omega.{arith}
 use lib.ListN.{length}
 use lib.Dec.{eqb}
 use borrow.Author.Tests.{le-leb, eqb-true, eq-eqb}
@@ -14,10 +15,11 @@ use Rattle.model.specs.Image.{decode, wellFormed}
 use Rattle.model.specs.Calls.{Call, unless, argsOf, callFits, resultRefusal, callRefusal, stepRefusal, step, stepAnswer}
 use Rattle.model.specs.Promises.Words.{Seen, seen}
 use Rattle.model.specs.Promises.Refusals
-use Rattle.model.specs.Promises.Refusals.{Unseen, FirstWrong, wrongs}
+use Rattle.model.specs.Promises.Refusals.{Unseen, FirstWrong, wrongs, allWrongs}
 use Rattle.model.proofs.StepLaws.{of-mode}
+use Rattle.model.proofs.EntryLaws.{step-refused}
 use Rattle.model.proofs.Promises.ReadLaws.{unseen, all-seen}
-use Rattle.model.proofs.Promises.TellsLaws.{Tells, le-tells}
+use Rattle.model.proofs.Promises.TellsLaws.{Tells, tells-itself, le-tells, eq-tells}
 use Rattle.model.proofs.Promises.WrongCallLaws.{call-tells, fits-kind}
 use Rattle.model.proofs.Promises.WrongListLaws.{lists-tell, peers-tell}
 use Rattle.model.proofs.Promises.WrongViewLaws.{view-tells}
@@ -38,18 +40,15 @@ then-told {ok} {Wrong} {others} {first} {Wrongs} t rest = record { told = go ok 
     go true t rest = inr (t .passed refl, rest refl .told)
     go false t rest = inl (t .failed refl, refl)
 
--- on good areas the call decides alone
-number-of : (state area : List ℕ) (call : Call) → length state ≡ areaSize → wellFormed state ≡ true → areaSize ≤ length area
-    → step state area call .answer .number ≡ callRefusal (decode state) call
-unfolding step stepRefusal stepAnswer
-number-of state area call size formed room =
-    let r : stepRefusal state area call ≡ callRefusal (decode state) call =
-    rw (eq-eqb (length state) areaSize size, formed, le-leb areaSize (length area) room) in
-    go (eqb (stepRefusal state area call) 0) refl ∙ r
-  where
-    go : (t : Bool) → eqb (stepRefusal state area call) 0 ≡ t → step state area call .answer .number ≡ stepRefusal state area call
-    go true e = rw e (sym (eqb-true (stepRefusal state area call) 0 e))
-    go false e = rw e
+module _ (state area : List ℕ) (call : Call) where
+  -- the number told is that of the refusal, 0 or not
+  number-told : step state area call .answer .number ≡ stepRefusal state area call
+  unfolding step stepAnswer
+  number-told = go (eqb (stepRefusal state area call) 0) refl
+    where
+      go : (t : Bool) → eqb (stepRefusal state area call) 0 ≡ t → step state area call .answer .number ≡ stepRefusal state area call
+      go true e = rw e (sym (eqb-true (stepRefusal state area call) 0 e))
+      go false e = rw e
 
 -- 9: its laws need that 5 was passed
 seen-tells : (s : Seen) → callFits (s .before) (s .call) ≡ true → Tells (plan (s .before) (argsOf (s .call)) .inView) (Unseen s)
@@ -72,6 +71,22 @@ call-told s =
     (λ e. then-told (le-tells (length (end .pending) + length (end .sync .evicted)) trackedLimit)
     (λ e. then-told (le-tells (length (end .sync .stalledPeers)) stalledLimit) (λ e. none-told))))))))
 
+positive : (n : ℕ) → (n ≡ 0 → ⊥) → 0 < n
+positive zero n = absurd (n refl)
+positive (suc m) n = omega arith
+
+-- the areas before the call
+areas-told : (state area : List ℕ) (call : Call) → Told (stepRefusal state area call) 1 (allWrongs state area (seen state area call))
+unfolding stepRefusal seen
+areas-told state area call =
+    then-told (eq-tells (length state) areaSize)
+    (λ e. then-told (tells-itself (wellFormed state))
+    (λ e. then-told (le-tells areaSize (length area)) (λ e. call-told (seen state area call))))
+
 pub refusals-kept : Refusals.Refusals
-unfolding seen
-refusals-kept state area call bytes width size formed room = rw (number-of state area call size formed room) (call-told (seen state area call) .told)
+refusals-kept state area call =
+    let n : step state area call .answer .number ≡ stepRefusal state area call = number-told state area call in
+    record {
+      first = rw n (areas-told state area call .told);
+      untouched = λ refused. step-refused state area call (step state area call .answer .number) (sym n) (positive (step state area call .answer .number) refused);
+    }

@@ -1,20 +1,16 @@
 -- Refusals: what each number from 4 to 11 says of a call, in words, and that it is given exactly then.
 use Prim.Native.Nat.{ℕ, suc, _+_, _*_, _≤_, _<_, _^_}
 use mathlib.Core.Path.{_≡_}
-use mathlib.Core.Bool.{Bool, true, false}
-use mathlib.Core.Logic.{_⊎_, _↔_}
+use mathlib.Core.Bool.{true, false}
+use mathlib.Core.Logic.{_⊎_}
 use mathlib.Core.List.{List, [], _∷_}
-use mathlib.Core.Option.{Option, none, some}
+use mathlib.Core.Option.{none}
 use lib.ListN.{length, getD, drop}
-use Rattle.fields.specs.Number.{fromBe}
 use Rattle.fields.specs.Order.{before}
 use Rattle.fields.specs.Entries.{entry}
-use Rattle.fields.specs.Facts.{Bytes}
 use Rattle.model.specs.Image.{field, wellFormed}
-use Rattle.model.specs.Lists.{viewOf}
 use Rattle.model.specs.Steps.{after}
 use Rattle.model.specs.Calls.{Call, argsOf, step}
-use Rattle.model.specs.Demand3.{InWidth}
 use Rattle.model.specs.Promises.Numbers
 use Rattle.model.specs.Promises.Words.{Seen, seen, peers, view}
 use Rattle.model.specs.Promises.Outcomes.{Taken}
@@ -109,17 +105,43 @@ TooManyStalled s = 256 < length (after (s .before) (argsOf (s .call)) .sync .sta
 
 -- ---- exactly
 
--- what the numbers from 4 to 11 say
-abbrev pub wrongs : Seen → List (Type 0)
-wrongs s = Early s ∷ NotNow s ∷ BadIds s ∷ BadPeers s ∷ BadView s ∷ Unseen s ∷ Overfull s ∷ TooManyStalled s ∷ []
-
 -- The first of these that holds gives its number, counted from `first` on; if none holds, the number is 0.
 abbrev pub FirstWrong : ℕ → ℕ → List (Type 0) → Type 0
 FirstWrong number first [] = number ≡ 0
 FirstWrong number first (Wrong ∷ others) = (Wrong × (number ≡ first)) ⊎ ((Wrong → ⊥) × FirstWrong number (suc first) others)
 
--- "Checked in this order", on areas that 1, 2 and 3 have nothing against.
+-- What the numbers from 4 to 11 say.
+abbrev pub wrongs : Seen → List (Type 0)
+wrongs s = Early s ∷ NotNow s ∷ BadIds s ∷ BadPeers s ∷ BadView s ∷ Unseen s ∷ Overfull s ∷ TooManyStalled s ∷ []
+
+-- What 1, 2 and 3 say of the areas, in front of them. What "malformed" means is `wellFormed`, held by the round trips of images.
+abbrev pub allWrongs : List ℕ → List ℕ → Seen → List (Type 0)
+allWrongs state area s = (length state ≡ 65536 → ⊥) ∷ (wellFormed state ≡ false) ∷ (length area < 65536) ∷ wrongs s
+
+pub record Answered (state area : List ℕ) (call : Call) : Type 0 where
+  -- "Checked in this order."
+  pub first : FirstWrong (step state area call .answer .number) 1 (allWrongs state area (seen state area call))
+  -- "Each gives its number, all else 0, both areas untouched."
+  pub untouched :
+      (step state area call .answer .number ≡ 0 → ⊥)
+      → step state area call
+      ≡ record {
+        answer =
+            record {
+              number = step state area call .answer .number;
+              outcome = 0;
+              retried = 0;
+              fresh = 0;
+              abandoned = 0;
+              forgotten = 0;
+              pending = 0;
+              evicted = 0;
+              length = 0;
+            };
+        state = state;
+        commands = area;
+      }
+
+-- Of any call on any areas.
 abbrev pub Refusals : Type 0
-Refusals =
-    (state area : List ℕ) (call : Call) → Bytes state → InWidth call → length state ≡ 65536 → wellFormed state ≡ true → 65536 ≤ length area
-    → FirstWrong (step state area call .answer .number) 4 (wrongs (seen state area call))
+Refusals = (state area : List ℕ) (call : Call) → Answered state area call
