@@ -1,13 +1,13 @@
 -- The promises on outcomes and modes: each outcome exactly when it is promised, and the mode that follows.
-use Prim.Native.Nat.{ℕ, _+_, _-_, _≤_, _<_}
+use Prim.Native.Nat.{ℕ, _+_, _-_, _≤_}
 use mathlib.Core.Path.{_≡_, refl, sym, ap, _∙_, subst}
 use mathlib.Core.Bool.{Bool, true, false, cond, _&&_, _||_, false≢true}
-use mathlib.Core.Logic.{_⊎_, inl, inr, _↔_}
+use mathlib.Core.Logic.{inl, inr}
 use mathlib.Core.List.{List, [], _∷_}
 use mathlib.Core.Option.{Option, none, some}
 use native.Mathlib.Omega.{arith}
 use lib.Dec.{eqb, leb, ltb}
-use borrow.Author.Tests.{eqb-true, eqb-false, leb-true, leb-false, ltb-true, ltb-false, eq-eqb, ne-eqb, le-leb, lt-leb, lt-ltb, le-ltb}
+use borrow.Author.Tests.{eqb-true, leb-true, ltb-true, eq-eqb, le-leb, lt-leb, lt-ltb}
 use Rattle.fields.proofs.OrderLaws.{and-left}
 use Rattle.model.specs.Protocol.{Id, headerType}
 use Rattle.model.specs.Settings as settings
@@ -19,7 +19,7 @@ use Rattle.model.specs.Events.{Outcome, Continue, Synced, BehindPeer, Sy
 use Rattle.model.specs.Steps
 use Rattle.model.specs.Steps.{Step, Args, Plan, ofMode, planOf, plan, after}
 use Rattle.model.specs.Image.{modeOf}
-use Rattle.model.specs.Calls.{Call, argsOf, stepOf, stepAnswer}
+use Rattle.model.specs.Calls.{Call, argsOf, stepAnswer}
 use Rattle.model.specs.Promises.Numbers as numbers
 use Rattle.model.specs.Promises.Words.{Seen}
 use Rattle.model.specs.Promises.Outcomes.{Heard, NothingAhead, noHeaders, tipReached, FarAhead, tipAhead, PeerGone, lost, sendFailed, nobodyListed, NoProgress, Outcomes, Taken, Modes}

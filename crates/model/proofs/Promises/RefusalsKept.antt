@@ -1,17 +1,17 @@
 -- Refusals, proved: a call gets the first number whose condition in words holds, and 0 if none does; a refusal touches nothing.
 use Prim.Native.Nat.{ℕ, zero, suc, _+_, _<_}
-use mathlib.Core.Path.{_≡_, refl, sym, _∙_}
+use mathlib.Core.Path.{_≡_, refl, sym}
 use mathlib.Core.Bool.{Bool, true, false}
 use mathlib.Core.Logic.{inl, inr}
 use mathlib.Core.List.{List, [], _∷_}
 use native.Mathlib.Omega.{arith}
 use lib.ListN.{length}
 use lib.Dec.{eqb}
-use borrow.Author.Tests.{le-leb, eqb-true, eq-eqb}
+use borrow.Author.Tests.{eqb-true}
 use Rattle.model.specs.Layout.{areaSize}
 use Rattle.model.specs.Protocol.{trackedLimit, stalledLimit}
 use Rattle.model.specs.Steps.{plan, after}
-use Rattle.model.specs.Image.{decode, wellFormed}
+use Rattle.model.specs.Image.{wellFormed}
 use Rattle.model.specs.Calls.{Call, unless, argsOf, callFits, resultRefusal, callRefusal, stepRefusal, step, stepAnswer}
 use Rattle.model.specs.Promises.Words.{Seen, seen}
 use Rattle.model.specs.Promises.Refusals

@@ -1,23 +1,19 @@
 -- A finished call as it is seen from outside is the model's step: what all promises start from.
-use Prim.Native.Nat.{ℕ, suc, _+_, _≤_}
+use Prim.Native.Nat.{ℕ, _≤_}
 use mathlib.Core.Path.{_≡_, refl, sym, ap, _∙_, subst}
 use mathlib.Core.Bool.{Bool, true, false, cond, _&&_}
 use mathlib.Core.List.{List}
-use mathlib.Core.Option.{Option, none, some}
-use native.Mathlib.Omega.{arith}
-use lib.ListN.{length, take}
+use mathlib.Core.Option.{none, some}
 use lib.Dec.{eqb, leb}
 use borrow.Author.Tests.{leb-true, eqb-true}
 use Rattle.fields.specs.Facts.{Bytes}
-use Rattle.fields.specs.Overwrite.{overwritten}
 use Rattle.fields.proofs.OrderLaws.{and-left, and-right}
 use Rattle.model.specs.State.{State}
 use Rattle.model.specs.Steps
 use Rattle.model.specs.Steps.{Step, ofMode, planOf, plan, after, commands}
-use Rattle.model.specs.Image.{decode, encode, wellFormed}
+use Rattle.model.specs.Image.{decode}
 use Rattle.model.specs.Lists.{idsIn}
-use Rattle.model.specs.Commands.{commandsIn}
-use Rattle.model.specs.Calls.{Call, Result, isFlag, stepOf, argsOf, callFits, callRefusal, stepRefusal, step, stepAnswer, stepBytes, refused}
+use Rattle.model.specs.Calls.{Call, isFlag, stepOf, argsOf, callFits, stepRefusal, step, stepAnswer}
 use Rattle.model.specs.Demand3.{InWidth}
 use Rattle.model.specs.Promises.Numbers as numbers
 use Rattle.model.specs.Promises.Words.{Seen, seen, Promised}

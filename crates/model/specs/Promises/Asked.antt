@@ -1,7 +1,7 @@
 -- Who is asked for what: every request of a step, by the step's kind.
 use Prim.Native.Nat.{ℕ, zero, suc, _+_, _≤_, _<_}
 use mathlib.Core.Path.{_≡_}
-use mathlib.Core.Bool.{Bool, true, false, not, cond, _&&_}
+use mathlib.Core.Bool.{not, cond, _&&_}
 use mathlib.Core.Logic.{_⊎_}
 use mathlib.Core.List.{List, [], _∷_, _++_, map}
 use mathlib.Core.Option.{Option, none, some}
@@ -9,8 +9,7 @@ use lib.Dec.{eqb}
 use Rattle.fields.specs.Facts.{All}
 use Rattle.model.specs.Protocol.{Id}
 use Rattle.model.specs.Delivery.{Request}
-use Rattle.model.specs.State.{Mode, syncing}
-use Rattle.model.specs.Requests.{Pair}
+use Rattle.model.specs.State.{syncing}
 use Rattle.model.specs.Sections.{Section, Header, absent, present, View}
 use Rattle.model.specs.Book.{Requested, requestedIn}
 use Rattle.model.specs.Promises.Numbers

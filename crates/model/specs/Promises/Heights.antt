@@ -3,10 +3,10 @@ use Prim.Native.Nat.{ℕ, _+_, _≤_, _<_}
 use mathlib.Core.Path.{_≡_}
 use mathlib.Core.Bool.{true}
 use mathlib.Core.Logic.{_⊎_}
-use mathlib.Core.List.{List, []}
+use mathlib.Core.List.{[]}
 use mathlib.Core.Option.{Option, none, some}
 use Rattle.fields.specs.Facts.{All}
-use Rattle.model.specs.State.{Mode, syncing, synced}
+use Rattle.model.specs.State.{syncing, synced}
 use Rattle.model.specs.Sections.{Section, Header, absent, present}
 use Rattle.model.specs.Promises.Numbers
 use Rattle.model.specs.Promises.Words.{Seen, peers, view}

@@ -1,11 +1,11 @@
 -- The sync peer, the stalled set and the marks: who is chosen, who joins and when the set is emptied, what clocks and marks say.
 use Prim.Native.Nat.{ℕ}
 use mathlib.Core.Path.{_≡_}
-use mathlib.Core.Bool.{Bool, true, false}
+use mathlib.Core.Bool.{true, false}
 use mathlib.Core.Logic.{_⊎_, _↔_}
 use mathlib.Core.List.{List, [], _∷_, _++_}
 use Rattle.fields.specs.Facts.{All}
-use Rattle.model.specs.State.{Mode, syncing, synced}
+use Rattle.model.specs.State.{syncing, synced}
 use Rattle.model.specs.Requests.{Command}
 use Rattle.model.specs.Promises.Numbers
 use Rattle.model.specs.Promises.Words.{Seen, peers, Among, First}

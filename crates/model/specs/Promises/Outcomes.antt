@@ -2,7 +2,7 @@
 use Prim.Native.Nat.{ℕ, _+_, _≤_, _<_}
 use mathlib.Core.Path.{_≡_}
 use mathlib.Core.Logic.{_⊎_, _↔_}
-use mathlib.Core.List.{List, []}
+use mathlib.Core.List.{[]}
 use Rattle.model.specs.State.{Mode, new, seeking, syncing, synced, ended}
 use Rattle.model.specs.Promises.Numbers
 use Rattle.model.specs.Promises.Words.{Seen, ids, peers}

@@ -5,7 +5,7 @@ use mathlib.Core.Logic.{_⊎_}
 use mathlib.Core.List.{List, [], _∷_, _++_}
 use Rattle.fields.specs.Facts.{All}
 use Rattle.model.specs.Delivery.{Request}
-use Rattle.model.specs.State.{Mode, syncing}
+use Rattle.model.specs.State.{syncing}
 use Rattle.model.specs.Book.{Requested, requestedIn}
 use Rattle.model.specs.Promises.Numbers
 use Rattle.model.specs.Promises.Words.{Seen, ids, peers, Among}

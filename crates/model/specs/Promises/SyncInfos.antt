@@ -1,12 +1,11 @@
 -- Sync infos and announcements: when one goes out, to whom, and where it stands among the commands.
 use Prim.Native.Nat.{ℕ, _+_, _≤_, _<_, _%_, _^_}
 use mathlib.Core.Path.{_≡_}
-use mathlib.Core.Bool.{Bool, true, false}
-use mathlib.Core.Logic.{_⊎_}
+use mathlib.Core.Bool.{false}
 use mathlib.Core.List.{List, [], _∷_, _++_}
 use Rattle.fields.specs.Facts.{All}
 use Rattle.model.specs.Protocol.{Id}
-use Rattle.model.specs.State.{Mode, syncing, synced}
+use Rattle.model.specs.State.{syncing, synced}
 use Rattle.model.specs.Requests.{Command}
 use Rattle.model.specs.Lists.{idsIn}
 use Rattle.model.specs.Promises.Numbers

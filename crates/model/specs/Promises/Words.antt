@@ -1,12 +1,9 @@
 -- The words in which promises are said. None of them is a word of the rules: promises share with these only how bytes are read.
 use Prim.Native.Nat.{ℕ, suc}
 use mathlib.Core.Path.{_≡_}
-use mathlib.Core.Bool.{Bool, true, false}
 use mathlib.Core.Logic.{_⊎_}
-use mathlib.Core.List.{List, [], _∷_, _++_}
-use mathlib.Core.Option.{Option, none, some}
+use mathlib.Core.List.{List, [], _∷_}
 use Rattle.fields.specs.Facts.{All, Bytes}
-use Rattle.model.specs.Delivery.{Request}
 use Rattle.model.specs.State.{State}
 use Rattle.model.specs.Requests.{Command, Pair}
 use Rattle.model.specs.Image.{decode}
