@@ -1,3 +1,4 @@
 -- The promises, proved: what specs/Promises says of any finished call.
 pub mod SeenLaws
 pub mod WordLaws
+pub mod AskedLaws
