@@ -2,3 +2,4 @@
 pub mod SeenLaws
 pub mod WordLaws
 pub mod AskedLaws
+pub mod AsksKept

@@ -12,12 +12,12 @@ use Rattle.fields.specs.Order.{same}
 use Rattle.fields.specs.Filter.{consIf, kept}
 use Rattle.fields.proofs.OrderLaws.{and-left, and-right, not-both, or-left, or-right, eq-same, same-eq}
 use Rattle.fields.proofs.MarkLaws.{kept-kept}
-use Rattle.model.specs.Protocol.{Id, isAmong}
+use Rattle.model.specs.Protocol.{Id, isAmong, isAnnounceable}
 use Rattle.model.specs.Delivery.{Request, idsOf, isPending}
 use Rattle.model.specs.Peers.{isListed, firstOf, isSome}
 use Rattle.model.specs.Requests.{Pair, isStored, wanted}
 use Rattle.model.specs.Promises.Words.{Among, First, LeftOf, Counted}
-use Rattle.model.specs.Promises.Asked.{PendingId}
+use Rattle.model.specs.Promises.Asked.{PendingId, Announceable}
 
 -- ---- tests
 
@@ -170,3 +170,25 @@ left-wanted pending typeId pairs ids =
     (λ id p. inl (passes-pending id pending (not-false (isPending id pending) p)))
     (λ id s. inr (passes-stored pairs typeId id (not-false (isStored pairs typeId id) s)))
     ids
+
+-- ---- the types that are announced
+
+pub announceable-passes : (typeId : ℕ) → Announceable typeId → isAnnounceable typeId ≡ true
+unfolding isAnnounceable
+announceable-passes typeId (inl e) = ap isAnnounceable e
+announceable-passes typeId (inr (inl e)) = ap isAnnounceable e
+announceable-passes typeId (inr (inr (inl e))) = ap isAnnounceable e
+announceable-passes typeId (inr (inr (inr (inl e)))) = ap isAnnounceable e
+announceable-passes typeId (inr (inr (inr (inr e)))) = ap isAnnounceable e
+
+pub passes-announceable : (typeId : ℕ) → isAnnounceable typeId ≡ true → Announceable typeId
+unfolding isAnnounceable
+passes-announceable typeId e = first (eqb typeId 2) (eqb typeId 101) (eqb typeId 102) (eqb typeId 104) refl refl refl refl e
+  where
+    first : (a b c d : Bool) → eqb typeId 2 ≡ a → eqb typeId 101 ≡ b → eqb typeId 102 ≡ c → eqb typeId 104 ≡ d
+        → a || (b || (c || (d || eqb typeId 108))) ≡ true → Announceable typeId
+    first true b c d p q r s t = inl (eqb-true typeId 2 p)
+    first false true c d p q r s t = inr (inl (eqb-true typeId 101 q))
+    first false false true d p q r s t = inr (inr (inl (eqb-true typeId 102 r)))
+    first false false false true p q r s t = inr (inr (inr (inl (eqb-true typeId 104 s))))
+    first false false false false p q r s t = inr (inr (inr (inr (eqb-true typeId 108 t))))
