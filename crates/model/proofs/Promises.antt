@@ -5,3 +5,4 @@ pub mod PairLaws
 pub mod ItemLaws
 pub mod AskedLaws
 pub mod AsksKept
+pub mod BatchesKept

@@ -3,20 +3,21 @@ use Prim.Native.Nat.{ℕ}
 use mathlib.Core.Path.{_≡_, refl, sym, ap, _∙_, subst}
 use mathlib.Core.Bool.{Bool, true, false, cond, _&&_}
 use mathlib.Core.List.{List, [], _∷_, _++_, map, append-nil}
-use mathlib.Core.Option.{Option}
+use mathlib.Core.Option.{Option, none, some}
 use native.Mathlib.Omega.{arith}
 use lib.Dec.{ltb}
 use Rattle.fields.specs.Facts.{All}
-use Rattle.fields.proofs.AllLaws.{either}
+use Rattle.fields.proofs.AllLaws.{all-append, either}
 use Rattle.model.specs.Protocol.{Id}
 use Rattle.model.specs.Settings.{Settings, throttled}
 use Rattle.model.specs.Delivery.{Request}
-use Rattle.model.specs.State.{SendClock, State}
+use Rattle.model.specs.State.{SendClock, Sync, State}
+use Rattle.model.specs.Peers.{firstOf, resetSends}
 use Rattle.model.specs.Requests.{Pair, request, announcement, syncInfo, Act, ask, send, syncInfoTo, wanted, requestOf, perform, performAll}
 use Rattle.model.specs.Sections.{Item, batchesOf}
 use Rattle.model.specs.Check.{retries, markAllRetried, retrySendings}
-use Rattle.model.specs.Events.{notAbove, announce, continuation}
-use Rattle.model.specs.Steps.{Step, Args, isCheck, planOf, plan, remaining, retried, performed, after, commands}
+use Rattle.model.specs.Events.{Outcome, notAbove, announce, continuation}
+use Rattle.model.specs.Steps.{Step, Args, isCheck, sayTo, leaves, entersSyncing, picks, ticksSyncing, ticksSynced, planOf, plan, remaining, retried, performed, after, commands}
 use Rattle.model.specs.Calls.{Call, argsOf}
 use Rattle.model.specs.Book.{Requested, requestedIn}
 use Rattle.model.proofs.Widths.{WellAct}
@@ -45,6 +46,37 @@ announce-says peer (id ∷ ids) = (tt, tt)
 pub continuation-says : (parsed : Bool) (ours : ℕ) (tip : Option ℕ) (peer : ℕ) (ids : List Id) → All Says (continuation parsed ours tip peer ids)
 unfolding continuation
 continuation-says parsed ours tip peer ids = either (All Says) (parsed && (ltb 0 ours && notAbove ours tip)) (announce peer ids) [] (announce-says peer ids) tt
+
+-- ---- plans that ask for nothing
+
+module _ (st : State) (a : Args) where
+  pub say-to-says : (peer : ℕ) → All Says (sayTo st a peer)
+  unfolding sayTo
+  say-to-says peer = sync-info-says (st .settings) (a .clock) (st .sync .sendClock) peer
+
+  pub enters-says : (outcome : Outcome) (peer : ℕ) (acts : List Act) (sync : Sync) → All Says acts → All Says (entersSyncing st a outcome peer acts sync .acts)
+  unfolding entersSyncing
+  enters-says outcome peer acts sync w =
+      all-append Says acts (syncInfoTo (st .settings) (a .clock) (sync .sendClock) peer) w (sync-info-says (st .settings) (a .clock) (sync .sendClock) peer)
+
+  pub picks-say : (peer : Option ℕ) → All Says (picks st a peer .acts)
+  unfolding picks entersSyncing
+  picks-say none = tt
+  picks-say (some peer) = sync-info-says (st .settings) (a .clock) (resetSends (st .sync .sendClock)) peer
+
+  ticks-syncing-says : (late : Bool) → All Says (ticksSyncing st a late .acts)
+  unfolding ticksSyncing
+  ticks-syncing-says true = say-to-says (st .sync .syncPeer)
+  ticks-syncing-says false = say-to-says (st .sync .syncPeer)
+
+  ticks-synced-says : (peer : Option ℕ) → All Says (ticksSynced st a peer .acts)
+  unfolding ticksSynced leaves
+  ticks-synced-says none = tt
+  ticks-synced-says (some peer) = say-to-says peer
+
+  pub ticks-say : (isSyncing late : Bool) → All Says ((cond isSyncing (ticksSyncing st a late) (ticksSynced st a (firstOf (a .peers)))) .acts)
+  ticks-say true late = ticks-syncing-says late
+  ticks-say false late = ticks-synced-says (firstOf (a .peers))
 
 -- ---- what acts ask for
 

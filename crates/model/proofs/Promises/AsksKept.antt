@@ -31,7 +31,7 @@ use Rattle.model.proofs.RequestedLaws.{requested}
 use Rattle.model.proofs.Promises.SeenLaws as seen
 use Rattle.model.proofs.Promises.SeenLaws.{seenAs, Finished, Kind, kind-of}
 use Rattle.model.proofs.Promises.WordLaws.{left-wanted, announceable-passes, passes-announceable}
-use Rattle.model.proofs.Promises.AskedLaws.{Says, sync-info-says, continuation-says, askedBy, says-ask-nothing, asked-alone, asked-by, shut-asked, acts-well}
+use Rattle.model.proofs.Promises.AskedLaws.{Says, continuation-says, say-to-says, enters-says, picks-say, ticks-say, askedBy, says-ask-nothing, asked-alone, asked-by, shut-asked, acts-well}
 
 -- ---- over plain variables
 
@@ -144,30 +144,6 @@ module _ (st : State) (call : Call) (f : Finished st call) where
 
   -- ---- the other steps
 
-  say-to-says : (peer : ℕ) → All Says (sayTo st a peer)
-  unfolding sayTo
-  say-to-says peer = sync-info-says (st .settings) (a .clock) (st .sync .sendClock) peer
-
-  enters-says : (outcome : Outcome) (peer : ℕ) (acts : List Act) (sync : Sync) → All Says acts → All Says (entersSyncing st a outcome peer acts sync .acts)
-  unfolding entersSyncing
-  enters-says outcome peer acts sync w =
-      all-append Says acts (syncInfoTo (st .settings) (a .clock) (sync .sendClock) peer) w (sync-info-says (st .settings) (a .clock) (sync .sendClock) peer)
-
-  picks-says : (peer : Option ℕ) → All Says (picks st a peer .acts)
-  unfolding picks entersSyncing
-  picks-says none = tt
-  picks-says (some peer) = sync-info-says (st .settings) (a .clock) (resetSends (st .sync .sendClock)) peer
-
-  ticks-syncing-says : (late : Bool) → All Says (ticksSyncing st a late .acts)
-  unfolding ticksSyncing
-  ticks-syncing-says true = say-to-says (st .sync .syncPeer)
-  ticks-syncing-says false = say-to-says (st .sync .syncPeer)
-
-  ticks-synced-says : (peer : Option ℕ) → All Says (ticksSynced st a peer .acts)
-  unfolding ticksSynced leaves
-  ticks-synced-says none = tt
-  ticks-synced-says (some peer) = say-to-says peer
-
   module _ (barred : MayAsk (seenAs st call) → ⊥) where
     sections-say : (height : ℕ) → NextSections (seenAs st call) → All Says (sectionsFrom st a height .acts)
     unfolding sectionsFrom argsOf
@@ -186,9 +162,9 @@ module _ (st : State) (call : Call) (f : Finished st call) where
     answers-says : (peer : ℕ) (acts : List Act) (tip : ℕ) (outcome : Outcome) → All Says acts → (outcome ≡ Synced → NothingAhead (seenAs st call))
         → All Says (answers st a peer acts tip outcome .acts)
     unfolding answers continues
-    answers-says peer acts tip Continue w h = all-append Says acts (sayTo st a peer) w (say-to-says peer)
+    answers-says peer acts tip Continue w h = all-append Says acts (sayTo st a peer) w (say-to-says st a peer)
     answers-says peer acts tip Synced w h = at-tip-says acts tip w (h refl)
-    answers-says peer acts tip BehindPeer w h = enters-says BehindPeer peer acts (withKnownTip (withStalledPeers (unmarked st a) []) tip) w
+    answers-says peer acts tip BehindPeer w h = enters-says st a BehindPeer peer acts (withKnownTip (withStalledPeers (unmarked st a) []) tip) w
     answers-says peer acts tip SyncPeerGone w h = tt
     answers-says peer acts tip Stalled w h = tt
     answers-says peer acts tip EndOfStream w h = tt
@@ -250,18 +226,14 @@ module _ (st : State) (call : Call) (f : Finished st call) where
     progresses-says k true =
         let say : List Act = sayTo st a (st .sync .syncPeer) in
         all-append Says (sectionsFrom st a (st .sync .downloaded) .acts) (cond (st .sync .progressUsed) [] say)
-        (sections-say (st .sync .downloaded) (onProgress k)) (either (All Says) (st .sync .progressUsed) [] say tt (say-to-says (st .sync .syncPeer)))
-
-    ticks-say : (isSyncing late : Bool) → All Says ((cond isSyncing (ticksSyncing st a late) (ticksSynced st a (firstOf (a .peers)))) .acts)
-    ticks-say true late = ticks-syncing-says late
-    ticks-say false late = ticks-synced-says (firstOf (a .peers))
+        (sections-say (st .sync .downloaded) (onProgress k)) (either (All Says) (st .sync .progressUsed) [] say tt (say-to-says st a (st .sync .syncPeer)))
 
     -- A step that may not ask only says something, and is no check.
     only-says : {step : Step} → Kind call step → (outcomeNumber (planOf st a step .outcome) ≡ 0 → stepAnswer st (argsOf call) .outcome ≡ 0)
         → (isCheck step ≡ false) × All Says (planOf st a step .acts)
     unfolding planOf continues leaves advances advancesAndRequests evicts
     only-says (seen.start k) o = (refl, tt)
-    only-says (seen.pick k) o = (refl, picks-says (selectPeer (st .sync .stalledPeers) (a .peers)))
+    only-says (seen.pick k) o = (refl, picks-say st a (selectPeer (st .sync .stalledPeers) (a .peers)))
     only-says (seen.neededModifier k) o = absurd (barred (needed k))
     only-says (seen.reorg k) o = (refl, sections-say (advanceFrom st a (min (st .sync .downloaded) (call .fork)) .height) (inReorg k))
     only-says (seen.announcedIds k) o = (refl, announced-says k (idsIn (call .ids)) refl o)
@@ -273,7 +245,7 @@ module _ (st : State) (call : Call) (f : Finished st call) where
     only-says (seen.progress k) o = (refl, progresses-says k (isMode (st .mode) syncing))
     only-says (seen.check k) o = absurd (barred (checks k))
     only-says (seen.scheduledTick k) o =
-        (refl, ticks-say (isMode (st .mode) syncing) (settings.stalled (st .settings) (a .clock) (st .sync .lastProgress)))
+        (refl, ticks-say st a (isMode (st .mode) syncing) (settings.stalled (st .settings) (a .clock) (st .sync .lastProgress)))
     only-says (seen.sectionTick k) o = (refl, sections-say (advanceFrom st a (st .sync .downloaded) .height) (atSectionTick k))
     only-says (seen.sendFailure k) o = (refl, tt)
     only-says (seen.endOfStream k) o = (refl, tt)
