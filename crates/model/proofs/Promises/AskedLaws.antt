@@ -1,10 +1,9 @@
 -- What a step asks for, read from its plan: the list of all requested ids is that of its acts, behind that of its retries.
 use Prim.Native.Nat.{ℕ}
-use mathlib.Core.Path.{_≡_, refl, sym, ap, _∙_, subst}
+use mathlib.Core.Path.{_≡_, refl, ap, _∙_, subst}
 use mathlib.Core.Bool.{Bool, true, false, cond, _&&_}
 use mathlib.Core.List.{List, [], _∷_, _++_, map, append-nil}
 use mathlib.Core.Option.{Option, none, some}
-use native.Mathlib.Omega.{arith}
 use lib.Dec.{ltb}
 use Rattle.fields.specs.Facts.{All}
 use Rattle.fields.proofs.AllLaws.{all-append, either}
@@ -17,7 +16,8 @@ use Rattle.model.specs.Requests.{Pair, request, announcement, syncInfo, 
 use Rattle.model.specs.Sections.{Item, batchesOf}
 use Rattle.model.specs.Check.{retries, markAllRetried, retrySendings}
 use Rattle.model.specs.Events.{Outcome, notAbove, announce, continuation}
-use Rattle.model.specs.Steps.{Step, Args, isCheck, sayTo, leaves, entersSyncing, picks, ticksSyncing, ticksSynced, planOf, plan, remaining, retried, performed, after, commands}
+use Rattle.model.specs.Steps.{Step, Args, isCheck, sayTo, leaves, entersSyncing, picks, ticksSyncing, ticksSynced}
+use Rattle.model.specs.Steps.{planOf, plan, remaining, retried, performed, after, commands}
 use Rattle.model.specs.Calls.{Call, argsOf}
 use Rattle.model.specs.Book.{Requested, requestedIn}
 use Rattle.model.proofs.Widths.{WellAct}
@@ -96,7 +96,8 @@ module _ (gate : Bool) (clock : ℕ) where
 
   pub says-ask-nothing : (acts : List Act) (rs : List Request) → All Says acts → askedBy acts rs ≡ []
   says-ask-nothing [] rs h = refl
-  says-ask-nothing (act ∷ acts) rs h = rw (asked-cons act acts rs, said-asks-nothing act rs (h .0)) (says-ask-nothing acts (perform gate clock act rs .pending) (h .1))
+  says-ask-nothing (act ∷ acts) rs h =
+      rw (asked-cons act acts rs, said-asks-nothing act rs (h .0)) (says-ask-nothing acts (perform gate clock act rs .pending) (h .1))
 
 -- "gate shut, nothing"
 shut-asks-nothing : (clock : ℕ) (acts : List Act) (rs : List Request) → All WellAct acts → askedBy false clock acts rs ≡ []
@@ -123,7 +124,8 @@ none-retried = refl
 
 module _ (st : State) (a : Args) where
   pub asked-parts : requestedIn (commands st a)
-      ≡ requestedBySendings (retrySendings (retried st a)) ++ askedBy (a .gate) (a .clock) (plan st a .acts) (markAllRetried (retried st a) (remaining st a (a .step)))
+      ≡ requestedBySendings (retrySendings (retried st a))
+      ++ askedBy (a .gate) (a .clock) (plan st a .acts) (markAllRetried (retried st a) (remaining st a (a .step)))
   unfolding commands performed
   asked-parts =
       requested-commands 0 (retrySendings (retried st a) ++ performed st a .sendings)
@@ -132,7 +134,10 @@ module _ (st : State) (a : Args) where
   unretried-asked : retried st a ≡ [] → requestedIn (commands st a) ≡ askedBy (a .gate) (a .clock) (plan st a .acts) (remaining st a (a .step))
   unretried-asked e =
       asked-parts
-      ∙ ap (λ (items : List Item). requestedBySendings (retrySendings items) ++ askedBy (a .gate) (a .clock) (plan st a .acts) (markAllRetried items (remaining st a (a .step)))) e
+      ∙ ap
+      (λ (items : List Item).
+      requestedBySendings (retrySendings items) ++ askedBy (a .gate) (a .clock) (plan st a .acts) (markAllRetried items (remaining st a (a .step))))
+      e
       ∙ ap (λ (l : List Requested). l ++ askedBy (a .gate) (a .clock) (plan st a .acts) (remaining st a (a .step))) none-retried
 
   pub unretried : isCheck (a .step) ≡ false → retried st a ≡ []

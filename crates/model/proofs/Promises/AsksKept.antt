@@ -14,24 +14,28 @@ use Rattle.fields.proofs.AllLaws.{all-append, either}
 use Rattle.model.specs.Protocol.{Id, headerType, isAnnounceable}
 use Rattle.model.specs.Settings as settings
 use Rattle.model.specs.Delivery.{Request}
-use Rattle.model.specs.State.{State, Mode, new, seeking, syncing, synced, ended, isMode, Sync, withKnownTip, withStalledPeers}
-use Rattle.model.specs.Peers.{firstOf, isSome, selectPeer, resetSends}
-use Rattle.model.specs.Requests.{Act, ask, wanted, syncInfoTo}
+use Rattle.model.specs.State.{State, Mode, new, seeking, syncing, synced, ended, isMode, withKnownTip, withStalledPeers}
+use Rattle.model.specs.Peers.{firstOf, isSome, selectPeer}
+use Rattle.model.specs.Requests.{Act, ask, wanted}
 use Rattle.model.specs.Sections.{View, requestSectionsFrom, requestNextSections}
-use Rattle.model.specs.Events.{Outcome, Continue, Synced, BehindPeer, SyncPeerGone, Stalled, EndOfStream, outcomeNumber, tipOutcome, raisedTip, continuation}
+use Rattle.model.specs.Events.{Outcome, Continue, Synced, BehindPeer, SyncPeerGone, Stalled, EndOfStream, outcomeNumber}
+use Rattle.model.specs.Events.{tipOutcome, raisedTip, continuation}
 use Rattle.model.specs.Steps
-use Rattle.model.specs.Steps.{Step, Args, isCheck, unmarked, advanceFrom, sayTo, sectionsFrom, continues, leaves, advances, advancesAndRequests, entersSyncing, picks, isAtTip, answers, hearsSyncInfo, hearsAnnounced, askOrphans, loses, ticksSyncing, ticksSynced, progresses, evicts, planOf, plan, remaining, commands}
+use Rattle.model.specs.Steps.{Step, Args, isCheck, unmarked, advanceFrom, sayTo, sectionsFrom, continues, leaves, advances, advancesAndRequests}
+use Rattle.model.specs.Steps.{isAtTip, answers, hearsSyncInfo, hearsAnnounced, askOrphans, loses, progresses, evicts}
+use Rattle.model.specs.Steps.{planOf, plan, remaining, commands}
 use Rattle.model.specs.Lists.{idsIn, peersIn, pairsIn, viewOf}
 use Rattle.model.specs.Calls.{Call, stepOf, argsOf, stepAnswer}
 use Rattle.model.specs.Book.{requestedIn}
-use Rattle.model.specs.Promises.Words.{Seen}
 use Rattle.model.specs.Promises.Outcomes.{NothingAhead, noHeaders, tipReached}
-use Rattle.model.specs.Promises.Asked.{AsksFor, Announceable, NextSections, inReorg, onProgress, atSectionTick, onEntry, Orphans, MayAsk, announced, needed, sections, orphans, checks}
+use Rattle.model.specs.Promises.Asked.{AsksFor, Announceable, NextSections, inReorg, onProgress, atSectionTick, onEntry, Orphans}
+use Rattle.model.specs.Promises.Asked.{MayAsk, announced, needed, sections, orphans, checks}
 use Rattle.model.proofs.RequestedLaws.{requested}
 use Rattle.model.proofs.Promises.SeenLaws as seen
 use Rattle.model.proofs.Promises.SeenLaws.{seenAs, Finished, Kind, kind-of}
 use Rattle.model.proofs.Promises.WordLaws.{left-wanted, announceable-passes, passes-announceable}
-use Rattle.model.proofs.Promises.AskedLaws.{Says, continuation-says, say-to-says, enters-says, picks-say, ticks-say, askedBy, says-ask-nothing, asked-alone, asked-by, shut-asked, acts-well}
+use Rattle.model.proofs.Promises.AskedLaws.{Says, continuation-says, say-to-says, enters-says, picks-say, ticks-say}
+use Rattle.model.proofs.Promises.AskedLaws.{askedBy, says-ask-nothing, asked-alone, asked-by, shut-asked, acts-well}
 
 -- ---- over plain variables
 
@@ -182,7 +186,8 @@ module _ (st : State) (call : Call) (f : Finished st call) where
         (eqb-true (call .peer) (st .sync .syncPeer) (t .ofSyncPeer)) (t .reached)
 
     sync-info-heard-says : call .kind ≡ 6
-        → All Says (hearsSyncInfo st a (call .peer) (eqb (call .parsed) 1) (cond (eqb (call .hastip) 1) (some (call .tip)) none) (idsIn (call .continuation)) .acts)
+        → All Says
+        (hearsSyncInfo st a (call .peer) (eqb (call .parsed) 1) (cond (eqb (call .hastip) 1) (some (call .tip)) none) (idsIn (call .continuation)) .acts)
     unfolding hearsSyncInfo argsOf
     sync-info-heard-says k =
         answers-says (call .peer) (continuation (eqb (call .parsed) 1) (call .height) known (call .peer) (idsIn (call .continuation)))

@@ -1,6 +1,6 @@
 -- Batches and runs, kept: requests of 1 to 400 ids, batches numbered from 0 without a gap, no list in two batches.
 use Prim.Native.Nat.{ℕ, zero, suc, _+_, _-_, _≤_, min}
-use mathlib.Core.Path.{_≡_, refl, sym, ap, _∙_, subst}
+use mathlib.Core.Path.{_≡_, refl, sym, _∙_, subst}
 use mathlib.Core.Bool.{Bool, true, false, cond, _&&_}
 use mathlib.Core.Logic.{inl, inr}
 use mathlib.Core.List.{List, [], _∷_, _++_, map}
@@ -29,7 +29,8 @@ use Rattle.model.specs.Promises.Batches.{Alike, Follows, EachNext, Start
 use Rattle.model.proofs.Widths.{WellAct}
 use Rattle.model.proofs.StepKindLaws.{check-of-kind}
 use Rattle.model.proofs.Promises.SeenLaws.{seenAs, Finished, numbers-fit}
-use Rattle.model.proofs.Promises.PairLaws.{Pairwise, OfFirst, Neighbours, all-of, pairwise-append, pairwise-map, pairwise-next, next-of, next-append, next-map}
+use Rattle.model.proofs.Promises.PairLaws.{Pairwise, all-of, pairwise-append, pairwise-map, pairwise-next}
+use Rattle.model.proofs.Promises.PairLaws.{OfFirst, Neighbours, next-of, next-append, next-map}
 use Rattle.model.proofs.Promises.ItemLaws.{BatchBelow, batches-keyed, batches-rise}
 use Rattle.model.proofs.Promises.AskedLaws.{Says, continuation-says, say-to-says, enters-says, picks-say, ticks-say, unretried, acts-well}
 
@@ -127,7 +128,8 @@ join-not-empty i [] h = (tt, tt)
 join-not-empty i (b ∷ bs) h = go (eqb (i .typeId) (b .typeId) && eqb (i .peer) (b .peer))
   where
     go : (t : Bool) → All (λ (b : Batch). NotEmpty (b .ids))
-        (cond t (record { typeId = b .typeId; peer = b .peer; ids = i .id ∷ b .ids } ∷ bs) (record { typeId = i .typeId; peer = i .peer; ids = i .id ∷ [] } ∷ (b ∷ bs)))
+        (cond t (record { typeId = b .typeId; peer = b .peer; ids = i .id ∷ b .ids } ∷ bs)
+        (record { typeId = i .typeId; peer = i .peer; ids = i .id ∷ [] } ∷ (b ∷ bs)))
     go true = (tt, h .1)
     go false = (tt, h)
 
@@ -172,17 +174,17 @@ act-sends gate clock (send (announcement peer ids)) rs w = (tt, tt)
 act-sends gate clock (send (syncInfo peer)) rs w = (tt, tt)
 
 -- a request and what another act sends
-act-apart : (gate : Bool) (clock typeId peer : ℕ) (pairs : List Pair) (ids some' : List Id) (act : Act) (rs : List Request)
-    → WellAct act × Differs (ask typeId peer pairs ids) act → All (Apart (request typeId peer some')) (perform gate clock act rs .sendings)
-act-apart true clock typeId peer pairs ids some' (ask typeId′ peer′ pairs′ ids′) rs h = go (wanted rs typeId′ pairs′ ids′)
+act-apart : (gate : Bool) (clock typeId peer : ℕ) (pairs : List Pair) (ids sent : List Id) (act : Act) (rs : List Request)
+    → WellAct act × Differs (ask typeId peer pairs ids) act → All (Apart (request typeId peer sent)) (perform gate clock act rs .sendings)
+act-apart true clock typeId peer pairs ids sent (ask typeId′ peer′ pairs′ ids′) rs h = go (wanted rs typeId′ pairs′ ids′)
   where
-    go : (rest : List Id) → All (Apart (request typeId peer some')) (requestOf typeId′ peer′ rest)
+    go : (rest : List Id) → All (Apart (request typeId peer sent)) (requestOf typeId′ peer′ rest)
     go [] = tt
     go (id ∷ rest) = ((λ a b. h .1), tt)
-act-apart false clock typeId peer pairs ids some' (ask typeId′ peer′ pairs′ ids′) rs h = tt
-act-apart gate clock typeId peer pairs ids some' (send (request typeId′ peer′ ids′)) rs h = absurd (h .0)
-act-apart gate clock typeId peer pairs ids some' (send (announcement peer′ ids′)) rs h = ((λ a b. absurd (omega arith)), tt)
-act-apart gate clock typeId peer pairs ids some' (send (syncInfo peer′)) rs h = ((λ a b. absurd (omega arith)), tt)
+act-apart false clock typeId peer pairs ids sent (ask typeId′ peer′ pairs′ ids′) rs h = tt
+act-apart gate clock typeId peer pairs ids sent (send (request typeId′ peer′ ids′)) rs h = absurd (h .0)
+act-apart gate clock typeId peer pairs ids sent (send (announcement peer′ ids′)) rs h = ((λ a b. absurd (omega arith)), tt)
+act-apart gate clock typeId peer pairs ids sent (send (syncInfo peer′)) rs h = ((λ a b. absurd (omega arith)), tt)
 
 performed-apart : (gate : Bool) (clock : ℕ) (acts : List Act) (rs : List Request) → All WellAct acts → Pairwise Differs acts
     → Pairwise Apart (performAll gate clock acts rs .sendings)
@@ -193,19 +195,22 @@ performed-apart true clock (ask typeId peer pairs ids ∷ acts) rs w d =
     go : (rest : List Id) → ((rs′ : List Request) → All WellAct acts → Pairwise Differs acts → Pairwise Apart (performAll true clock acts rs′ .sendings))
         → Pairwise Apart (requestOf typeId peer rest ++ performAll true clock acts (markRequested clock typeId peer rest rs) .sendings)
     go [] others = others rs (w .1) (d .1)
-    go (id ∷ rest) others =
-        (performed-each true clock (λ (act : Act). WellAct act × Differs (ask typeId peer pairs ids) act) (Apart (request typeId peer (id ∷ rest)))
-        (act-apart true clock typeId peer pairs ids (id ∷ rest)) acts (markRequested clock typeId peer (id ∷ rest) rs)
-        (all-both WellAct (Differs (ask typeId peer pairs ids)) acts (w .1) (d .0)),
-        others (markRequested clock typeId peer (id ∷ rest) rs) (w .1) (d .1))
+    go (id ∷ rest) others = (
+      performed-each true clock (λ (act : Act). WellAct act × Differs (ask typeId peer pairs ids) act) (Apart (request typeId peer (id ∷ rest)))
+          (act-apart true clock typeId peer pairs ids (id ∷ rest)) acts (markRequested clock typeId peer (id ∷ rest) rs)
+          (all-both WellAct (Differs (ask typeId peer pairs ids)) acts (w .1) (d .0)),
+      others (markRequested clock typeId peer (id ∷ rest) rs) (w .1) (d .1),
+    )
 performed-apart false clock (ask typeId peer pairs ids ∷ acts) rs w d = performed-apart false clock acts rs (w .1) (d .1)
 performed-apart gate clock (send (request typeId peer ids) ∷ acts) rs w d = absurd (w .0)
-performed-apart gate clock (send (announcement peer ids) ∷ acts) rs w d =
-    (all-of (Apart (announcement peer ids)) (λ s a. absurd (omega arith)) (performAll gate clock acts rs .sendings),
-    performed-apart gate clock acts rs (w .1) (d .1))
-performed-apart gate clock (send (syncInfo peer) ∷ acts) rs w d =
-    (all-of (Apart (syncInfo peer)) (λ s a. absurd (omega arith)) (performAll gate clock acts rs .sendings),
-    performed-apart gate clock acts rs (w .1) (d .1))
+performed-apart gate clock (send (announcement peer ids) ∷ acts) rs w d = (
+  all-of (Apart (announcement peer ids)) (λ s a. absurd (omega arith)) (performAll gate clock acts rs .sendings),
+  performed-apart gate clock acts rs (w .1) (d .1),
+)
+performed-apart gate clock (send (syncInfo peer) ∷ acts) rs w d = (
+  all-of (Apart (syncInfo peer)) (λ s a. absurd (omega arith)) (performAll gate clock acts rs .sendings),
+  performed-apart gate clock acts rs (w .1) (d .1),
+)
 
 -- ---- a step's lists differ
 
@@ -279,7 +284,8 @@ module _ (st : State) (a : Args) where
       go true = said-before acts (Steps.sectionsFrom st a (st .sync .downloaded) .acts) w (sections-from-differ (st .sync .downloaded))
       go false = said-before acts [] w tt
 
-  answers-differ : (peer : ℕ) (acts : List Act) (tip : ℕ) (outcome : Outcome) → All Says acts → Pairwise Differs (Steps.answers st a peer acts tip outcome .acts)
+  answers-differ : (peer : ℕ) (acts : List Act) (tip : ℕ) (outcome : Outcome) → All Says acts
+      → Pairwise Differs (Steps.answers st a peer acts tip outcome .acts)
   unfolding Steps.answers Steps.continues
   answers-differ peer acts tip Continue w = said-before acts (Steps.sayTo st a peer) w (says-pairwise (Steps.sayTo st a peer) (say-to-says st a peer))
   answers-differ peer acts tip Synced w = at-tip-differ acts tip w
@@ -303,7 +309,8 @@ module _ (st : State) (a : Args) where
   loses-differ peer =
       let asks : List Act = Steps.askOrphans st a peer (firstOf (a .peers)) in
       let acts : List Act = cond (isMode (st .mode) syncing) asks [] in
-      either (λ (p : Steps.Plan). Pairwise Differs (p .acts)) (eqb peer (st .sync .syncPeer)) (Steps.leaves st a SyncPeerGone seeking acts) (Steps.continues st a [])
+      either (λ (p : Steps.Plan). Pairwise Differs (p .acts)) (eqb peer (st .sync .syncPeer))
+      (Steps.leaves st a SyncPeerGone seeking acts) (Steps.continues st a [])
       (either (Pairwise Differs) (isMode (st .mode) syncing) asks [] (orphans-differ peer (firstOf (a .peers))) tt) tt
 
   progresses-differ : (isSyncing : Bool) → Pairwise Differs (Steps.progresses st a isSyncing .acts)
@@ -441,7 +448,8 @@ module _ (st : State) (call : Call) (f : Finished st call) where
   sendings-next n =
       let fit = numbers-fit st call f in
       let e : isCheck (stepOf call) ≡ false = sym (check-of-kind call (fit .kindLow) (fit .kindHigh)) ∙ ne-eqb (call .kind) 12 n in
-      subst (λ (items : List Item). Neighbours Apart (retrySendings items ++ performed st (argsOf call) .sendings)) (sym (unretried st (argsOf call) e)) performed-next
+      subst (λ (items : List Item). Neighbours Apart (retrySendings items ++ performed st (argsOf call) .sendings))
+      (sym (unretried st (argsOf call) e)) performed-next
 
   pub batches-kept : Batches (seenAs st call)
   unfolding commands

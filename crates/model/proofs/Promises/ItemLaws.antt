@@ -103,7 +103,8 @@ module _ (P : ℕ → ℕ → Type 0) where
   join-keyed i (b ∷ bs) p q = go (eqb (i .typeId) (b .typeId) && eqb (i .peer) (b .peer))
     where
       go : (t : Bool) → All (λ (b : Batch). P (b .peer) (b .typeId))
-          (cond t (record { typeId = b .typeId; peer = b .peer; ids = i .id ∷ b .ids } ∷ bs) (record { typeId = i .typeId; peer = i .peer; ids = i .id ∷ [] } ∷ (b ∷ bs)))
+          (cond t (record { typeId = b .typeId; peer = b .peer; ids = i .id ∷ b .ids } ∷ bs)
+          (record { typeId = i .typeId; peer = i .peer; ids = i .id ∷ [] } ∷ (b ∷ bs)))
       go true = q
       go false = (p, q)
 
@@ -138,9 +139,14 @@ join-rises i (b ∷ bs) h r = go (eqb (i .typeId) (b .typeId)) (eqb (i .peer) (b
 
     another : (i .typeId ≡ b .typeId → i .peer ≡ b .peer → ⊥) → Pairwise BatchBelow (first ∷ (b ∷ bs))
     another n =
-        let l : Below (i .peer) (i .typeId) (b .peer) (b .typeId) = strictly (i .peer) (i .typeId) (b .peer) (b .typeId) (h .0) n in
-        ((l, all-weaker (BatchBelow b) (BatchBelow first)
-        (λ c m. below-transitive (i .peer) (i .typeId) (b .peer) (b .typeId) (c .peer) (c .typeId) l m) bs (r .0)), r)
+        let l : Below (i .peer) (i .typeId) (b .peer) (b .typeId) = strictly (i .peer) (i .typeId) (b .peer) (b .typeId) (h .0) n in (
+          (
+            l,
+            all-weaker (BatchBelow b) (BatchBelow first)
+                (λ c m. below-transitive (i .peer) (i .typeId) (b .peer) (b .typeId) (c .peer) (c .typeId) l m) bs (r .0),
+          ),
+          r,
+        )
 
     go : (p q : Bool) → eqb (i .typeId) (b .typeId) ≡ p → eqb (i .peer) (b .peer) ≡ q
         → Pairwise BatchBelow (cond (p && q) (record { typeId = b .typeId; peer = b .peer; ids = i .id ∷ b .ids } ∷ bs) (first ∷ (b ∷ bs)))
@@ -153,7 +159,8 @@ adjacent-rises [] r = tt
 adjacent-rises (i ∷ items) r =
     join-rises i (adjacent items)
     (adjacent-keyed (NotAbove (i .peer) (i .typeId)) items
-    (all-weaker (λ (j : Item). itemBelow j i ≡ false) (λ (j : Item). NotAbove (i .peer) (i .typeId) (j .peer) (j .typeId)) (λ j e. fails-not-above i j e) items (r .0)))
+    (all-weaker (λ (j : Item). itemBelow j i ≡ false) (λ (j : Item). NotAbove (i .peer) (i .typeId) (j .peer) (j .typeId))
+    (λ j e. fails-not-above i j e) items (r .0)))
     (adjacent-rises items (r .1))
 
 -- No two batches have one peer and type: they rise.

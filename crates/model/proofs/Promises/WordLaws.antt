@@ -151,7 +151,8 @@ module _ {A : Type 0} where
       go false e rest = inl (leaves x e, rest)
 
   -- Left out are the same ones, said in other words.
-  pub left-same : (Out Out′ : A → Type 0) → ((x : A) → Out x → Out′ x) → ((x : A) → Out′ x → Out x) → (xs left : List A) → LeftOf Out xs left → LeftOf Out′ xs left
+  pub left-same : (Out Out′ : A → Type 0) → ((x : A) → Out x → Out′ x) → ((x : A) → Out′ x → Out x) → (xs left : List A) → LeftOf Out xs left
+      → LeftOf Out′ xs left
   left-same Out Out′ to from [] left e = e
   left-same Out Out′ to from (x ∷ xs) left (inl h) = inl (to x (h .0), left-same Out Out′ to from xs left (h .1))
   left-same Out Out′ to from (x ∷ xs) left (inr h) =
