@@ -1,9 +1,9 @@
 -- Batches and runs, kept: requests of 1 to 400 ids, batches numbered from 0 without a gap, no list in two batches.
 use Prim.Native.Nat.{ℕ, zero, suc, _+_, _-_, _≤_, min}
-use mathlib.Core.Path.{_≡_, refl, sym, _∙_, subst}
+use mathlib.Core.Path.{_≡_, refl, sym, ap, _∙_, subst}
 use mathlib.Core.Bool.{Bool, true, false, cond, _&&_}
 use mathlib.Core.Logic.{inl, inr}
-use mathlib.Core.List.{List, [], _∷_, _++_, map}
+use mathlib.Core.List.{List, [], _∷_, _++_, map, append-assoc}
 use mathlib.Core.Option.{Option, none, some}
 use native.Mathlib.Omega.{arith}
 use lib.ListN.{length, take, drop, length-take, length-drop}
@@ -25,8 +25,10 @@ use Rattle.model.specs.Events.{Outcome, Continue, Synced, BehindPeer, Sy
 use Rattle.model.specs.Steps
 use Rattle.model.specs.Steps.{Step, Args, isCheck, planOf, plan, remaining, retried, performed, commands}
 use Rattle.model.specs.Calls.{Call, stepOf, argsOf}
+use Rattle.model.specs.Book.{requestedIn}
 use Rattle.model.specs.Promises.Batches.{Alike, Follows, EachNext, StartsAt, Batches}
 use Rattle.model.proofs.Widths.{WellAct}
+use Rattle.model.proofs.RequestedLaws.{requestedBySendings, requested-commands}
 use Rattle.model.proofs.StepKindLaws.{check-of-kind}
 use Rattle.model.proofs.Promises.SeenLaws.{seenAs, Finished, numbers-fit}
 use Rattle.model.proofs.Promises.PairLaws.{Pairwise, all-of, pairwise-append, pairwise-map, pairwise-next}
@@ -428,12 +430,14 @@ module _ (st : State) (call : Call) (f : Finished st call) where
   abbrev sendings : List Sending
   sendings = retrySendings (retried st a) ++ performed st a .sendings
 
-  sendings-send : All Sends sendings
+  performed-send : All Sends (performed st a .sendings)
   unfolding performed
-  sendings-send =
-      all-append Sends (retrySendings (retried st a)) (performed st a .sendings) (retries-send (retried st a))
-      (performed-each (a .gate) (a .clock) WellAct Sends (act-sends (a .gate) (a .clock)) (plan st a .acts)
-      (markAllRetried (retried st a) (remaining st a (a .step))) (acts-well st call f))
+  performed-send =
+      performed-each (a .gate) (a .clock) WellAct Sends (act-sends (a .gate) (a .clock)) (plan st a .acts)
+      (markAllRetried (retried st a) (remaining st a (a .step))) (acts-well st call f)
+
+  sendings-send : All Sends sendings
+  sendings-send = all-append Sends (retrySendings (retried st a)) (performed st a .sendings) (retries-send (retried st a)) performed-send
 
   performed-next : Neighbours Apart (performed st a .sendings)
   unfolding performed plan
@@ -462,3 +466,50 @@ module _ (st : State) (call : Call) (f : Finished st call) where
             each-next (λ (c d : Command). Alike c d → d .batch ≡ c .batch) (commandsFrom 0 sendings)
             (commands-together 0 sendings (sendings-next n) sendings-send);
       }
+
+-- ---- a check's two parts
+
+commands-append : (batch : ℕ) (ss ts : List Sending) → (behind : ℕ) × (commandsFrom batch (ss ++ ts) ≡ commandsFrom batch ss ++ commandsFrom behind ts)
+commands-append batch [] ts = (batch, refl)
+commands-append batch (s ∷ ss) ts =
+    let (behind, e) = commands-append (suc batch) ss ts in (
+      behind,
+      ap (λ (l : List Command). commandsOf batch s ++ l) e ∙ sym (append-assoc (commandsOf batch s) (commandsFrom (suc batch) ss) (commandsFrom behind ts)),
+    )
+
+retries-next : (items : List Item) → Neighbours Apart (retrySendings items)
+unfolding retrySendings
+retries-next items =
+    pairwise-next Apart (map (λ (b : Batch). request (b .typeId) (b .peer) (b .ids)) (batchesOf items))
+    (pairwise-map (λ (b : Batch). request (b .typeId) (b .peer) (b .ids)) BatchBelow Apart (λ b c l k h t p. below-differ b c l t p)
+    (batchesOf items) (batches-rise items))
+
+-- In any step what is sent again stands before what is asked for anew, and no list of either is cut into two batches.
+pub record InTwo (st : State) (call : Call) : Type 0 where
+  pub again : List Command
+  pub anew : List Command
+  pub parts : commands st (argsOf call) ≡ again ++ anew
+  pub requestedAgain : requestedIn again ≡ requestedBySendings (retrySendings (retried st (argsOf call)))
+  pub requestedAnew : requestedIn anew ≡ requestedBySendings (performed st (argsOf call) .sendings)
+  pub togetherAgain : EachNext (λ (c d : Command). Alike c d → d .batch ≡ c .batch) again
+  pub togetherAnew : EachNext (λ (c d : Command). Alike c d → d .batch ≡ c .batch) anew
+
+pub in-two : (st : State) (call : Call) → Finished st call → InTwo st call
+unfolding commands
+in-two st call f =
+    let again : List Sending = retrySendings (retried st (argsOf call)) in
+    let anew : List Sending = performed st (argsOf call) .sendings in
+    let (behind, e) = commands-append 0 again anew in
+    record {
+      again = commandsFrom 0 again;
+      anew = commandsFrom behind anew;
+      parts = e;
+      requestedAgain = requested-commands 0 again;
+      requestedAnew = requested-commands behind anew;
+      togetherAgain =
+          each-next (λ (c d : Command). Alike c d → d .batch ≡ c .batch) (commandsFrom 0 again)
+          (commands-together 0 again (retries-next (retried st (argsOf call))) (retries-send (retried st (argsOf call))));
+      togetherAnew =
+          each-next (λ (c d : Command). Alike c d → d .batch ≡ c .batch) (commandsFrom behind anew)
+          (commands-together behind anew (performed-next st call f) (performed-send st call f));
+    }
