@@ -15,3 +15,9 @@ pub mod WrongCallLaws
 pub mod WrongListLaws
 pub mod WrongViewLaws
 pub mod RefusalsKept
+pub mod WordLaws
+pub mod PairLaws
+pub mod ItemLaws
+pub mod AskedLaws
+pub mod AsksKept
+pub mod BatchesKept

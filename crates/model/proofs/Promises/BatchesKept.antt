@@ -1,0 +1,515 @@
+-- Batches and runs, kept: requests of 1 to 400 ids, batches numbered from 0 without a gap, no list in two batches.
+use Prim.Native.Nat.{ℕ, zero, suc, _+_, _-_, _≤_, min}
+use mathlib.Core.Path.{_≡_, refl, sym, ap, _∙_, subst}
+use mathlib.Core.Bool.{Bool, true, false, cond, _&&_}
+use mathlib.Core.Logic.{inl, inr}
+use mathlib.Core.List.{List, [], _∷_, _++_, map, append-assoc}
+use mathlib.Core.Option.{Option, none, some}
+use native.Mathlib.Omega.{arith}
+use lib.ListN.{length, take, drop, length-take, length-drop}
+use lib.Dec.{eqb}
+use borrow.Author.Tests.{ne-eqb}
+use Rattle.fields.specs.Facts.{All}
+use Rattle.fields.specs.Sort.{sorted}
+use Rattle.fields.proofs.AllLaws.{all-append, all-map, all-both, either}
+use Rattle.model.specs.Protocol.{Id, headerType, requestSize, isAnnounceable, windowSize}
+use Rattle.model.specs.Settings as settings
+use Rattle.model.specs.Delivery.{Request, orphansOf, markRequested}
+use Rattle.model.specs.State.{State, seeking, syncing, isMode, Sync, withKnownTip, withStalledPeers}
+use Rattle.model.specs.Peers.{firstOf, selectPeer}
+use Rattle.model.specs.Requests.{Sending, request, announcement, syncInfo, Command, runsWithin, runs, commandsOf, commandsFrom}
+use Rattle.model.specs.Requests.{Pair, Act, ask, send, wanted, requestOf, perform, performAll}
+use Rattle.model.specs.Sections.{View, Item, itemBelow, Batch, join, adjacent, batchesOf, windowWithin, requestSectionsFrom, requestNextSections}
+use Rattle.model.specs.Check.{retrySendings, markAllRetried, askFresh}
+use Rattle.model.specs.Events.{Outcome, Continue, Synced, BehindPeer, SyncPeerGone, Stalled, EndOfStream, tipOutcome, raisedTip, continuation}
+use Rattle.model.specs.Steps
+use Rattle.model.specs.Steps.{Step, Args, isCheck, planOf, plan, remaining, retried, performed, commands}
+use Rattle.model.specs.Calls.{Call, stepOf, argsOf}
+use Rattle.model.specs.Book.{requestedIn}
+use Rattle.model.specs.Promises.Batches.{Alike, Follows, EachNext, StartsAt, Batches}
+use Rattle.model.proofs.Widths.{WellAct}
+use Rattle.model.proofs.RequestedLaws.{requestedBySendings, requested-commands}
+use Rattle.model.proofs.StepKindLaws.{check-of-kind}
+use Rattle.model.proofs.Promises.SeenLaws.{seenAs, Finished, numbers-fit}
+use Rattle.model.proofs.Promises.PairLaws.{Pairwise, all-of, pairwise-append, pairwise-map, pairwise-next}
+use Rattle.model.proofs.Promises.PairLaws.{OfFirst, Neighbours, next-of, next-append, next-map}
+use Rattle.model.proofs.Promises.ItemLaws.{BatchBelow, batches-keyed, batches-rise}
+use Rattle.model.proofs.Promises.AskedLaws.{Says, continuation-says, say-to-says, enters-says, picks-say, ticks-say, unretried, acts-well}
+
+-- ---- a sending as a header and its runs
+
+abbrev kindOf : Sending → ℕ
+kindOf (request typeId peer ids) = 1
+kindOf (announcement peer ids) = 2
+kindOf (syncInfo peer) = 3
+
+abbrev typeOf : Sending → ℕ
+typeOf (request typeId peer ids) = typeId
+typeOf (announcement peer ids) = headerType
+typeOf (syncInfo peer) = 0
+
+abbrev peerOf : Sending → ℕ
+peerOf (request typeId peer ids) = peer
+peerOf (announcement peer ids) = peer
+peerOf (syncInfo peer) = peer
+
+abbrev runsOf : Sending → List (List Id)
+runsOf (request typeId peer ids) = runs ids
+runsOf (announcement peer ids) = ids ∷ []
+runsOf (syncInfo peer) = [] ∷ []
+
+abbrev headed : ℕ → Sending → List Id → Command
+headed batch s run = record { kind = kindOf s; typeId = typeOf s; batch = batch; peer = peerOf s; ids = run }
+
+commands-headed : (batch : ℕ) (s : Sending) → commandsOf batch s ≡ map (headed batch s) (runsOf s)
+commands-headed batch (request typeId peer ids) = refl
+commands-headed batch (announcement peer ids) = refl
+commands-headed batch (syncInfo peer) = refl
+
+-- ---- runs
+
+-- each has an id at least, and 400 at most
+runs-sized : (n : ℕ) (ids : List Id) → All (λ (run : List Id). (1 ≤ length run) × (length run ≤ 400)) (runsWithin n ids)
+runs-sized zero ids = tt
+runs-sized (suc n) [] = tt
+runs-sized (suc n) (id ∷ ids) =
+    let l = length-take requestSize (id ∷ ids) in
+    ((omega arith, omega arith), runs-sized n (drop requestSize (id ∷ ids)))
+
+-- a run that is followed by another
+first-run : (P : Type 0) (n : ℕ) (ids : List Id) → (1 ≤ length ids → P) → OfFirst (λ (run : List Id). P) (runsWithin n ids)
+first-run P zero ids f = tt
+first-run P (suc n) [] f = tt
+first-run P (suc n) (id ∷ ids) f = f (omega arith)
+
+-- is full
+runs-full : (n : ℕ) (ids : List Id) → Neighbours (λ (run next : List Id). length run ≡ 400) (runsWithin n ids)
+runs-full zero ids = tt
+runs-full (suc n) [] = tt
+runs-full (suc n) (id ∷ ids) =
+    let t = length-take requestSize (id ∷ ids) in
+    let d = length-drop requestSize (id ∷ ids) in
+    (first-run (length (take requestSize (id ∷ ids)) ≡ 400) n (drop requestSize (id ∷ ids)) (λ l. omega arith), runs-full n (drop requestSize (id ∷ ids)))
+
+sending-full : (s : Sending) → Neighbours (λ (run next : List Id). (kindOf s ≡ 1) × (length run ≡ 400)) (runsOf s)
+unfolding runs
+sending-full (request typeId peer ids) =
+    go (runsWithin (length ids) ids) (runs-full (length ids) ids)
+  where
+    go : (all : List (List Id)) → Neighbours (λ (run next : List Id). length run ≡ 400) all
+        → Neighbours (λ (run next : List Id). (kindOf (request typeId peer ids) ≡ 1) × (length run ≡ 400)) all
+    go [] h = tt
+    go (run ∷ []) h = (tt, tt)
+    go (run ∷ (next ∷ all)) h = ((refl, h .0), go (next ∷ all) (h .1))
+sending-full (announcement peer ids) = (tt, tt)
+sending-full (syncInfo peer) = (tt, tt)
+
+-- ---- sendings that send something
+
+abbrev NotEmpty : List Id → Type 0
+NotEmpty [] = ⊥
+NotEmpty (id ∷ ids) = Unit {0}
+
+-- no request for nothing
+abbrev Sends : Sending → Type 0
+Sends (request typeId peer ids) = NotEmpty ids
+Sends (announcement peer ids) = Unit {0}
+Sends (syncInfo peer) = Unit {0}
+
+-- so what holds of each of its commands holds of the first command from it on
+first-command : (P : Command → Type 0) (batch : ℕ) (s : Sending) (others : List Command) → Sends s → ((run : List Id) → P (headed batch s run))
+    → OfFirst P (map (headed batch s) (runsOf s) ++ others)
+unfolding runs
+first-command P batch (request typeId peer []) others h f = absurd h
+first-command P batch (request typeId peer (id ∷ ids)) others h f = f (take requestSize (id ∷ ids))
+first-command P batch (announcement peer ids) others h f = f ids
+first-command P batch (syncInfo peer) others h f = f []
+
+join-not-empty : (i : Item) (bs : List Batch) → All (λ (b : Batch). NotEmpty (b .ids)) bs → All (λ (b : Batch). NotEmpty (b .ids)) (join i bs)
+join-not-empty i [] h = (tt, tt)
+join-not-empty i (b ∷ bs) h = go (eqb (i .typeId) (b .typeId) && eqb (i .peer) (b .peer))
+  where
+    go : (t : Bool) → All (λ (b : Batch). NotEmpty (b .ids))
+        (cond t (record { typeId = b .typeId; peer = b .peer; ids = i .id ∷ b .ids } ∷ bs)
+        (record { typeId = i .typeId; peer = i .peer; ids = i .id ∷ [] } ∷ (b ∷ bs)))
+    go true = (tt, h .1)
+    go false = (tt, h)
+
+adjacent-not-empty : (items : List Item) → All (λ (b : Batch). NotEmpty (b .ids)) (adjacent items)
+adjacent-not-empty [] = tt
+adjacent-not-empty (i ∷ items) = join-not-empty i (adjacent items) (adjacent-not-empty items)
+
+retries-send : (items : List Item) → All Sends (retrySendings items)
+unfolding retrySendings batchesOf
+retries-send items =
+    all-map (λ (b : Batch). NotEmpty (b .ids)) Sends (λ (b : Batch). request (b .typeId) (b .peer) (b .ids)) (λ b h. h)
+    (adjacent (sorted itemBelow items)) (adjacent-not-empty (sorted itemBelow items))
+
+-- ---- what acts send
+
+-- Two lists are of different types or go to different peers.
+abbrev Differs : Act → Act → Type 0
+Differs (ask typeId peer pairs ids) (ask typeId′ peer′ pairs′ ids′) = typeId ≡ typeId′ → peer ≡ peer′ → ⊥
+Differs (ask typeId peer pairs ids) (send s) = Unit {0}
+Differs (send s) act = Unit {0}
+
+abbrev Apart : Sending → Sending → Type 0
+Apart s t = kindOf s ≡ 1 → kindOf t ≡ 1 → typeOf s ≡ typeOf t → peerOf s ≡ peerOf t → ⊥
+
+module _ (gate : Bool) (clock : ℕ) where
+  performed-each : (P : Act → Type 0) (Q : Sending → Type 0) → ((act : Act) (rs : List Request) → P act → All Q (perform gate clock act rs .sendings))
+      → (acts : List Act) (rs : List Request) → All P acts → All Q (performAll gate clock acts rs .sendings)
+  performed-each P Q f [] rs h = tt
+  performed-each P Q f (act ∷ acts) rs h =
+      all-append Q (perform gate clock act rs .sendings) (performAll gate clock acts (perform gate clock act rs .pending) .sendings)
+      (f act rs (h .0)) (performed-each P Q f acts (perform gate clock act rs .pending) (h .1))
+
+request-sends : (typeId peer : ℕ) (ids : List Id) → All Sends (requestOf typeId peer ids)
+request-sends typeId peer [] = tt
+request-sends typeId peer (id ∷ ids) = (tt, tt)
+
+act-sends : (gate : Bool) (clock : ℕ) (act : Act) (rs : List Request) → WellAct act → All Sends (perform gate clock act rs .sendings)
+act-sends true clock (ask typeId peer pairs ids) rs w = request-sends typeId peer (wanted rs typeId pairs ids)
+act-sends false clock (ask typeId peer pairs ids) rs w = tt
+act-sends gate clock (send (request typeId peer ids)) rs w = absurd w
+act-sends gate clock (send (announcement peer ids)) rs w = (tt, tt)
+act-sends gate clock (send (syncInfo peer)) rs w = (tt, tt)
+
+-- a request and what another act sends
+act-apart : (gate : Bool) (clock typeId peer : ℕ) (pairs : List Pair) (ids sent : List Id) (act : Act) (rs : List Request)
+    → WellAct act × Differs (ask typeId peer pairs ids) act → All (Apart (request typeId peer sent)) (perform gate clock act rs .sendings)
+act-apart true clock typeId peer pairs ids sent (ask typeId′ peer′ pairs′ ids′) rs h = go (wanted rs typeId′ pairs′ ids′)
+  where
+    go : (rest : List Id) → All (Apart (request typeId peer sent)) (requestOf typeId′ peer′ rest)
+    go [] = tt
+    go (id ∷ rest) = ((λ a b. h .1), tt)
+act-apart false clock typeId peer pairs ids sent (ask typeId′ peer′ pairs′ ids′) rs h = tt
+act-apart gate clock typeId peer pairs ids sent (send (request typeId′ peer′ ids′)) rs h = absurd (h .0)
+act-apart gate clock typeId peer pairs ids sent (send (announcement peer′ ids′)) rs h = ((λ a b. absurd (omega arith)), tt)
+act-apart gate clock typeId peer pairs ids sent (send (syncInfo peer′)) rs h = ((λ a b. absurd (omega arith)), tt)
+
+performed-apart : (gate : Bool) (clock : ℕ) (acts : List Act) (rs : List Request) → All WellAct acts → Pairwise Differs acts
+    → Pairwise Apart (performAll gate clock acts rs .sendings)
+performed-apart gate clock [] rs w d = tt
+performed-apart true clock (ask typeId peer pairs ids ∷ acts) rs w d =
+    go (wanted rs typeId pairs ids) (performed-apart true clock acts)
+  where
+    go : (rest : List Id) → ((rs′ : List Request) → All WellAct acts → Pairwise Differs acts → Pairwise Apart (performAll true clock acts rs′ .sendings))
+        → Pairwise Apart (requestOf typeId peer rest ++ performAll true clock acts (markRequested clock typeId peer rest rs) .sendings)
+    go [] others = others rs (w .1) (d .1)
+    go (id ∷ rest) others = (
+      performed-each true clock (λ (act : Act). WellAct act × Differs (ask typeId peer pairs ids) act) (Apart (request typeId peer (id ∷ rest)))
+          (act-apart true clock typeId peer pairs ids (id ∷ rest)) acts (markRequested clock typeId peer (id ∷ rest) rs)
+          (all-both WellAct (Differs (ask typeId peer pairs ids)) acts (w .1) (d .0)),
+      others (markRequested clock typeId peer (id ∷ rest) rs) (w .1) (d .1),
+    )
+performed-apart false clock (ask typeId peer pairs ids ∷ acts) rs w d = performed-apart false clock acts rs (w .1) (d .1)
+performed-apart gate clock (send (request typeId peer ids) ∷ acts) rs w d = absurd (w .0)
+performed-apart gate clock (send (announcement peer ids) ∷ acts) rs w d = (
+  all-of (Apart (announcement peer ids)) (λ s a. absurd (omega arith)) (performAll gate clock acts rs .sendings),
+  performed-apart gate clock acts rs (w .1) (d .1),
+)
+performed-apart gate clock (send (syncInfo peer) ∷ acts) rs w d = (
+  all-of (Apart (syncInfo peer)) (λ s a. absurd (omega arith)) (performAll gate clock acts rs .sendings),
+  performed-apart gate clock acts rs (w .1) (d .1),
+)
+
+-- ---- a step's lists differ
+
+says-differ : (act : Act) (acts : List Act) → All Says acts → All (Differs act) acts
+says-differ (ask typeId peer pairs ids) [] h = tt
+says-differ (ask typeId peer pairs ids) (ask typeId′ peer′ pairs′ ids′ ∷ acts) h = absurd (h .0)
+says-differ (ask typeId peer pairs ids) (send s ∷ acts) h = (tt, says-differ (ask typeId peer pairs ids) acts (h .1))
+says-differ (send s) acts h = all-of (Differs (send s)) (λ act. tt) acts
+
+says-pairwise : (acts : List Act) → All Says acts → Pairwise Differs acts
+says-pairwise [] h = tt
+says-pairwise (act ∷ acts) h = (says-differ act acts (h .1), says-pairwise acts (h .1))
+
+-- what is said first, and what is said last, changes nothing
+said-before : (acts others : List Act) → All Says acts → Pairwise Differs others → Pairwise Differs (acts ++ others)
+said-before [] others h d = d
+said-before (ask typeId peer pairs ids ∷ acts) others h d = absurd (h .0)
+said-before (send s ∷ acts) others h d = (all-of (Differs (send s)) (λ act. tt) (acts ++ others), said-before acts others (h .1) d)
+
+said-behind : (acts others : List Act) → Pairwise Differs acts → All Says others → Pairwise Differs (acts ++ others)
+said-behind acts others d h =
+    pairwise-append Differs acts others d (says-pairwise others h) (all-of (λ (act : Act). All (Differs act) others) (λ act. says-differ act others h) acts)
+
+-- batches rise, so no two are of one type and peer
+below-differ : (b c : Batch) → BatchBelow b c → b .typeId ≡ c .typeId → b .peer ≡ c .peer → ⊥
+below-differ b c (inl l) t p = omega arith
+below-differ b c (inr h) t p = omega (arith, h .1)
+
+sections-differ : (view : View) (chainHeight height : ℕ) (peers : List ℕ) → Pairwise Differs (requestNextSections view chainHeight height peers .acts)
+unfolding requestNextSections requestSectionsFrom
+sections-differ view chainHeight height [] = tt
+sections-differ view chainHeight height (peer ∷ peers) =
+    pairwise-map (λ (b : Batch). ask (b .typeId) (b .peer) [] (b .ids)) BatchBelow Differs below-differ
+    (batchesOf (windowWithin (min (height + windowSize) chainHeight - height) view peer height .items))
+    (batches-rise (windowWithin (min (height + windowSize) chainHeight - height) view peer height .items))
+
+-- of one peer, no two are of one type
+one-peer-differ : (peer : ℕ) (bs : List Batch) → All (λ (b : Batch). b .peer ≡ peer) bs → Pairwise BatchBelow bs
+    → Pairwise (λ (b c : Batch). b .typeId ≡ c .typeId → ⊥) bs
+one-peer-differ peer [] p r = tt
+one-peer-differ peer (b ∷ bs) p r = (go bs (p .1) (r .0), one-peer-differ peer bs (p .1) (r .1))
+  where
+    go : (cs : List Batch) → All (λ (c : Batch). c .peer ≡ peer) cs → All (BatchBelow b) cs → All (λ (c : Batch). b .typeId ≡ c .typeId → ⊥) cs
+    go [] q l = tt
+    go (c ∷ cs) q l = ((λ t. below-differ b c (l .0) t (p .0 ∙ sym (q .0))), go cs (q .1) (l .1))
+
+module _ (st : State) (a : Args) where
+  sections-from-differ : (height : ℕ) → Pairwise Differs (Steps.sectionsFrom st a height .acts)
+  unfolding Steps.sectionsFrom
+  sections-from-differ height = sections-differ (a .view) (a .chainHeight) height (a .peers)
+
+  orphans-differ : (lost : ℕ) (peer : Option ℕ) → Pairwise Differs (Steps.askOrphans st a lost peer)
+  unfolding Steps.askOrphans
+  orphans-differ lost none = tt
+  orphans-differ lost (some peer) =
+      let orphan : Request → Item = λ (r : Request). record { id = r .id; typeId = r .typeId; peer = peer } in
+      let items : List Item = map orphan (orphansOf lost (st .pending)) in
+      let one : All (λ (b : Batch). b .peer ≡ peer) (batchesOf items) =
+      batches-keyed (λ (p t : ℕ). p ≡ peer) items
+      (all-map (λ (r : Request). Unit {0}) (λ (i : Item). i .peer ≡ peer) orphan (λ r u. refl) (orphansOf lost (st .pending))
+      (all-of (λ (r : Request). Unit {0}) (λ r. tt) (orphansOf lost (st .pending))))
+      in
+      pairwise-map (λ (b : Batch). ask (b .typeId) peer (a .stored) (b .ids)) (λ (b c : Batch). b .typeId ≡ c .typeId → ⊥) Differs
+      (λ b c n t p. n t) (batchesOf items) (one-peer-differ peer (batchesOf items) one (batches-rise items))
+
+  at-tip-differ : (acts : List Act) (tip : ℕ) → All Says acts → Pairwise Differs (Steps.isAtTip st a acts tip .acts)
+  unfolding Steps.isAtTip
+  at-tip-differ acts tip w = go (isMode (st .mode) syncing)
+    where
+      go : (t : Bool) → Pairwise Differs (acts ++ (cond t (Steps.sectionsFrom st a (st .sync .downloaded)) (record { acts = []; inView = true })) .acts)
+      go true = said-before acts (Steps.sectionsFrom st a (st .sync .downloaded) .acts) w (sections-from-differ (st .sync .downloaded))
+      go false = said-before acts [] w tt
+
+  answers-differ : (peer : ℕ) (acts : List Act) (tip : ℕ) (outcome : Outcome) → All Says acts
+      → Pairwise Differs (Steps.answers st a peer acts tip outcome .acts)
+  unfolding Steps.answers Steps.continues
+  answers-differ peer acts tip Continue w = said-before acts (Steps.sayTo st a peer) w (says-pairwise (Steps.sayTo st a peer) (say-to-says st a peer))
+  answers-differ peer acts tip Synced w = at-tip-differ acts tip w
+  answers-differ peer acts tip BehindPeer w =
+      let sync : Sync = withKnownTip (withStalledPeers (Steps.unmarked st a) []) tip in
+      says-pairwise (Steps.entersSyncing st a BehindPeer peer acts sync .acts) (enters-says st a BehindPeer peer acts sync w)
+  answers-differ peer acts tip SyncPeerGone w = tt
+  answers-differ peer acts tip Stalled w = tt
+  answers-differ peer acts tip EndOfStream w = tt
+
+  announced-differ : (peer typeId : ℕ) (ids : List Id) → Pairwise Differs (Steps.hearsAnnounced st a peer typeId ids .acts)
+  unfolding Steps.hearsAnnounced Steps.continues
+  announced-differ peer typeId [] =
+      either (λ (p : Steps.Plan). Pairwise Differs (p .acts)) (eqb typeId headerType) (Steps.isAtTip st a [] (st .sync .knownTip)) (Steps.continues st a [])
+      (at-tip-differ [] (st .sync .knownTip) tt) tt
+  announced-differ peer typeId (id ∷ ids) =
+      either (Pairwise Differs) (isAnnounceable typeId) (ask typeId peer (a .stored) (id ∷ ids) ∷ []) [] (tt, tt) tt
+
+  loses-differ : (peer : ℕ) → Pairwise Differs (Steps.loses st a peer .acts)
+  unfolding Steps.loses Steps.leaves Steps.continues
+  loses-differ peer =
+      let asks : List Act = Steps.askOrphans st a peer (firstOf (a .peers)) in
+      let acts : List Act = cond (isMode (st .mode) syncing) asks [] in
+      either (λ (p : Steps.Plan). Pairwise Differs (p .acts)) (eqb peer (st .sync .syncPeer))
+      (Steps.leaves st a SyncPeerGone seeking acts) (Steps.continues st a [])
+      (either (Pairwise Differs) (isMode (st .mode) syncing) asks [] (orphans-differ peer (firstOf (a .peers))) tt) tt
+
+  progresses-differ : (isSyncing : Bool) → Pairwise Differs (Steps.progresses st a isSyncing .acts)
+  unfolding Steps.progresses
+  progresses-differ false = sections-from-differ (st .sync .downloaded)
+  progresses-differ true =
+      let say : List Act = Steps.sayTo st a (st .sync .syncPeer) in
+      said-behind (Steps.sectionsFrom st a (st .sync .downloaded) .acts) (cond (st .sync .progressUsed) [] say) (sections-from-differ (st .sync .downloaded))
+      (either (All Says) (st .sync .progressUsed) [] say tt (say-to-says st a (st .sync .syncPeer)))
+
+  ticks-differ : (isSyncing late : Bool)
+      → Pairwise Differs ((cond isSyncing (Steps.ticksSyncing st a late) (Steps.ticksSynced st a (firstOf (a .peers)))) .acts)
+  ticks-differ isSyncing late =
+      says-pairwise ((cond isSyncing (Steps.ticksSyncing st a late) (Steps.ticksSynced st a (firstOf (a .peers)))) .acts) (ticks-say st a isSyncing late)
+
+  -- the lists that a step asks for
+  plan-differ : (step : Step) → Pairwise Differs (planOf st a step .acts)
+  unfolding planOf Steps.continues Steps.leaves Steps.advances Steps.advancesAndRequests Steps.evicts Steps.hearsSyncInfo Steps.checks
+  plan-differ Steps.start = tt
+  plan-differ Steps.pick =
+      let peer : Option ℕ = selectPeer (st .sync .stalledPeers) (a .peers) in
+      says-pairwise (Steps.picks st a peer .acts) (picks-say st a peer)
+  plan-differ Steps.progress = progresses-differ (isMode (st .mode) syncing)
+  plan-differ Steps.check = go (firstOf (a .peers))
+    where
+      go : (peer : Option ℕ) → Pairwise Differs (askFresh peer (a .stored) (st .sync .evicted))
+      go none = tt
+      go (some peer) = (tt, tt)
+  plan-differ Steps.scheduledTick = ticks-differ (isMode (st .mode) syncing) (settings.stalled (st .settings) (a .clock) (st .sync .lastProgress))
+  plan-differ Steps.sectionTick = sections-from-differ (Steps.advanceFrom st a (st .sync .downloaded) .height)
+  plan-differ Steps.sendFailure = tt
+  plan-differ Steps.endOfStream = tt
+  plan-differ Steps.otherMessage = tt
+  plan-differ (Steps.neededModifier typeId ids) = (tt, tt)
+  plan-differ (Steps.reorg fork) = sections-from-differ (Steps.advanceFrom st a (min (st .sync .downloaded) fork) .height)
+  plan-differ (Steps.announced peer typeId ids) = announced-differ peer typeId ids
+  plan-differ (Steps.syncInfo peer parsed tip ids) =
+      let known : Option ℕ = cond parsed tip none in
+      answers-differ peer (continuation parsed (a .chainHeight) known peer ids) (raisedTip (st .sync .knownTip) known)
+      (tipOutcome (eqb peer (st .sync .syncPeer)) (a .chainHeight) known) (continuation-says parsed (a .chainHeight) known peer ids)
+  plan-differ (Steps.lostPeer peer) = loses-differ peer
+  plan-differ (Steps.received ids) = tt
+  plan-differ (Steps.evicted ids) = tt
+
+-- ---- commands
+
+sending-sized : (batch : ℕ) (s : Sending) → All (λ (c : Command). c .kind ≡ 1 → (1 ≤ length (c .ids)) × (length (c .ids) ≤ 400)) (commandsOf batch s)
+unfolding runs
+sending-sized batch (request typeId peer ids) =
+    all-map (λ (run : List Id). (1 ≤ length run) × (length run ≤ 400)) (λ (c : Command). c .kind ≡ 1 → (1 ≤ length (c .ids)) × (length (c .ids) ≤ 400))
+    (headed batch (request typeId peer ids)) (λ run h k. h) (runsWithin (length ids) ids) (runs-sized (length ids) ids)
+sending-sized batch (announcement peer ids) = ((λ k. absurd (omega arith)), tt)
+sending-sized batch (syncInfo peer) = ((λ k. absurd (omega arith)), tt)
+
+commands-sized : (batch : ℕ) (ss : List Sending)
+    → All (λ (c : Command). c .kind ≡ 1 → (1 ≤ length (c .ids)) × (length (c .ids) ≤ 400)) (commandsFrom batch ss)
+commands-sized batch [] = tt
+commands-sized batch (s ∷ ss) =
+    all-append (λ (c : Command). c .kind ≡ 1 → (1 ≤ length (c .ids)) × (length (c .ids) ≤ 400)) (commandsOf batch s) (commandsFrom (suc batch) ss)
+    (sending-sized batch s) (commands-sized (suc batch) ss)
+
+commands-start : (batch : ℕ) (ss : List Sending) → All Sends ss → OfFirst (λ (c : Command). c .batch ≡ batch) (commandsFrom batch ss)
+commands-start batch [] h = tt
+commands-start batch (s ∷ ss) h =
+    rw (commands-headed batch s) (first-command (λ (c : Command). c .batch ≡ batch) batch s (commandsFrom (suc batch) ss) (h .0) (λ run. refl))
+
+-- Neighbours among commands are two runs of one list, the first full, or belong to neighbouring sendings.
+module _ (P : Command → Command → Type 0) (Q : Sending → Sending → Type 0)
+    (within : (batch : ℕ) (s : Sending) (run next : List Id) → (kindOf s ≡ 1) × (length run ≡ 400) → P (headed batch s run) (headed batch s next))
+    (across : (batch : ℕ) (s t : Sending) (run next : List Id) → Q s t → P (headed batch s run) (headed (suc batch) t next)) where
+  next-sending : (batch : ℕ) (s : Sending) (ss : List Sending) (run : List Id) → OfFirst (Q s) ss → All Sends ss
+      → OfFirst (P (headed batch s run)) (commandsFrom (suc batch) ss)
+  next-sending batch s [] run q h = tt
+  next-sending batch s (t ∷ ss) run q h =
+      rw (commands-headed (suc batch) t)
+      (first-command (P (headed batch s run)) (suc batch) t (commandsFrom (suc (suc batch)) ss) (h .0) (λ next. across batch s t run next q))
+
+  commands-next : (batch : ℕ) (ss : List Sending) → Neighbours Q ss → All Sends ss → Neighbours P (commandsFrom batch ss)
+  commands-next batch [] q h = tt
+  commands-next batch (s ∷ ss) q h =
+      rw (commands-headed batch s)
+      (next-append P (map (headed batch s) (runsOf s)) (commandsFrom (suc batch) ss)
+      (next-map (headed batch s) (λ (run next : List Id). (kindOf s ≡ 1) × (length run ≡ 400)) P (within batch s) (runsOf s) (sending-full s))
+      (commands-next (suc batch) ss (q .1) (h .1))
+      (all-map (λ (run : List Id). Unit {0}) (λ (c : Command). OfFirst (P c) (commandsFrom (suc batch) ss)) (headed batch s)
+      (λ run u. next-sending batch s ss run (q .0) (h .1)) (runsOf s) (all-of (λ (run : List Id). Unit {0}) (λ run. tt) (runsOf s))))
+
+-- ---- a finished call
+
+starts-at : (batch : ℕ) (cs : List Command) → OfFirst (λ (c : Command). c .batch ≡ batch) cs → StartsAt batch cs
+starts-at batch [] h = tt
+starts-at batch (c ∷ cs) h = h
+
+each-next : (P : Command → Command → Type 0) (cs : List Command) → Neighbours P cs → EachNext P cs
+each-next P [] h = tt
+each-next P (c ∷ []) h = tt
+each-next P (c ∷ (d ∷ cs)) h = (h .0, each-next P (d ∷ cs) (h .1))
+
+commands-follow : (batch : ℕ) (ss : List Sending) → All Sends ss → Neighbours Follows (commandsFrom batch ss)
+commands-follow batch ss h =
+    commands-next Follows (λ (s t : Sending). Unit {0})
+    (λ batch s run next f. inr (refl, (record { first = f .0; second = f .0; typeId = refl; peer = refl }, f .1))) (λ batch s t run next u. inl refl)
+    batch ss (next-of (λ (s t : Sending). Unit {0}) (λ s t. tt) ss) h
+
+commands-together : (batch : ℕ) (ss : List Sending) → Neighbours Apart ss → All Sends ss
+    → Neighbours (λ (c d : Command). Alike c d → d .batch ≡ c .batch) (commandsFrom batch ss)
+commands-together batch ss n h =
+    commands-next (λ (c d : Command). Alike c d → d .batch ≡ c .batch) Apart (λ batch s run next f alike. refl)
+    (λ batch s t run next apart alike. absurd (apart (alike .first) (alike .second) (alike .typeId) (alike .peer))) batch ss n h
+
+module _ (st : State) (call : Call) (f : Finished st call) where
+  abbrev a : Args
+  a = argsOf call
+
+  abbrev sendings : List Sending
+  sendings = retrySendings (retried st a) ++ performed st a .sendings
+
+  performed-send : All Sends (performed st a .sendings)
+  unfolding performed
+  performed-send =
+      performed-each (a .gate) (a .clock) WellAct Sends (act-sends (a .gate) (a .clock)) (plan st a .acts)
+      (markAllRetried (retried st a) (remaining st a (a .step))) (acts-well st call f)
+
+  sendings-send : All Sends sendings
+  sendings-send = all-append Sends (retrySendings (retried st a)) (performed st a .sendings) (retries-send (retried st a)) performed-send
+
+  performed-next : Neighbours Apart (performed st a .sendings)
+  unfolding performed plan
+  performed-next =
+      pairwise-next Apart (performed st a .sendings)
+      (performed-apart (a .gate) (a .clock) (plan st a .acts) (markAllRetried (retried st a) (remaining st a (a .step))) (acts-well st call f)
+      (plan-differ st a (a .step)))
+
+  -- a step other than a check sends nothing again
+  sendings-next : (call .kind ≡ 12 → ⊥) → Neighbours Apart sendings
+  unfolding argsOf retrySendings batchesOf
+  sendings-next n =
+      let fit = numbers-fit st call f in
+      let e : isCheck (stepOf call) ≡ false = sym (check-of-kind call (fit .kindLow) (fit .kindHigh)) ∙ ne-eqb (call .kind) 12 n in
+      subst (λ (items : List Item). Neighbours Apart (retrySendings items ++ performed st (argsOf call) .sendings))
+      (sym (unretried st (argsOf call) e)) performed-next
+
+  pub batches-kept : Batches (seenAs st call)
+  unfolding commands
+  batches-kept =
+      record {
+        sizes = commands-sized 0 sendings;
+        from = starts-at 0 (commandsFrom 0 sendings) (commands-start 0 sendings sendings-send);
+        follows = each-next Follows (commandsFrom 0 sendings) (commands-follow 0 sendings sendings-send);
+        together = λ n.
+            each-next (λ (c d : Command). Alike c d → d .batch ≡ c .batch) (commandsFrom 0 sendings)
+            (commands-together 0 sendings (sendings-next n) sendings-send);
+      }
+
+-- ---- a check's two parts
+
+commands-append : (batch : ℕ) (ss ts : List Sending) → (behind : ℕ) × (commandsFrom batch (ss ++ ts) ≡ commandsFrom batch ss ++ commandsFrom behind ts)
+commands-append batch [] ts = (batch, refl)
+commands-append batch (s ∷ ss) ts =
+    let (behind, e) = commands-append (suc batch) ss ts in (
+      behind,
+      ap (λ (l : List Command). commandsOf batch s ++ l) e ∙ sym (append-assoc (commandsOf batch s) (commandsFrom (suc batch) ss) (commandsFrom behind ts)),
+    )
+
+retries-next : (items : List Item) → Neighbours Apart (retrySendings items)
+unfolding retrySendings
+retries-next items =
+    pairwise-next Apart (map (λ (b : Batch). request (b .typeId) (b .peer) (b .ids)) (batchesOf items))
+    (pairwise-map (λ (b : Batch). request (b .typeId) (b .peer) (b .ids)) BatchBelow Apart (λ b c l k h t p. below-differ b c l t p)
+    (batchesOf items) (batches-rise items))
+
+-- In any step what is sent again stands before what is asked for anew, and no list of either is cut into two batches.
+pub record InTwo (st : State) (call : Call) : Type 0 where
+  pub again : List Command
+  pub anew : List Command
+  pub parts : commands st (argsOf call) ≡ again ++ anew
+  pub requestedAgain : requestedIn again ≡ requestedBySendings (retrySendings (retried st (argsOf call)))
+  pub requestedAnew : requestedIn anew ≡ requestedBySendings (performed st (argsOf call) .sendings)
+  pub togetherAgain : EachNext (λ (c d : Command). Alike c d → d .batch ≡ c .batch) again
+  pub togetherAnew : EachNext (λ (c d : Command). Alike c d → d .batch ≡ c .batch) anew
+
+pub in-two : (st : State) (call : Call) → Finished st call → InTwo st call
+unfolding commands
+in-two st call f =
+    let again : List Sending = retrySendings (retried st (argsOf call)) in
+    let anew : List Sending = performed st (argsOf call) .sendings in
+    let (behind, e) = commands-append 0 again anew in
+    record {
+      again = commandsFrom 0 again;
+      anew = commandsFrom behind anew;
+      parts = e;
+      requestedAgain = requested-commands 0 again;
+      requestedAnew = requested-commands behind anew;
+      togetherAgain =
+          each-next (λ (c d : Command). Alike c d → d .batch ≡ c .batch) (commandsFrom 0 again)
+          (commands-together 0 again (retries-next (retried st (argsOf call))) (retries-send (retried st (argsOf call))));
+      togetherAnew =
+          each-next (λ (c d : Command). Alike c d → d .batch ≡ c .batch) (commandsFrom behind anew)
+          (commands-together behind anew (performed-next st call f) (performed-send st call f));
+    }
