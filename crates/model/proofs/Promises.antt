@@ -1,3 +1,5 @@
 -- The promises, proved: what specs/Promises says of any finished call.
 pub mod SeenLaws
 pub mod PendingKept
+pub mod ToldKept
+pub mod VerdictLaws
