@@ -3,3 +3,4 @@ pub mod SeenLaws
 pub mod PendingKept
 pub mod ToldKept
 pub mod VerdictLaws
+pub mod AskingLaws
