@@ -6,6 +6,7 @@ use mathlib.Core.Logic.{_⊎_, inl, inr, ⊎-elim}
 use mathlib.Core.List.{List, [], _∷_, _++_, map, append-nil}
 use Rattle.fields.specs.Facts.{All}
 use Rattle.fields.specs.Order.{same}
+use Rattle.fields.specs.Filter.{consIf, kept}
 use Rattle.fields.specs.Sort.{inserted, sorted}
 use Rattle.fields.proofs.OrderLaws.{neither, same-eq, eq-same}
 use Rattle.model.specs.Protocol.{Id, isAmong}
@@ -33,6 +34,24 @@ module _ {A : Type 0} where
   among-either x [] ys a = inr a
   among-either x (z ∷ xs) ys (inl e) = inl (inl e)
   among-either x (z ∷ xs) ys (inr a) = ⊎-elim (λ b. inl (inr b)) (λ b. inr b) (among-either x xs ys a)
+
+  pub among-kept : (test : A → Bool) (x : A) (xs : List A) → Among x (kept test xs) → Among x xs × (test x ≡ true)
+  among-kept test x [] a = absurd a
+  among-kept test x (y ∷ ys) a = go (test y) refl (among-kept test x ys) a
+    where
+      go : (t : Bool) → test y ≡ t → (Among x (kept test ys) → Among x ys × (test x ≡ true)) → Among x (consIf t y (kept test ys))
+          → Among x (y ∷ ys) × (test x ≡ true)
+      go true e rest (inl f) = (inl f, ap test f ∙ e)
+      go true e rest (inr b) = let p = rest b in (inr (p .0), p .1)
+      go false e rest b = let p = rest b in (inr (p .0), p .1)
+
+  pub all-among : (P : A → Type 0) (x : A) (xs : List A) → All P xs → Among x xs → P x
+  all-among P x (y ∷ ys) h (inl e) = subst P (sym e) (h .0)
+  all-among P x (y ∷ ys) h (inr a) = all-among P x ys (h .1) a
+
+pub among-map : {A B : Type 0} (f : A → B) (y : B) (xs : List A) → Among y (map f xs) → (x : A) × Among x xs × (y ≡ f x)
+among-map f y (x ∷ xs) (inl e) = (x, inl refl, e)
+among-map f y (x ∷ xs) (inr a) = let p = among-map f y xs a in (p .0, inr (p .1), p .2)
 
 module _ {A : Type 0} (below : A → A → Bool) where
   among-inserted : (x y : A) (ys : List A) → Among x (inserted below y ys) → (x ≡ y) ⊎ Among x ys
@@ -98,7 +117,7 @@ module _ (clock : ℕ) where
   grows-not : (rs : List Request) → Grows clock rs [] rs
   grows-not rs = record { stays = λ r a. a; comes = λ r a. inl a; there = λ q a. absurd a }
 
-  module _ (before between now : List Request) (first then : List Requested) (g : Grows clock before first between) (h : Grows clock between then now) where
+  module _ {before between now : List Request} {first then : List Requested} (g : Grows clock before first between) (h : Grows clock between then now) where
     grows-then : Grows clock before (first ++ then) now
     grows-then =
         record {
@@ -126,28 +145,31 @@ module _ (clock : ℕ) where
     one-grows : (id : Id) (rs : List Request) → Grows clock rs (requested typeId peer id ∷ []) (cond (isPending id rs) rs (inserted idBefore (entering id) rs))
     one-grows id rs = go (isPending id rs) refl
       where
-        asked-id : (q : Requested) → Among q (requested typeId peer id ∷ []) → id ≡ q .id
+        asked : List Requested
+        asked = requested typeId peer id ∷ []
+
+        asked-id : (q : Requested) → Among q asked → id ≡ q .id
         asked-id q (inl e) = sym (ap (λ (x : Requested). x .id) e)
 
-        go : (t : Bool) → isPending id rs ≡ t → Grows clock rs (requested typeId peer id ∷ []) (cond t rs (inserted idBefore (entering id) rs))
+        go : (t : Bool) → isPending id rs ≡ t → Grows clock rs asked (cond t rs (inserted idBefore (entering id) rs))
         go true e =
             let p = pending-request id rs e in
             record { stays = λ r a. a; comes = λ r a. inl a; there = λ q a. (p .0, p .1, p .2 ∙ asked-id q a) }
         go false e =
             record {
               stays = λ r a. inserted-among idBefore r (entering id) rs (inr a);
-              comes = λ r a. ⊎-elim (λ f. inr (subst (New clock rs (requested typeId peer id ∷ [])) (sym f) new)) (λ b. inl b) (among-inserted idBefore r (entering id) rs a);
+              comes = λ r a. ⊎-elim (λ f. inr (subst (New clock rs asked) (sym f) new)) (λ b. inl b) (among-inserted idBefore r (entering id) rs a);
               there = λ q a. (entering id, inserted-among idBefore (entering id) (entering id) rs (inl refl), asked-id q a);
             }
           where
-            new : New clock rs (requested typeId peer id ∷ []) (entering id)
+            new : New clock rs asked (entering id)
             new = record { requested = inl refl; stamp = refl; checks = refl; notBefore = not-pending id rs e }
 
     marks-grow : (ids : List Id) (rs : List Request) → Grows clock rs (map (requested typeId peer) ids) (markRequested clock typeId peer ids rs)
     marks-grow [] rs = grows-not rs
     marks-grow (id ∷ ids) rs =
         let one : List Request = cond (isPending id rs) rs (inserted idBefore (entering id) rs) in
-        grows-then rs one (markRequested clock typeId peer ids one) (requested typeId peer id ∷ []) (map (requested typeId peer) ids) (one-grows id rs) (marks-grow ids one)
+        grows-then (one-grows id rs) (marks-grow ids one)
 
     requested-list : (ids : List Id) → requestedBySendings (requestOf typeId peer ids) ≡ map (requested typeId peer) ids
     requested-list [] = refl
@@ -169,5 +191,4 @@ module _ (clock : ℕ) where
       let one : Done = perform gate clock act rs in
       let others : Done = performAll gate clock acts (one .pending) in
       rw (requested-append (one .sendings) (others .sendings))
-      (grows-then rs (one .pending) (others .pending) (requestedBySendings (one .sendings)) (requestedBySendings (others .sendings)) (act-grows gate act rs (w .0))
-      (acts-grow gate acts (one .pending) (w .1)))
+      (grows-then (act-grows gate act rs (w .0)) (acts-grow gate acts (one .pending) (w .1)))

@@ -1,9 +1,9 @@
 -- What a finished step tells: the promises of specs/Promises/Told are kept.
-use Prim.Native.Nat.{ℕ, suc, _+_, _-_, _*_, _≤_}
+use Prim.Native.Nat.{ℕ, suc, _+_, _-_, _≤_}
 use mathlib.Core.Path.{_≡_, refl, sym, ap, _∙_, subst}
 use mathlib.Core.Bool.{Bool, true, false, cond}
 use mathlib.Core.Logic.{inl, inr}
-use mathlib.Core.List.{List, [], _∷_, _++_}
+use mathlib.Core.List.{List, [], _∷_}
 use native.Mathlib.Omega.{arith}
 use lib.Dec.{eqb, leb}
 use lib.ListN.{length, length-append}
@@ -17,31 +17,22 @@ use Rattle.model.specs.Delivery
 use Rattle.model.specs.Delivery.{Request, Verdict, verdict, verdictNumber, judged}
 use Rattle.model.specs.State.{State}
 use Rattle.model.specs.Requests.{Command}
-use Rattle.model.specs.Steps
-use Rattle.model.specs.Steps.{Step, isCheck, plan, after, commands, countOf, freshCount}
+use Rattle.model.specs.Steps.{isCheck, after, commands, countOf, freshCount}
 use Rattle.model.specs.Commands.{commandBytes, allCommandBytes}
-use Rattle.model.specs.Calls.{Call, stepOf, argsOf, unless, callFits, listsFit, resultRefusal, callRefusal, stepAnswer, stepBytes}
-use Rattle.model.specs.Lists.{peersFit, viewFits}
+use Rattle.model.specs.Calls.{Call, stepOf, argsOf, resultRefusal, callRefusal, stepAnswer, stepBytes}
 use Rattle.model.specs.Promises.Numbers
 use Rattle.model.specs.Promises.Words.{Seen, Counted}
-use Rattle.model.specs.Promises.Pending.{Overdue, Forgotten, Abandoned, Retried}
+use Rattle.model.specs.Promises.Pending.{Overdue}
 use Rattle.model.specs.Promises.Told.{bytesOf, Told}
-use Rattle.model.proofs.Well.{WellRequest}
 use Rattle.model.proofs.Widths.{WellCommand}
 use Rattle.model.proofs.FinishedLaws.{Passed}
 use Rattle.model.proofs.CommandLaws.{length-command}
 use Rattle.model.proofs.BoundLaws.{commands-in-width}
-use Rattle.model.proofs.StepKindLaws.{check-of-kind}
-use Rattle.model.proofs.Promises.SeenLaws as kinds
-use Rattle.model.proofs.Promises.SeenLaws.{seenAs, Finished, numbers-fit}
+use Rattle.model.proofs.Promises.SeenLaws.{seenAs, Finished}
+use Rattle.model.proofs.Promises.DecidedLaws.{Decides, verdict-number, is-check}
 use Rattle.model.proofs.Promises.VerdictLaws.{Made, made, made-once, stamps-past}
 
 -- ---- counting
-
--- the test says whether it holds
-abbrev Decides : Bool → Type 0 → Type 0
-Decides true P = P
-Decides false P = P → ⊥
 
 module _ {A : Type 0} (Such : A → Type 0) where
   counted-kept : (test : A → Bool) (xs : List A) → All (λ (x : A). Decides (test x) (Such x)) xs → Counted Such xs (length (kept test xs))
@@ -66,24 +57,6 @@ bytes-counted (c ∷ cs) w =
     rw (length-append (commandBytes c) (allCommandBytes cs)) (omega arith)
 
 -- ---- verdicts
-
-verdict-number : (v w : Verdict) → verdictNumber v ≡ verdictNumber w → v ≡ w
-verdict-number Delivery.waiting Delivery.waiting e = refl
-verdict-number Delivery.waiting Delivery.retried e = absurd (omega arith)
-verdict-number Delivery.waiting Delivery.abandoned e = absurd (omega arith)
-verdict-number Delivery.waiting Delivery.forgotten e = absurd (omega arith)
-verdict-number Delivery.retried Delivery.waiting e = absurd (omega arith)
-verdict-number Delivery.retried Delivery.retried e = refl
-verdict-number Delivery.retried Delivery.abandoned e = absurd (omega arith)
-verdict-number Delivery.retried Delivery.forgotten e = absurd (omega arith)
-verdict-number Delivery.abandoned Delivery.waiting e = absurd (omega arith)
-verdict-number Delivery.abandoned Delivery.retried e = absurd (omega arith)
-verdict-number Delivery.abandoned Delivery.abandoned e = refl
-verdict-number Delivery.abandoned Delivery.forgotten e = absurd (omega arith)
-verdict-number Delivery.forgotten Delivery.waiting e = absurd (omega arith)
-verdict-number Delivery.forgotten Delivery.retried e = absurd (omega arith)
-verdict-number Delivery.forgotten Delivery.abandoned e = absurd (omega arith)
-verdict-number Delivery.forgotten Delivery.forgotten e = refl
 
 -- A verdict's number says whether this is what a check makes of a request.
 made-decides : (s : Seen) (r : Request) (v what : Verdict) → Made s r v → Decides (eqb (verdictNumber v) (verdictNumber what)) (Made s r what)
@@ -137,7 +110,12 @@ none-refused : (st : State) (call : Call) → Passed st call → callRefusal st 
 unfolding callRefusal resultRefusal
 none-refused st call p =
     rw (
-      le-leb (st .lastClock) (call .clock) (p .clock), p .fits, p .lists, p .peers, p .view, p .inView,
+      le-leb (st .lastClock) (call .clock) (p .clock),
+      p .fits,
+      p .lists,
+      p .peers,
+      p .view,
+      p .inView,
       le-leb (length (after st (argsOf call) .pending) + length (after st (argsOf call) .sync .evicted)) trackedLimit (p .tracked),
       le-leb (length (after st (argsOf call) .sync .stalledPeers)) stalledLimit (p .stalledFew),
     )
@@ -146,58 +124,71 @@ module _ (st : State) (call : Call) (f : Finished st call) where
   abbrev s : Seen
   s = seenAs st call
 
-  is-check : eqb (call .kind) Numbers.check ≡ isCheck (stepOf call)
-  is-check = let n : kinds.Numbers call = numbers-fit st call f in check-of-kind call (n .kindLow) (n .kindHigh)
+  abbrev verdictOf : Request → Verdict
+  verdictOf r = verdict (st .settings) (call .clock) r
 
   abbrev isJudged : Verdict → Request → Bool
-  isJudged what r = eqb (verdictNumber (verdict (st .settings) (call .clock) r)) (verdictNumber what)
+  isJudged what r = eqb (verdictNumber (verdictOf r)) (verdictNumber what)
 
-  -- of those that a check alone makes of a request
-  count-told : (what : Verdict) → ((r : Request) → Made s r what → call .kind ≡ Numbers.check) → Counted (λ r. Made s r what) (st .pending) (countOf st (argsOf call) what)
+  -- the requests of this verdict
+  abbrev those : Verdict → List Request
+  those what = judged (st .settings) (call .clock) what (st .pending)
+
+  abbrev InTime : Request → Type 0
+  InTime r = r .stamp ≤ call .clock
+
+  -- of what a check alone makes of a request
+  pub count-told : (what : Verdict) → ((r : Request) → Made s r what → call .kind ≡ Numbers.check)
+      → Counted (λ r. Made s r what) (st .pending) (countOf st (argsOf call) what)
   unfolding countOf argsOf judged
-  count-told what ofCheck = go (isCheck (stepOf call)) is-check
+  count-told what ofCheck = go (isCheck (stepOf call)) (is-check st call f)
     where
-      go : (t : Bool) → eqb (call .kind) Numbers.check ≡ t → Counted (λ r. Made s r what) (st .pending) (cond t (length (kept (isJudged what) (st .pending))) 0)
+      go : (t : Bool) → eqb (call .kind) Numbers.check ≡ t → Counted (λ r. Made s r what) (st .pending) (cond t (length (those what)) 0)
       go true e =
           let k : call .kind ≡ Numbers.check = eqb-true (call .kind) Numbers.check e in
           counted-kept (λ r. Made s r what) (isJudged what) (st .pending)
-          (all-weaker (λ (r : Request). r .stamp ≤ call .clock) (λ r. Decides (isJudged what r) (Made s r what))
-          (λ r h. made-decides s r (verdict (st .settings) (call .clock) r) what (made s k r h)) (st .pending) (stamps-past st call f))
+          (all-weaker InTime (λ r. Decides (isJudged what r) (Made s r what)) (λ r h. made-decides s r (verdictOf r) what (made s k r h)) (st .pending)
+          (stamps-past st call f))
       go false e = counted-none (λ r. Made s r what) (λ r m. eqb-false (call .kind) Numbers.check e (ofCheck r m)) (st .pending)
 
-  count-checked : (what : Verdict) → call .kind ≡ Numbers.check → countOf st (argsOf call) what ≡ length (judged (st .settings) (call .clock) what (st .pending))
+  count-checked : call .kind ≡ Numbers.check → (what : Verdict) → countOf st (argsOf call) what ≡ length (those what)
   unfolding countOf argsOf
-  count-checked what k = rw (sym is-check ∙ eq-eqb (call .kind) Numbers.check k)
+  count-checked k what = rw (sym (is-check st call f) ∙ eq-eqb (call .kind) Numbers.check k)
 
-  waiting-told : Counted (λ (r : Request). Overdue s r → ⊥) (st .pending) (length (judged (st .settings) (call .clock) Delivery.waiting (st .pending)))
+  waiting-told : Counted (λ (r : Request). Overdue s r → ⊥) (st .pending) (length (those Delivery.waiting))
   unfolding judged
   waiting-told =
       counted-kept (λ (r : Request). Overdue s r → ⊥) (isJudged Delivery.waiting) (st .pending)
-      (all-weaker (λ (r : Request). r .stamp ≤ call .clock) (λ r. Decides (isJudged Delivery.waiting r) (Overdue s r → ⊥)) (waits (st .settings) (call .clock)) (st .pending)
+      (all-weaker InTime (λ r. Decides (isJudged Delivery.waiting r) (Overdue s r → ⊥)) (waits (st .settings) (call .clock)) (st .pending)
       (stamps-past st call f))
 
-  counts-add : call .kind ≡ Numbers.check
+  pub counts-add : call .kind ≡ Numbers.check
       → countOf st (argsOf call) Delivery.retried + countOf st (argsOf call) Delivery.abandoned + countOf st (argsOf call) Delivery.forgotten
-      + length (judged (st .settings) (call .clock) Delivery.waiting (st .pending))
+      + length (those Delivery.waiting)
       ≡ length (st .pending)
   counts-add k =
-      rw (count-checked Delivery.retried k, count-checked Delivery.abandoned k, count-checked Delivery.forgotten k) (judged-all (st .settings) (call .clock) (st .pending))
+      rw (count-checked k Delivery.retried, count-checked k Delivery.abandoned, count-checked k Delivery.forgotten)
+      (judged-all (st .settings) (call .clock) (st .pending))
 
-  fresh-told : call .kind ≡ Numbers.check → freshCount st (argsOf call) ≡ length (st .sync .evicted)
+  pub fresh-told : call .kind ≡ Numbers.check → freshCount st (argsOf call) ≡ length (st .sync .evicted)
   unfolding freshCount argsOf
-  fresh-told k = rw (sym is-check ∙ eq-eqb (call .kind) Numbers.check k)
+  fresh-told k = rw (sym (is-check st call f) ∙ eq-eqb (call .kind) Numbers.check k)
 
-  none-fresh : (call .kind ≡ Numbers.check → ⊥) → freshCount st (argsOf call) ≡ 0
+  pub none-fresh : (call .kind ≡ Numbers.check → ⊥) → freshCount st (argsOf call) ≡ 0
   unfolding freshCount argsOf
-  none-fresh n = rw (sym is-check ∙ ne-eqb (call .kind) Numbers.check n)
+  none-fresh n = rw (sym (is-check st call f) ∙ ne-eqb (call .kind) Numbers.check n)
+
+  pub bytes-told : length (stepBytes st (argsOf call)) ≡ bytesOf (commands st (argsOf call))
+  unfolding stepBytes
+  bytes-told = bytes-counted (commands st (argsOf call)) (commands-in-width st call (f .well) (f .width) (none-refused st call (f .passed)))
 
 pub told-kept : (st : State) (call : Call) → Finished st call → Told (seenAs st call)
-unfolding stepAnswer stepBytes
+unfolding stepAnswer
 told-kept st call f =
     record {
       pending = refl;
       evicted = refl;
-      bytes = bytes-counted (commands st (argsOf call)) (commands-in-width st call (f .well) (f .width) (none-refused st call (f .passed)));
+      bytes = bytes-told st call f;
       retried = count-told st call f Delivery.retried (λ r m. m .kind);
       abandoned = count-told st call f Delivery.abandoned (λ r m. m .kind);
       forgotten = count-told st call f Delivery.forgotten (λ r m. m .kind);
