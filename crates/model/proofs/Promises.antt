@@ -7,3 +7,4 @@ pub mod LeftLaws
 pub mod PendingKept
 pub mod ToldKept
 pub mod VerdictLaws
+pub mod WordLaws

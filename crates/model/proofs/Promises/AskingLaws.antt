@@ -1,15 +1,13 @@
 -- The acts of a step over the pending requests: what is there stays as it is, what comes was asked for, what is asked for is there.
 use Prim.Native.Nat.{ℕ}
 use mathlib.Core.Path.{_≡_, refl, sym, ap, _∙_, subst}
-use mathlib.Core.Bool.{Bool, true, false, cond, _||_, false≢true}
+use mathlib.Core.Bool.{Bool, true, false, cond}
 use mathlib.Core.Logic.{_⊎_, inl, inr, ⊎-elim}
 use mathlib.Core.List.{List, [], _∷_, _++_, map, append-nil}
 use Rattle.fields.specs.Facts.{All}
-use Rattle.fields.specs.Order.{same}
 use Rattle.fields.specs.Filter.{consIf, kept}
 use Rattle.fields.specs.Sort.{inserted, sorted}
-use Rattle.fields.proofs.OrderLaws.{neither, same-eq, eq-same}
-use Rattle.model.specs.Protocol.{Id, isAmong}
+use Rattle.model.specs.Protocol.{Id}
 use Rattle.model.specs.Delivery.{Request, idsOf, isPending, idBefore, markRequested}
 use Rattle.model.specs.Requests.{Act, ask, send, wanted, requestOf, Done, perform, performAll}
 use Rattle.model.specs.Requests
@@ -18,6 +16,7 @@ use Rattle.model.specs.Promises.Words.{Among}
 use Rattle.model.specs.Promises.Pending.{asRequested}
 use Rattle.model.proofs.Widths.{WellAct}
 use Rattle.model.proofs.RequestedLaws.{requested, requestedBySendings, requested-append}
+use Rattle.model.proofs.Promises.WordLaws.{passes-pending, fails-pending}
 
 -- ---- lists
 
@@ -53,6 +52,10 @@ pub among-map : {A B : Type 0} (f : A → B) (y : B) (xs : List A) → Among y (
 among-map f y (x ∷ xs) (inl e) = (x, inl refl, e)
 among-map f y (x ∷ xs) (inr a) = let p = among-map f y xs a in (p .0, inr (p .1), p .2)
 
+pub map-among : {A B : Type 0} (f : A → B) (x : A) (xs : List A) → Among x xs → Among (f x) (map f xs)
+map-among f x (y ∷ ys) (inl e) = inl (ap f e)
+map-among f x (y ∷ ys) (inr a) = inr (map-among f x ys a)
+
 module _ {A : Type 0} (below : A → A → Bool) where
   among-inserted : (x y : A) (ys : List A) → Among x (inserted below y ys) → (x ≡ y) ⊎ Among x ys
   among-inserted x y [] a = a
@@ -81,23 +84,11 @@ module _ {A : Type 0} (below : A → A → Bool) where
 
 -- ---- pending ids
 
-pub pending-request : (id : Id) (rs : List Request) → isPending id rs ≡ true → (r : Request) × Among r rs × (r .id ≡ id)
-unfolding isPending isAmong
-pending-request id [] e = absurd (false≢true e)
-pending-request id (r ∷ rs) e = go (same id (r .id)) refl (pending-request id rs) e
-  where
-    go : (t : Bool) → same id (r .id) ≡ t → (isAmong id (idsOf rs) ≡ true → (r : Request) × Among r rs × (r .id ≡ id)) → t || isAmong id (idsOf rs) ≡ true
-        → (q : Request) × Among q (r ∷ rs) × (q .id ≡ id)
-    go true f rest e = (r, inl refl, sym (same-eq id (r .id) f))
-    go false f rest e = let q = rest e in (q .0, inr (q .1), q .2)
+pending-request : (id : Id) (rs : List Request) → isPending id rs ≡ true → (r : Request) × Among r rs × (r .id ≡ id)
+pending-request id rs e = let p = among-map (λ (r : Request). r .id) id rs (passes-pending id rs e) in (p .0, p .1, sym (p .2))
 
-pub not-pending : (id : Id) (rs : List Request) → isPending id rs ≡ false → (r : Request) → Among r rs → r .id ≡ id → ⊥
-unfolding isPending isAmong
-not-pending id [] e r a f = a
-not-pending id (q ∷ rs) e r (inl a) f =
-    let n = neither (same id (q .id)) (isAmong id (idsOf rs)) e in
-    false≢true (sym (n .0) ∙ eq-same id (q .id) (sym f ∙ ap (λ (x : Request). x .id) a))
-not-pending id (q ∷ rs) e r (inr a) f = not-pending id rs (neither (same id (q .id)) (isAmong id (idsOf rs)) e .1) r a f
+not-pending : (id : Id) (rs : List Request) → isPending id rs ≡ false → (r : Request) → Among r rs → r .id ≡ id → ⊥
+not-pending id rs e r a f = fails-pending id rs e (subst (λ (x : Id). Among x (idsOf rs)) f (map-among (λ (r : Request). r .id) r rs a))
 
 -- ---- requests that are asked for
 

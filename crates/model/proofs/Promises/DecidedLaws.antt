@@ -1,14 +1,11 @@
 -- Tests of the rules that say whether something holds in a user's words.
 use Prim.Native.Nat.{ℕ}
 use mathlib.Core.Path.{_≡_, refl}
-use mathlib.Core.Bool.{Bool, true, false, _||_, false≢true}
-use mathlib.Core.Logic.{inl, inr}
-use mathlib.Core.List.{List, [], _∷_}
+use mathlib.Core.Bool.{Bool, true, false, false≢true}
+use mathlib.Core.List.{List}
 use native.Mathlib.Omega.{arith}
 use lib.Dec.{eqb}
 use borrow.Author.Tests.{eqb-true, eqb-false}
-use Rattle.fields.specs.Order.{same}
-use Rattle.fields.proofs.OrderLaws.{same-eq, not-both, eq-same}
 use Rattle.model.specs.Protocol.{Id, isAmong}
 use Rattle.model.specs.Delivery
 use Rattle.model.specs.Delivery.{Verdict, verdictNumber}
@@ -20,6 +17,7 @@ use Rattle.model.specs.Promises.Words.{Among}
 use Rattle.model.proofs.StepKindLaws.{check-of-kind}
 use Rattle.model.proofs.Promises.SeenLaws as seen
 use Rattle.model.proofs.Promises.SeenLaws.{Finished, numbers-fit}
+use Rattle.model.proofs.Promises.WordLaws.{passes-among, fails-among}
 
 -- the test says whether it holds
 abbrev pub Decides : Bool → Type 0 → Type 0
@@ -31,18 +29,11 @@ decides-as true f g d = f d
 decides-as false f g d = λ q. d (g q)
 
 pub among-decides : (id : Id) (ids : List Id) → Decides (isAmong id ids) (Among id ids)
-unfolding isAmong
-among-decides id [] = λ a. a
-among-decides id (other ∷ ids) = go (same id other) (isAmong id ids) refl (among-decides id ids)
+among-decides id ids = go (isAmong id ids) refl
   where
-    go : (t u : Bool) → same id other ≡ t → Decides u (Among id ids) → Decides (t || u) (Among id (other ∷ ids))
-    go true u e d = inl (same-eq id other e)
-    go false true e d = inr d
-    go false false e d = neither-way
-      where
-        neither-way : Among id (other ∷ ids) → ⊥
-        neither-way (inl f) = not-both (same id other) (eq-same id other f) e
-        neither-way (inr a) = d a
+    go : (t : Bool) → isAmong id ids ≡ t → Decides t (Among id ids)
+    go true e = passes-among id ids e
+    go false e = fails-among id ids e
 
 pub eqb-decides : (m n : ℕ) → Decides (eqb m n) (m ≡ n)
 eqb-decides m n = go (eqb m n) refl

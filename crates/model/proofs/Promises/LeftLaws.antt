@@ -18,7 +18,7 @@ use Rattle.model.specs.Promises.Words.{Seen, ids, Among}
 use Rattle.model.specs.Promises.Pending as pending
 use Rattle.model.specs.Promises.Pending.{Retried, TakenOut, Becomes, restartedAt}
 use Rattle.model.proofs.Promises.DecidedLaws.{Decides}
-use Rattle.model.proofs.Promises.VerdictLaws.{Made, made, taken-by-check}
+use Rattle.model.proofs.Promises.VerdictLaws.{Made, made, waiting-stays, retried-stays}
 use Rattle.model.proofs.Promises.CheckedLaws.{leaves, checked}
 
 module _ (s : Seen) where
@@ -69,28 +69,21 @@ module _ (s : Seen) where
 
   -- ---- a check
 
-  module _ (check : s .call .kind ≡ Numbers.check) where
-    waiting-stays : (r : Request) → Made s r Delivery.waiting → TakenOut s r → ⊥
-    waiting-stays r m t = ⊎-elim (λ a. m (a .overdue)) (λ f. m (f .overdue)) (taken-by-check s r check t)
+  module _ (check : s .call .kind ≡ Numbers.check) (target : ℕ → ℕ)
+      (moves : (r : Request) → Retried s r → Becomes s r (restartedAt s r (target (r .peer)))) where
+    abbrev still : List Request → List Request
+    still rs = checked (s .before .settings) (s .call .clock) target rs
 
-    pub retried-stays : (r : Request) → Retried s r → TakenOut s r → ⊥
-    retried-stays r m t =
-        ⊎-elim (λ a. let x = m .another in let y = a .last in absurd (omega arith)) (λ f. m .noTransaction (f .transaction)) (taken-by-check s r check t)
-
-    module _ (target : ℕ → ℕ) (moves : (r : Request) → Retried s r → Becomes s r (restartedAt s r (target (r .peer)))) where
-      abbrev still : List Request → List Request
-      still rs = checked (s .before .settings) (s .call .clock) target rs
-
-      pub left-checked : (rs : List Request) → All (λ (r : Request). r .stamp ≤ s .call .clock) rs → Left rs (still rs)
-      unfolding restarted
-      left-checked [] h = nothing
-      left-checked (r ∷ rs) h = go (verdict (s .before .settings) (s .call .clock) r) (made s check r (h .0)) (left-checked rs (h .1))
-        where
-          go : (v : Verdict) → Made s r v → Left rs (still rs) → Left (r ∷ rs) (leaves (s .before .settings) (s .call .clock) target v r (still rs))
-          go Delivery.waiting m l = on r r rs (still rs) (waiting-stays r m) (pending.asItWas (λ x. m (x .overdue))) l
-          go Delivery.retried m l = on r (restartedAt s r (target (r .peer))) rs (still rs) (retried-stays r m) (moves r m) l
-          go Delivery.abandoned m l = out r rs (still rs) (pending.abandoned m) l
-          go Delivery.forgotten m l = out r rs (still rs) (pending.forgotten m) l
+    pub left-checked : (rs : List Request) → All (λ (r : Request). r .stamp ≤ s .call .clock) rs → Left rs (still rs)
+    unfolding restarted
+    left-checked [] h = nothing
+    left-checked (r ∷ rs) h = go (verdict (s .before .settings) (s .call .clock) r) (made s check r (h .0)) (left-checked rs (h .1))
+      where
+        go : (v : Verdict) → Made s r v → Left rs (still rs) → Left (r ∷ rs) (leaves (s .before .settings) (s .call .clock) target v r (still rs))
+        go Delivery.waiting m l = on r r rs (still rs) (waiting-stays s r check m) (pending.asItWas (λ x. m (x .overdue))) l
+        go Delivery.retried m l = on r (restartedAt s r (target (r .peer))) rs (still rs) (retried-stays s r check m) (moves r m) l
+        go Delivery.abandoned m l = out r rs (still rs) (pending.abandoned m) l
+        go Delivery.forgotten m l = out r rs (still rs) (pending.forgotten m) l
 
 -- ---- what each kind takes out
 

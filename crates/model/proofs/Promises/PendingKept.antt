@@ -41,10 +41,10 @@ use Rattle.model.proofs.RequestedLaws.{requestedItem, requestedBySendin
 use Rattle.model.proofs.Promises.SeenLaws as kinds
 use Rattle.model.proofs.Promises.SeenLaws.{seenAs, Finished, Kind, kind-of, mode-of, numbers-fit}
 use Rattle.model.proofs.Promises.DecidedLaws.{decides-as, among-decides, eqb-decides, is-syncing, is-check, verdict-number}
-use Rattle.model.proofs.Promises.VerdictLaws.{goes-to, made-verdict, stamps-past}
+use Rattle.model.proofs.Promises.VerdictLaws.{goes-to, made-verdict, retried-stays, stamps-past}
 use Rattle.model.proofs.Promises.CheckedLaws.{checked-still, checked-again}
 use Rattle.model.proofs.Promises.AskingLaws.{among-back, among-either, among-kept, all-among, among-map, among-sorted, New, Grows, acts-grow}
-use Rattle.model.proofs.Promises.LeftLaws.{Left, left-of, came-from, becomes-id, left-all, left-kept, left-none, left-checked, retried-stays}
+use Rattle.model.proofs.Promises.LeftLaws.{Left, left-of, came-from, becomes-id, left-all, left-kept, left-none, left-checked}
 use Rattle.model.proofs.Promises.LeftLaws.{takesOut, untaken, taken-listed, taken-lost}
 
 -- ---- the evicted list
@@ -310,7 +310,7 @@ module _ (st : State) (call : Call) (f : Finished st call) where
       go true e b =
           let k : call .kind ≡ Numbers.check = eqb-true (call .kind) Numbers.check e in
           let p = retry-due k i b in
-          let q = pending-stays (p .0) (p .1) (retried-stays s k (p .0) (p .2)) in
+          let q = pending-stays (p .0) (p .1) (retried-stays s (p .0) k (p .2)) in
           (q .0, q .2, becomes-id s (q .1) ∙ p .3)
       go false e b = absurd b
 

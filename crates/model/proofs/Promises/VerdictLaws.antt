@@ -2,7 +2,7 @@
 use Prim.Native.Nat.{ℕ, suc, _+_, _-_, _≤_, _<_}
 use mathlib.Core.Path.{_≡_, refl, sym, ap, subst}
 use mathlib.Core.Bool.{Bool, true, false, cond}
-use mathlib.Core.Logic.{_⊎_, inl, inr}
+use mathlib.Core.Logic.{_⊎_, inl, inr, ⊎-elim}
 use mathlib.Core.List.{List, [], _∷_, _++_}
 use native.Mathlib.Omega.{arith}
 use lib.Dec.{eqb, leb}
@@ -19,7 +19,7 @@ use Rattle.model.specs.Promises.Numbers
 use Rattle.model.specs.Promises.Words.{Seen}
 use Rattle.model.specs.Promises.Pending.{GoesTo, another, again, Overdue, Forgotten, Abandoned, Retried, TakenOut}
 use Rattle.model.specs.Promises.Pending as pending
-use Rattle.model.proofs.Well.{Well, WellRequest}
+use Rattle.model.proofs.Well.{WellRequest}
 use Rattle.model.proofs.Promises.SeenLaws.{Finished}
 
 -- ---- where a retry goes
@@ -35,7 +35,9 @@ unfolding retryTarget
 goes-to [] failed = again tt
 goes-to (peer ∷ peers) failed = go (eqb peer failed) refl (goes-to peers failed)
   where
-    go : (t : Bool) → eqb peer failed ≡ t → GoesTo peers failed (retryTarget peers failed) → GoesTo (peer ∷ peers) failed (cond t (retryTarget peers failed) peer)
+    go :
+        (t : Bool) → eqb peer failed ≡ t → GoesTo peers failed (retryTarget peers failed)
+        → GoesTo (peer ∷ peers) failed (cond t (retryTarget peers failed) peer)
     go true e g = passes peers failed (retryTarget peers failed) peer (eqb-true peer failed e) g
     go false e g = another peer [] peers refl tt (eqb-false peer failed e)
 
@@ -148,6 +150,13 @@ taken-by-check s r check (pending.purged e) = absurd (omega (arith, e, check))
 taken-by-check s r check (pending.orphaned e mode lost peer) = absurd (omega (arith, e, check))
 taken-by-check s r check (pending.forgotten f) = inr f
 taken-by-check s r check (pending.abandoned a) = inl a
+
+pub waiting-stays : (s : Seen) (r : Request) → s .call .kind ≡ Numbers.check → (Overdue s r → ⊥) → TakenOut s r → ⊥
+waiting-stays s r check m out = ⊎-elim (λ a. m (a .overdue)) (λ f. m (f .overdue)) (taken-by-check s r check out)
+
+pub retried-stays : (s : Seen) (r : Request) → s .call .kind ≡ Numbers.check → Retried s r → TakenOut s r → ⊥
+retried-stays s r check m out =
+    ⊎-elim (λ a. let x = m .another in let y = a .last in absurd (omega arith)) (λ f. m .noTransaction (f .transaction)) (taken-by-check s r check out)
 
 -- No request is stamped after the clock of a finished call.
 pub stamps-past : (st : State) (call : Call) → Finished st call → All (λ (r : Request). r .stamp ≤ call .clock) (st .pending)
