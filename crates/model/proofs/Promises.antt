@@ -21,3 +21,9 @@ pub mod ItemLaws
 pub mod AskedLaws
 pub mod AsksKept
 pub mod BatchesKept
+pub mod AskingLaws
+pub mod CheckedLaws
+pub mod DecidedLaws
+pub mod LeftLaws
+pub mod PendingKept
+pub mod ToldKept
