@@ -1,3 +1,5 @@
 -- The promises, proved: what specs/Promises says of any finished call.
+pub mod ByTypeLaws
+pub mod SectionsAsked
 pub mod SeenLaws
 pub mod WordLaws
