@@ -11,7 +11,7 @@ use borrow.Author.Tests.{eqb-true, eqb-false, eq-eqb, ne-eqb, ltb-true, ltb-fals
 use Rattle.fields.specs.Facts.{All}
 use Rattle.fields.specs.Order.{same}
 use Rattle.fields.specs.Sort.{inserted, sorted}
-use Rattle.fields.proofs.AllLaws.{all-append, all-map, all-weaker}
+use Rattle.fields.proofs.AllLaws.{all-append, all-weaker}
 use Rattle.fields.proofs.OrderLaws.{trichotomy, or-left, or-right, same-eq, same-refl}
 use Rattle.fields.proofs.SortLaws.{all-inserted, all-sorted}
 use Rattle.model.specs.Protocol.{Id, isAmong}
@@ -33,11 +33,6 @@ use Rattle.model.proofs.Promises.WordLaws.{among-passes, passes-among, 
 -- ---- lists
 
 module _ {A : Type 0} (x : A) where
-  pub among-front : (xs ys : List A) → Among x xs → Among x (xs ++ ys)
-  among-front [] ys h = absurd h
-  among-front (y ∷ xs) ys (inl e) = inl e
-  among-front (y ∷ xs) ys (inr h) = inr (among-front xs ys h)
-
   pub among-back : (xs ys : List A) → Among x ys → Among x (xs ++ ys)
   among-back [] ys h = h
   among-back (y ∷ xs) ys h = inr (among-back xs ys h)
@@ -63,19 +58,26 @@ abbrev inBatches : ℕ → List Batch → List Id
 inBatches typeId [] = []
 inBatches typeId (b ∷ batches) = cond (eqb (b .typeId) typeId) (b .ids ++ inBatches typeId batches) (inBatches typeId batches)
 
+-- an item joined to a batch of its peer and type, and one that begins a batch
+abbrev together : Item → Batch → Batch
+together i b = record { typeId = b .typeId; peer = b .peer; ids = i .id ∷ b .ids }
+
+abbrev alone : Item → Batch
+alone i = record { typeId = i .typeId; peer = i .peer; ids = i .id ∷ [] }
+
 joined-ids : (typeId : ℕ) (i : Item) (bs : List Batch)
     → inBatches typeId (join i bs) ≡ cond (eqb (i .typeId) typeId) (i .id ∷ inBatches typeId bs) (inBatches typeId bs)
 joined-ids typeId i [] = refl
 joined-ids typeId i (b ∷ bs) = go (eqb (i .typeId) (b .typeId)) (eqb (i .peer) (b .peer)) refl
   where
-    together : (t : Bool) (x : Id) (xs ys : List Id) → cond t (x ∷ (xs ++ ys)) ys ≡ cond t (x ∷ cond t (xs ++ ys) ys) (cond t (xs ++ ys) ys)
-    together true x xs ys = refl
-    together false x xs ys = refl
+    in-front : (t : Bool) (x : Id) (xs ys : List Id) → cond t (x ∷ (xs ++ ys)) ys ≡ cond t (x ∷ cond t (xs ++ ys) ys) (cond t (xs ++ ys) ys)
+    in-front true x xs ys = refl
+    in-front false x xs ys = refl
 
     go : (p q : Bool) → eqb (i .typeId) (b .typeId) ≡ p
-        → inBatches typeId (cond (p && q) (record { typeId = b .typeId; peer = b .peer; ids = i .id ∷ b .ids } ∷ bs) (record { typeId = i .typeId; peer = i .peer; ids = i .id ∷ [] } ∷ (b ∷ bs)))
+        → inBatches typeId (cond (p && q) (together i b ∷ bs) (alone i ∷ (b ∷ bs)))
         ≡ cond (eqb (i .typeId) typeId) (i .id ∷ inBatches typeId (b ∷ bs)) (inBatches typeId (b ∷ bs))
-    go true true e = rw (eqb-true (i .typeId) (b .typeId) e) (together (eqb (b .typeId) typeId) (i .id) (b .ids) (inBatches typeId bs))
+    go true true e = rw (eqb-true (i .typeId) (b .typeId) e) (in-front (eqb (b .typeId) typeId) (i .id) (b .ids) (inBatches typeId bs))
     go true false e = refl
     go false q e = refl
 
@@ -98,12 +100,13 @@ abbrev Climbing : List Item → Type 0
 Climbing [] = Unit {0}
 Climbing (i ∷ items) = All (λ (later : Item). i .typeId ≤ later .typeId) items × Climbing items
 
-join-above : (low : ℕ) (i : Item) (bs : List Batch) → low ≤ i .typeId → All (λ (b : Batch). low ≤ b .typeId) bs → All (λ (b : Batch). low ≤ b .typeId) (join i bs)
+join-above : (low : ℕ) (i : Item) (bs : List Batch) → low ≤ i .typeId → All (λ (b : Batch). low ≤ b .typeId) bs
+    → All (λ (b : Batch). low ≤ b .typeId) (join i bs)
 join-above low i [] l h = (l, tt)
 join-above low i (b ∷ bs) l h = go (eqb (i .typeId) (b .typeId) && eqb (i .peer) (b .peer))
   where
     go : (t : Bool) → All (λ (c : Batch). low ≤ c .typeId)
-        (cond t (record { typeId = b .typeId; peer = b .peer; ids = i .id ∷ b .ids } ∷ bs) (record { typeId = i .typeId; peer = i .peer; ids = i .id ∷ [] } ∷ (b ∷ bs)))
+        (cond t (together i b ∷ bs) (alone i ∷ (b ∷ bs)))
     go true = h
     go false = (l, h)
 
@@ -173,12 +176,16 @@ module _ (peer : ℕ) where
   joined-stepwise i [] p l s = (p, tt, tt)
   joined-stepwise i (b ∷ bs) p l s = rw (eq-eqb (i .peer) (b .peer) (p ∙ sym (s .0))) (go (eqb (i .typeId) (b .typeId)) refl)
     where
+      lower : {m n : ℕ} → (m < n) ⊎ ((m ≡ n) ⊎ (n < m)) → m ≤ n → (m ≡ n → ⊥) → m < n
+      lower (inl h) l n = h
+      lower (inr (inl h)) l n = absurd (n h)
+      lower (inr (inr h)) l n = omega arith
+
       go : (t : Bool) → eqb (i .typeId) (b .typeId) ≡ t
-          → Stepwise (cond (t && true) (record { typeId = b .typeId; peer = b .peer; ids = i .id ∷ b .ids } ∷ bs) (record { typeId = i .typeId; peer = i .peer; ids = i .id ∷ [] } ∷ (b ∷ bs)))
+          → Stepwise (cond (t && true) (together i b ∷ bs) (alone i ∷ (b ∷ bs)))
       go true e = s
       go false e =
-          let n = eqb-false (i .typeId) (b .typeId) e in
-          let first : i .typeId < b .typeId = ⊎-elim (λ h. h) (⊎-elim (λ h. absurd (n h)) (λ h. absurd (lt-irrefl (i .typeId) (omega (arith, l .0))))) (trichotomy (i .typeId) (b .typeId)) in
+          let first : i .typeId < b .typeId = lower (trichotomy (i .typeId) (b .typeId)) (l .0) (eqb-false (i .typeId) (b .typeId) e) in
           (p, (first, all-weaker (λ (c : Batch). b .typeId < c .typeId) (λ (c : Batch). i .typeId < c .typeId) (λ c h. omega arith) bs (s .1)), s)
 
   adjacent-stepwise : (items : List Item) → OfPeer peer items → Climbing items → Stepwise (adjacent items)
@@ -192,6 +199,11 @@ module _ (peer : ℕ) where
       adjacent-stepwise (sorted itemBelow items) (all-sorted itemBelow (λ (i : Item). i .peer ≡ peer) items ps) (sorted-climbs items ps)
 
 -- ---- what is asked for under a type
+
+all-requested : (P : Requested → Type 0) (typeId peer : ℕ) → ((id : Id) → P (requested typeId peer id))
+    → (ids : List Id) → All P (map (requested typeId peer) ids)
+all-requested P typeId peer each [] = tt
+all-requested P typeId peer each (id ∷ ids) = (each id, all-requested P typeId peer each ids)
 
 under-append : (typeId : ℕ) (xs ys : List Requested) → under typeId (xs ++ ys) ≡ under typeId xs ++ under typeId ys
 under-append typeId [] ys = refl
@@ -229,27 +241,26 @@ batches-above typeId low (b ∷ bs) l h =
 
 -- ---- an id that is marked is pending
 
+abbrev entering : ℕ → ℕ → ℕ → Id → Request
+entering clock typeId peer id = record { id = id; typeId = typeId; peer = peer; stamp = clock; checks = 0 }
+
 marked-one : (clock typeId peer : ℕ) (id x : Id) (pending : List Request)
-    → isPending id (cond (isPending x pending) pending (inserted idBefore (record { id = x; typeId = typeId; peer = peer; stamp = clock; checks = 0 }) pending))
-    ≡ same id x || isPending id pending
+    → isPending id (cond (isPending x pending) pending (inserted idBefore (entering clock typeId peer x) pending)) ≡ same id x || isPending id pending
 unfolding isPending
 marked-one clock typeId peer id x pending = go (isAmong x (idsOf pending)) (same id x) refl refl
   where
-    entered : Request
-    entered = record { id = x; typeId = typeId; peer = peer; stamp = clock; checks = 0 }
-
     go : (t u : Bool) → isAmong x (idsOf pending) ≡ t → same id x ≡ u
-        → isAmong id (idsOf (cond t pending (inserted idBefore entered pending))) ≡ same id x || isAmong id (idsOf pending)
+        → isAmong id (idsOf (cond t pending (inserted idBefore (entering clock typeId peer x) pending))) ≡ same id x || isAmong id (idsOf pending)
     go true true e f = rw (same-eq id x f, e, same-refl x)
     go true false e f = rw f
-    go false u e f = among-inserted (λ (r : Request). r .id) idBefore id entered pending
+    go false u e f = among-inserted (λ (r : Request). r .id) idBefore id (entering clock typeId peer x) pending
 
 marked-pending : (clock typeId peer : ℕ) (id : Id) (ids : List Id) (pending : List Request)
     → isPending id (markRequested clock typeId peer ids pending) ≡ isAmong id ids || isPending id pending
 unfolding isAmong
 marked-pending clock typeId peer id [] pending = refl
 marked-pending clock typeId peer id (x ∷ ids) pending =
-    marked-pending clock typeId peer id ids (cond (isPending x pending) pending (inserted idBefore (record { id = x; typeId = typeId; peer = peer; stamp = clock; checks = 0 }) pending))
+    marked-pending clock typeId peer id ids (cond (isPending x pending) pending (inserted idBefore (entering clock typeId peer x) pending))
     ∙ rw (marked-one clock typeId peer id x pending) (turned (isAmong id ids) (same id x) (isPending id pending))
   where
     turned : (a b c : Bool) → a || (b || c) ≡ (b || a) || c
@@ -312,22 +323,15 @@ module _ (clock peer : ℕ) (pairs : List Pair) where
       let list : List Id = wanted pending (b .typeId) pairs (b .ids) in
       let later : List Request = markRequested clock (b .typeId) peer list pending in
       all-append (λ (q : Requested). low < q .typeId) (map (requested (b .typeId) peer) list) (outgoing bs later)
-      (own list) (outgoing-above low bs later (h .1))
-    where
-      own : (ids : List Id) → All (λ (q : Requested). low < q .typeId) (map (requested (b .typeId) peer) ids)
-      own [] = tt
-      own (id ∷ ids) = (h .0, own ids)
+      (all-requested (λ (q : Requested). low < q .typeId) (b .typeId) peer (λ id. h .0) list) (outgoing-above low bs later (h .1))
 
   one-peer : (bs : List Batch) (pending : List Request) → All (λ (q : Requested). q .peer ≡ peer) (outgoing bs pending)
   one-peer [] pending = tt
   one-peer (b ∷ bs) pending =
       let list : List Id = wanted pending (b .typeId) pairs (b .ids) in
       let later : List Request = markRequested clock (b .typeId) peer list pending in
-      all-append (λ (q : Requested). q .peer ≡ peer) (map (requested (b .typeId) peer) list) (outgoing bs later) (own list) (one-peer bs later)
-    where
-      own : (ids : List Id) → All (λ (q : Requested). q .peer ≡ peer) (map (requested (b .typeId) peer) ids)
-      own [] = tt
-      own (id ∷ ids) = (refl, own ids)
+      all-append (λ (q : Requested). q .peer ≡ peer) (map (requested (b .typeId) peer) list) (outgoing bs later)
+      (all-requested (λ (q : Requested). q .peer ≡ peer) (b .typeId) peer (λ id. refl) list) (one-peer bs later)
 
   list-rises : (typeId : ℕ) (ids : List Id) (others : List Requested) → All (λ (q : Requested). typeId ≤ q .typeId) others → TypesRise others
       → All (λ (q : Requested). typeId ≤ q .typeId) (map (requested typeId peer) ids ++ others) × TypesRise (map (requested typeId peer) ids ++ others)
@@ -340,7 +344,8 @@ module _ (clock peer : ℕ) (pairs : List Pair) where
       let list : List Id = wanted pending (b .typeId) pairs (b .ids) in
       let later : List Request = markRequested clock (b .typeId) peer list pending in
       list-rises (b .typeId) list (outgoing bs later)
-      (all-weaker (λ (q : Requested). b .typeId < q .typeId) (λ (q : Requested). b .typeId ≤ q .typeId) (λ q h. omega arith) (outgoing bs later) (outgoing-above (b .typeId) bs later (s .1)))
+      (all-weaker (λ (q : Requested). b .typeId < q .typeId) (λ (q : Requested). b .typeId ≤ q .typeId) (λ q h. omega arith)
+      (outgoing bs later) (outgoing-above (b .typeId) bs later (s .1)))
       (types-rise bs later (s .2)) .1
 
   module _ (b : Batch) (bs : List Batch) (pending : List Request) (above : All (λ (later : Batch). b .typeId < later .typeId) bs) where
@@ -399,7 +404,8 @@ module _ (clock peer : ℕ) (pairs : List Pair) where
     pending-later id h =
         passes-pending id later
         (marked-pending clock (b .typeId) peer id list pending
-        ∙ ⊎-elim (λ k. or-left (isAmong id list) (isPending id pending) (among-passes id list k)) (λ k. or-right (isAmong id list) (isPending id pending) (pending-passes id pending k)) h)
+        ∙ ⊎-elim (λ k. or-left (isAmong id list) (isPending id pending) (among-passes id list k))
+        (λ k. or-right (isAmong id list) (isPending id pending) (pending-passes id pending k)) h)
 
     -- What keeps an id of a higher type from the batches behind keeps it from all.
     known-all : (typeId : ℕ) → b .typeId < typeId → (id : Id) → Known pairs later others typeId id → Known pairs pending all typeId id
@@ -408,8 +414,12 @@ module _ (clock peer : ℕ) (pairs : List Pair) where
         ⊎-elim (λ k. inr (b .typeId, l, subst (Among id) (sym under-first) k)) (λ k. inl (inl k)) (later-pending id h)
     known-all typeId l id (inl (inr h)) = inl (inr h)
     known-all typeId l id (inr h) =
-        inr (h .0, h .1, subst (Among id) (sym (under-append (h .0) (map (requested (b .typeId) peer) list) others))
-        (among-back id (under (h .0) (map (requested (b .typeId) peer) list)) (under (h .0) others) (h .2)))
+        inr (
+          h .0,
+          h .1,
+          subst (Among id) (sym (under-append (h .0) (map (requested (b .typeId) peer) list) others))
+              (among-back id (under (h .0) (map (requested (b .typeId) peer) list)) (under (h .0) others) (h .2)),
+        )
 
     known-others : (typeId : ℕ) (id : Id) → Known pairs pending all typeId id → Known pairs later others typeId id
     unfolding all
@@ -423,21 +433,29 @@ module _ (clock peer : ℕ) (pairs : List Pair) where
     in-first : inBatches (b .typeId) (b ∷ bs) ≡ b .ids
     in-first = rw (eq-eqb (b .typeId) (b .typeId) refl, batches-above (b .typeId) (b .typeId) bs (omega arith) above) (append-nil (b .ids))
 
-    left-next : ((typeId : ℕ) → LeftOf (Known pairs later others typeId) (inBatches typeId bs) (under typeId others))
-        → (typeId : ℕ) → LeftOf (Known pairs pending all typeId) (inBatches typeId (b ∷ bs)) (under typeId all)
+    in-others : (typeId : ℕ) → (b .typeId ≡ typeId → ⊥) → inBatches typeId (b ∷ bs) ≡ inBatches typeId bs
+    in-others typeId n = rw (ne-eqb (b .typeId) typeId n)
+
+    -- what is left under a type
+    abbrev Left : ℕ → Type 0
+    Left typeId = LeftOf (Known pairs pending all typeId) (inBatches typeId (b ∷ bs)) (under typeId all)
+
+    left-next : ((typeId : ℕ) → LeftOf (Known pairs later others typeId) (inBatches typeId bs) (under typeId others)) → (typeId : ℕ) → Left typeId
     left-next rest typeId = go (trichotomy (b .typeId) typeId)
       where
-        go : (b .typeId < typeId) ⊎ ((b .typeId ≡ typeId) ⊎ (typeId < b .typeId)) → LeftOf (Known pairs pending all typeId) (inBatches typeId (b ∷ bs)) (under typeId all)
+        go : (b .typeId < typeId) ⊎ ((b .typeId ≡ typeId) ⊎ (typeId < b .typeId)) → Left typeId
         go (inl l) =
             left-as (Known pairs pending all typeId) (inBatches typeId (b ∷ bs)) (inBatches typeId bs) (under typeId all) (under typeId others)
-            (rw (ne-eqb (b .typeId) typeId (λ e. lt-irrefl typeId (omega arith)))) (under-higher typeId l)
-            (left-same (Known pairs later others typeId) (Known pairs pending all typeId) (known-all typeId l) (known-others typeId) (inBatches typeId bs) (under typeId others) (rest typeId))
+            (in-others typeId (λ e. lt-irrefl typeId (omega arith))) (under-higher typeId l)
+            (left-same (Known pairs later others typeId) (Known pairs pending all typeId) (known-all typeId l) (known-others typeId)
+            (inBatches typeId bs) (under typeId others) (rest typeId))
         go (inr (inl e)) =
-            subst (λ (t : ℕ). LeftOf (Known pairs pending all t) (inBatches t (b ∷ bs)) (under t all)) e
-            (left-as (Known pairs pending all (b .typeId)) (inBatches (b .typeId) (b ∷ bs)) (b .ids) (under (b .typeId) all) list in-first under-first left-first)
+            subst Left e
+            (left-as (Known pairs pending all (b .typeId)) (inBatches (b .typeId) (b ∷ bs)) (b .ids) (under (b .typeId) all) list
+            in-first under-first left-first)
         go (inr (inr l)) =
             left-as (Known pairs pending all typeId) (inBatches typeId (b ∷ bs)) [] (under typeId all) []
-            (rw (ne-eqb (b .typeId) typeId (λ e. lt-irrefl typeId (omega arith))) (batches-above typeId (b .typeId) bs (omega arith) above)) (under-lower typeId l) refl
+            (in-others typeId (λ e. lt-irrefl typeId (omega arith)) ∙ batches-above typeId (b .typeId) bs (omega arith) above) (under-lower typeId l) refl
 
   left-by-type : (bs : List Batch) (pending : List Request) → Stepwise peer bs
       → (typeId : ℕ) → LeftOf (Known pairs pending (outgoing bs pending) typeId) (inBatches typeId bs) (under typeId (outgoing bs pending))
@@ -466,7 +484,8 @@ Quiet (send (Requests.announcement peer ids)) = Unit {0}
 Quiet (send (Requests.syncInfo peer)) = Unit {0}
 
 module _ (gate : Bool) (clock : ℕ) where
-  pub quiet-front : (quiet acts : List Act) (pending : List Request) → All Quiet quiet → askedBy gate clock (quiet ++ acts) pending ≡ askedBy gate clock acts pending
+  pub quiet-front : (quiet acts : List Act) (pending : List Request) → All Quiet quiet
+      → askedBy gate clock (quiet ++ acts) pending ≡ askedBy gate clock acts pending
   quiet-front [] acts pending q = refl
   quiet-front (ask typeId peer pairs ids ∷ quiet) acts pending q = absurd (q .0)
   quiet-front (send (Requests.request typeId peer ids) ∷ quiet) acts pending q = absurd (q .0)
@@ -476,7 +495,8 @@ module _ (gate : Bool) (clock : ℕ) where
   quiet-asks : (quiet : List Act) (pending : List Request) → All Quiet quiet → askedBy gate clock quiet pending ≡ []
   quiet-asks quiet pending q = ap (λ (acts : List Act). askedBy gate clock acts pending) (sym (append-nil quiet)) ∙ quiet-front quiet [] pending q
 
-  pub quiet-back : (acts quiet : List Act) (pending : List Request) → All Quiet quiet → askedBy gate clock (acts ++ quiet) pending ≡ askedBy gate clock acts pending
+  pub quiet-back : (acts quiet : List Act) (pending : List Request) → All Quiet quiet
+      → askedBy gate clock (acts ++ quiet) pending ≡ askedBy gate clock acts pending
   quiet-back [] quiet pending q = quiet-asks quiet pending q
   quiet-back (act ∷ acts) quiet pending q =
       let one : Done = perform gate clock act pending in

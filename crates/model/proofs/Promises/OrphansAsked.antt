@@ -1,10 +1,9 @@
 -- A lost sync peer's ids: each that is no transaction and not stored is asked of the first listed peer, by type.
 use Prim.Native.Nat.{ℕ, _<_}
 use mathlib.Core.Path.{_≡_, refl, sym, ap, _∙_, subst}
-use mathlib.Core.Bool.{Bool, true, false, not, cond, _&&_, false≢true}
+use mathlib.Core.Bool.{Bool, true, false, not, cond, _&&_}
 use mathlib.Core.Logic.{_⊎_, inl, inr, ⊎-elim}
 use mathlib.Core.List.{List, [], _∷_, map}
-use mathlib.Core.Option.{Option, some}
 use native.Mathlib.Nat.{lt-irrefl}
 use native.Mathlib.Omega.{arith}
 use lib.Dec.{eqb}
@@ -36,13 +35,13 @@ use Rattle.model.proofs.Promises.ByTypeLaws.{ofType, OfPeer, Known, ByT
 
 module _ {A : Type 0} (Out : A → Type 0) where
   -- What is left of a list stood in it.
-  left-within : (x : A) (xs left : List A) → LeftOf Out xs left → Among x left → Among x xs
+  pub left-within : (x : A) (xs left : List A) → LeftOf Out xs left → Among x left → Among x xs
   left-within x [] left e h = absurd (subst (Among x) e h)
   left-within x (y ∷ xs) left (inl k) h = inr (left-within x xs left (k .1) h)
   left-within x (y ∷ xs) left (inr k) h = ⊎-elim inl (λ m. inr (left-within x xs (k .1 .0) (k .1 .2) m)) (subst (Among x) (k .1 .1) h)
 
   -- What is left is what a test keeps that says the same of the list's own elements.
-  left-only : (test : A → Bool) (xs left : List A) → ((x : A) → Among x xs → test x ≡ true → Out x → ⊥) → ((x : A) → test x ≡ false → Out x)
+  pub left-only : (test : A → Bool) (xs left : List A) → ((x : A) → Among x xs → test x ≡ true → Out x → ⊥) → ((x : A) → test x ≡ false → Out x)
       → LeftOf Out xs left → left ≡ kept test xs
   left-only test [] left stays leaves e = e
   left-only test (y ∷ xs) left stays leaves (inl k) = go (test y) refl (left-only test xs left (λ x m. stays x (inr m)) leaves (k .1))
@@ -74,7 +73,7 @@ kept-pending test id (r ∷ rs) h = go (test r) h (kept-pending test id rs)
     go false m rest = inr (rest m)
 
 -- Of an id that two tests keep there is one request that passes both.
-kept-twice : (f g : Request → Bool) (id : Id) (rs : List Request) → RisingIds (idsOf rs) → Among id (idsOf (kept f rs)) → Among id (idsOf (kept g rs))
+pub kept-twice : (f g : Request → Bool) (id : Id) (rs : List Request) → RisingIds (idsOf rs) → Among id (idsOf (kept f rs)) → Among id (idsOf (kept g rs))
     → (r : Request) × (f r ≡ true) × (g r ≡ true)
 kept-twice f g id [] d m n = absurd m
 kept-twice f g id (r ∷ rs) d m n = go (f r) (g r) refl refl (kept-twice f g id rs (d .1)) m n
@@ -104,12 +103,12 @@ items-peer peer (r ∷ rs) = (refl, items-peer peer rs)
 
 items-ids : (typeId peer : ℕ) (rs : List Request) → ofType typeId (itemsFor peer rs) ≡ idsOf (kept (λ (r : Request). eqb (r .typeId) typeId) rs)
 items-ids typeId peer [] = refl
-items-ids typeId peer (r ∷ rs) = go (eqb (r .typeId) typeId) (items-ids typeId peer rs)
+items-ids typeId peer (r ∷ rs) =
+    go (eqb (r .typeId) typeId) (ofType typeId (itemsFor peer rs)) (kept (λ (q : Request). eqb (q .typeId) typeId) rs) (items-ids typeId peer rs)
   where
-    go : (t : Bool) → ofType typeId (itemsFor peer rs) ≡ idsOf (kept (λ (q : Request). eqb (q .typeId) typeId) rs)
-        → cond t (r .id ∷ ofType typeId (itemsFor peer rs)) (ofType typeId (itemsFor peer rs)) ≡ idsOf (consIf t r (kept (λ (q : Request). eqb (q .typeId) typeId) rs))
-    go true e = ap (λ (ids : List Id). r .id ∷ ids) e
-    go false e = e
+    go : (t : Bool) (ids : List Id) (others : List Request) → ids ≡ idsOf others → cond t (r .id ∷ ids) ids ≡ idsOf (consIf t r others)
+    go true ids others e = ap (λ (l : List Id). r .id ∷ l) e
+    go false ids others e = e
 
 module _ (lost : ℕ) where
   -- an orphan of this type
@@ -138,18 +137,28 @@ module _ (lost : ℕ) where
   is-orphan typeId r p t n = rw (eq-eqb (r .peer) lost p, eq-eqb (r .typeId) typeId t, ne-eqb (r .typeId) numbers.aTransaction n)
 
   module _ (clock peer : ℕ) (pairs : List Pair) (pending : List Request) (rising : RisingIds (idsOf pending)) where
-    orphan-ids : (typeId : ℕ) → ofType typeId (itemsFor peer (orphansOf lost pending)) ≡ idsOf (kept (isOrphan typeId) pending)
-    unfolding orphansOf
+    orphans : List Item
+    orphans = itemsFor peer (orphansOf lost pending)
+
+    orphan-ids : (typeId : ℕ) → ofType typeId orphans ≡ idsOf (kept (isOrphan typeId) pending)
+    unfolding orphans orphansOf
     orphan-ids typeId =
         items-ids typeId peer (orphansOf lost pending)
         ∙ ap idsOf (kept-kept (λ (r : Request). eqb (r .typeId) typeId) (λ (r : Request). eqb (r .peer) lost && not (isTransaction (r .typeId))) pending)
 
     asked : List Requested
-    asked = askedBy true clock (asks peer pairs (batchesOf (itemsFor peer (orphansOf lost pending)))) (purgePeer lost pending)
+    asked = askedBy true clock (asks peer pairs (batchesOf orphans)) (purgePeer lost pending)
 
-    by-type : ByType peer pairs (itemsFor peer (orphansOf lost pending)) (purgePeer lost pending) asked
-    unfolding asked
-    by-type = asked-by-type clock peer pairs (itemsFor peer (orphansOf lost pending)) (purgePeer lost pending) (items-peer peer (orphansOf lost pending))
+    by-type : ByType peer pairs orphans (purgePeer lost pending) asked
+    unfolding asked orphans
+    by-type = asked-by-type clock peer pairs orphans (purgePeer lost pending) (items-peer peer (orphansOf lost pending))
+
+    -- what keeps an id from being asked for
+    abbrev Out : ℕ → Id → Type 0
+    Out typeId = Known pairs (purgePeer lost pending) asked typeId
+
+    left-ids : (typeId : ℕ) → LeftOf (Out typeId) (idsOf (kept (isOrphan typeId) pending)) (under typeId asked)
+    left-ids typeId = subst (λ (ids : List Id). LeftOf (Out typeId) ids (under typeId asked)) (orphan-ids typeId) (by-type .requested typeId)
 
     -- An orphan's id is pending no more, and no other orphan has it.
     not-pending : (typeId : ℕ) (id : Id) → Among id (idsOf (kept (isOrphan typeId) pending)) → Among id (idsOf (purgePeer lost pending)) → ⊥
@@ -161,23 +170,23 @@ module _ (lost : ℕ) where
 
     not-lower : (typeId lower : ℕ) (id : Id) → lower < typeId → Among id (idsOf (kept (isOrphan typeId) pending)) → Among id (under lower asked) → ⊥
     not-lower typeId lower id l m n =
-        let k : Among id (ofType lower (itemsFor peer (orphansOf lost pending))) =
-            left-within (Known pairs (purgePeer lost pending) asked lower) id (ofType lower (itemsFor peer (orphansOf lost pending))) (under lower asked) (by-type .requested lower) n in
-        let both = kept-twice (isOrphan typeId) (isOrphan lower) id pending rising m (subst (Among id) (orphan-ids lower) k) in
+        let k = left-within (Out lower) id (idsOf (kept (isOrphan lower) pending)) (under lower asked) (left-ids lower) n in
+        let both = kept-twice (isOrphan typeId) (isOrphan lower) id pending rising m k in
         let r : Request = both .0 in
         lt-irrefl typeId (omega (arith, orphan-type typeId r (both .1), orphan-type lower r (both .2)))
 
-    isNew : ℕ → Id → Bool
-    isNew typeId id = not (isStored pairs typeId id)
+    -- so that of an orphan only the stored pairs decide
+    not-out : (typeId : ℕ) (id : Id) → Among id (idsOf (kept (isOrphan typeId) pending)) → not (isStored pairs typeId id) ≡ true → Out typeId id → ⊥
+    not-out typeId id m t (inl (inl k)) = not-pending typeId id m k
+    not-out typeId id m t (inl (inr k)) = fails-stored pairs typeId id (not-true (isStored pairs typeId id) t) k
+    not-out typeId id m t (inr k) = not-lower typeId (k .0) id (k .1) m (k .2)
 
-    under-orphans : (typeId : ℕ) → under typeId asked ≡ idsOf (kept (λ (r : Request). isNew typeId (r .id)) (kept (isOrphan typeId) pending))
-    unfolding isNew
+    under-orphans : (typeId : ℕ) → under typeId asked ≡ idsOf (kept (λ (r : Request). not (isStored pairs typeId (r .id))) (kept (isOrphan typeId) pending))
     under-orphans typeId =
-        left-only (Known pairs (purgePeer lost pending) asked typeId) (isNew typeId) (idsOf (kept (isOrphan typeId) pending)) (under typeId asked)
-        (λ id m t. ⊎-elim (⊎-elim (not-pending typeId id m) (fails-stored pairs typeId id (not-true (isStored pairs typeId id) t))) (λ k. not-lower typeId (k .0) id (k .1) m (k .2)))
-        (λ id t. inl (inr (passes-stored pairs typeId id (not-false (isStored pairs typeId id) t))))
-        (subst (λ (ids : List Id). LeftOf (Known pairs (purgePeer lost pending) asked typeId) ids (under typeId asked)) (orphan-ids typeId) (by-type .requested typeId))
-        ∙ kept-map (λ (r : Request). r .id) (isNew typeId) (kept (isOrphan typeId) pending)
+        let isNew : Id → Bool = λ (id : Id). not (isStored pairs typeId id) in
+        left-only (Out typeId) isNew (idsOf (kept (isOrphan typeId) pending)) (under typeId asked) (not-out typeId)
+        (λ id t. inl (inr (passes-stored pairs typeId id (not-false (isStored pairs typeId id) t)))) (left-ids typeId)
+        ∙ kept-map (λ (r : Request). r .id) isNew (kept (isOrphan typeId) pending)
 
 -- ---- the step
 
@@ -189,11 +198,15 @@ module _ (st : State) (call : Call) (o : Orphans (seenAs st call)) where
   in-syncing : isMode (st .mode) syncing ≡ true
   in-syncing = ap (λ (mode : Mode). isMode mode syncing) (o .mode)
 
-  lost-acts : (peer : ℕ) → First peer (peersIn (call .peers))
-      → planOf st (argsOf call) (Steps.lostPeer (call .peer)) .acts ≡ asks peer (pairsIn (call .stored)) (batchesOf (itemsFor peer (orphansOf (call .peer) (st .pending))))
-  unfolding planOf loses leaves askOrphans argsOf
+  -- what it asks for
+  again : ℕ → List Act
+  again peer = asks peer (pairsIn (call .stored)) (batchesOf (itemsFor peer (orphansOf (call .peer) (st .pending))))
+
+  lost-acts : (peer : ℕ) → First peer (peersIn (call .peers)) → planOf st (argsOf call) (Steps.lostPeer (call .peer)) .acts ≡ again peer
+  unfolding again planOf loses leaves askOrphans argsOf
   lost-acts peer first =
-      rw (eq-eqb (call .peer) (st .sync .syncPeer) (o .lost), in-syncing) (ap (askOrphans st (argsOf call) (call .peer)) (first-listed peer (peersIn (call .peers)) first))
+      rw (eq-eqb (call .peer) (st .sync .syncPeer) (o .lost), in-syncing)
+      (ap (askOrphans st (argsOf call) (call .peer)) (first-listed peer (peersIn (call .peers)) first))
 
   lost-remaining : remaining st (argsOf call) (Steps.lostPeer (call .peer)) ≡ purgePeer (call .peer) (st .pending)
   unfolding remaining
@@ -201,14 +214,22 @@ module _ (st : State) (call : Call) (o : Orphans (seenAs st call)) where
 
   lost-asked : (peer : ℕ) (rising : RisingIds (idsOf (st .pending))) → First peer (peersIn (call .peers)) → call .gate ≡ 1
       → requestedIn (commands st (argsOf call)) ≡ asked (call .peer) (call .clock) peer (pairsIn (call .stored)) (st .pending) rising
-  unfolding asked plan argsOf
+  unfolding asked orphans again plan argsOf
   lost-asked peer rising first g =
       let clock : ℕ = call .clock in
       asked-by-acts st (argsOf call) (ap isCheck lost-step)
       ∙ ap (λ (gate : Bool). askedBy gate clock (plan st (argsOf call) .acts) (remaining st (argsOf call) (stepOf call))) (eq-eqb (call .gate) 1 g)
       ∙ ap (λ (step : Step). askedBy true clock (planOf st (argsOf call) step .acts) (remaining st (argsOf call) step)) lost-step
       ∙ ap (λ (acts : List Act). askedBy true clock acts (remaining st (argsOf call) (Steps.lostPeer (call .peer)))) (lost-acts peer first)
-      ∙ ap (askedBy true clock (asks peer (pairsIn (call .stored)) (batchesOf (itemsFor peer (orphansOf (call .peer) (st .pending)))))) lost-remaining
+      ∙ ap (askedBy true clock (again peer)) lost-remaining
+
+  orphan : (typeId : ℕ) (r : Request) → isOrphan (call .peer) typeId r ≡ true → Orphan (seenAs st call) typeId r
+  orphan typeId r e =
+      record {
+        peer = orphan-peer (call .peer) typeId r e;
+        typed = orphan-type (call .peer) typeId r e;
+        noTransaction = orphan-lasts (call .peer) typeId r e;
+      }
 
   -- what the two tests keep is what is left
   left-orphans : (typeId : ℕ) → LeftOf (λ (r : Request). (Orphan (seenAs st call) typeId r → ⊥) ⊎ StoredAs (seenAs st call) typeId (r .id)) (st .pending)
@@ -216,16 +237,14 @@ module _ (st : State) (call : Call) (o : Orphans (seenAs st call)) where
   left-orphans typeId =
       left-kept-twice (λ (r : Request). (Orphan (seenAs st call) typeId r → ⊥) ⊎ StoredAs (seenAs st call) typeId (r .id))
       (isOrphan (call .peer) typeId) (λ (r : Request). not (isStored (pairsIn (call .stored)) typeId (r .id)))
-      (λ r p n. ⊎-elim
-        (λ k. k (record { peer = orphan-peer (call .peer) typeId r p; typed = orphan-type (call .peer) typeId r p; noTransaction = orphan-lasts (call .peer) typeId r p }))
-        (fails-stored (pairsIn (call .stored)) typeId (r .id) (not-true (isStored (pairsIn (call .stored)) typeId (r .id)) n)))
+      (λ r p n. ⊎-elim (λ k. k (orphan typeId r p))
+      (fails-stored (pairsIn (call .stored)) typeId (r .id) (not-true (isStored (pairsIn (call .stored)) typeId (r .id)) n)))
       (λ r p. inl (λ k. not-both (isOrphan (call .peer) typeId r) (is-orphan (call .peer) typeId r (k .peer) (k .typed) (k .noTransaction)) p))
       (λ r n. inr (passes-stored (pairsIn (call .stored)) typeId (r .id) (not-false (isStored (pairsIn (call .stored)) typeId (r .id)) n)))
       (st .pending)
 
 pub orphans-asked : (st : State) (call : Call) → Finished st call
     → (peer : ℕ) → call .gate ≡ 1 → Orphans (seenAs st call) → First peer (peersIn (call .peers)) → AsksOrphans (seenAs st call) peer
-unfolding isNew
 orphans-asked st call f peer g o first =
     let rising = f .well .rising in
     let pairs : List Pair = pairsIn (call .stored) in
@@ -236,7 +255,7 @@ orphans-asked st call f peer g o first =
           λ typeId. (
             kept (λ (r : Request). not (isStored pairs typeId (r .id))) (kept (isOrphan (call .peer) typeId) (st .pending)),
             left-orphans st call o typeId,
-            ap (under typeId) (sym e) ∙ under-orphans (call .peer) (call .clock) peer pairs (st .pending) rising typeId
+            ap (under typeId) (sym e) ∙ under-orphans (call .peer) (call .clock) peer pairs (st .pending) rising typeId,
           );
       typesRise = subst TypesRise e (b .typesRise);
       onePeer = subst (All (λ (q : Requested). q .peer ≡ peer)) e (b .onePeer);

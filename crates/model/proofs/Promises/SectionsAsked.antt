@@ -16,27 +16,31 @@ use Rattle.model.specs.Protocol.{Id, headerType, windowSize}
 use Rattle.model.specs.Settings.{throttled}
 use Rattle.model.specs.Delivery.{Request, purgeAll}
 use Rattle.model.specs.State.{Mode, syncing, isMode, State}
-use Rattle.model.specs.Peers.{firstOf}
 use Rattle.model.specs.Requests
 use Rattle.model.specs.Requests.{Act, send, syncInfoTo}
-use Rattle.model.specs.Sections.{Section, Header, absent, present, View, Item, Batch, batchesOf, Window, missing, widen, windowWithin, Sections, requestSectionsFrom, requestNextSections}
-use Rattle.model.specs.Events.{announce, notAbove, continuation, tipOutcome, raisedTip, Synced}
+use Rattle.model.specs.Sections.{Section, Header, absent, present, View, Item, batchesOf, Window, missing, widen, windowWithin}
+use Rattle.model.specs.Sections.{Sections, requestSectionsFrom, requestNextSections}
+use Rattle.model.specs.Events.{announce, notAbove, continuation, tipOutcome, raisedTip}
 use Rattle.model.specs.Lists.{idsIn, peersIn, viewOf}
 use Rattle.model.specs.Steps
-use Rattle.model.specs.Steps.{Step, Args, Plan, isCheck, planOf, plan, remaining, after, commands, unmarked, advanceFrom, sectionsFrom, sayTo, advancesAndRequests, progresses, isAtTip, answers, hearsSyncInfo, hearsAnnounced}
+use Rattle.model.specs.Steps.{Step, Args, Plan, isCheck, planOf, plan, remaining, after, commands, unmarked, advanceFrom}
+use Rattle.model.specs.Steps.{sectionsFrom, sayTo, advancesAndRequests, progresses, isAtTip, answers, hearsSyncInfo, hearsAnnounced}
 use Rattle.model.specs.Calls.{Call, stepOf, argsOf}
 use Rattle.model.specs.Book.{Requested, requestedIn}
 use Rattle.model.specs.Promises.Numbers as numbers
 use Rattle.model.specs.Promises.Words.{First, LeftOf}
 use Rattle.model.specs.Promises.Outcomes.{noHeaders, tipReached}
-use Rattle.model.specs.Promises.Asked.{NextSections, inReorg, onProgress, atSectionTick, onEntry, Present, notStored, offered, under, PendingId, PendingThen, TypesRise, AsksWindow}
+use Rattle.model.specs.Promises.Asked.{NextSections, inReorg, onProgress, atSectionTick, onEntry, Present, notStored, offered}
+use Rattle.model.specs.Promises.Asked.{under, PendingId, PendingThen, TypesRise, AsksWindow}
 use Rattle.model.proofs.Promises.SeenLaws.{seenAs, Finished}
 use Rattle.model.proofs.Promises.WordLaws.{first-listed, left-same}
-use Rattle.model.proofs.Promises.ByTypeLaws.{ofType, OfPeer, batches-stepwise, AskedLower, Known, ByType, asks, own-peers, asked-by-type, askedBy, Quiet, quiet-front, quiet-back, asked-by-acts}
+use Rattle.model.proofs.Promises.ByTypeLaws.{ofType, OfPeer, batches-stepwise, AskedLower, Known, ByType, asks, own-peers, asked-by-type}
+use Rattle.model.proofs.Promises.ByTypeLaws.{askedBy, Quiet, quiet-front, quiet-back, asked-by-acts}
 
 -- ---- the window's items
 
-missing-ids : (typeId peer : ℕ) (sections : List Section) (more : List Item) → ofType typeId (missing peer sections ++ more) ≡ notStored typeId sections ++ ofType typeId more
+missing-ids : (typeId peer : ℕ) (sections : List Section) (more : List Item)
+    → ofType typeId (missing peer sections ++ more) ≡ notStored typeId sections ++ ofType typeId more
 missing-ids typeId peer [] more = refl
 missing-ids typeId peer (s ∷ sections) more = go (eqb (s .typeId) typeId) (s .isStored) refl (missing-ids typeId peer sections more)
   where
@@ -52,14 +56,16 @@ missing-peer : (peer : ℕ) (sections : List Section) → OfPeer peer (missing p
 missing-peer peer [] = tt
 missing-peer peer (s ∷ sections) = go (not (s .isStored)) (missing-peer peer sections)
   where
-    go : (t : Bool) → OfPeer peer (missing peer sections) → OfPeer peer (consIf t (record { id = s .id; typeId = s .typeId; peer = peer }) (missing peer sections))
+    go : (t : Bool) → OfPeer peer (missing peer sections)
+        → OfPeer peer (consIf t (record { id = s .id; typeId = s .typeId; peer = peer }) (missing peer sections))
     go true h = (refl, h)
     go false h = h
 
 widen-peer : (header : Option Header) (peer : ℕ) (further : Window) → OfPeer peer (further .items) → OfPeer peer (widen header peer further .items)
 widen-peer none peer further h = tt
 widen-peer (some absent) peer further h = tt
-widen-peer (some (present sections)) peer further h = all-append (λ (i : Item). i .peer ≡ peer) (missing peer sections) (further .items) (missing-peer peer sections) h
+widen-peer (some (present sections)) peer further h =
+    all-append (λ (i : Item). i .peer ≡ peer) (missing peer sections) (further .items) (missing-peer peer sections) h
 
 window-peer : (n : ℕ) (view : View) (peer height : ℕ) → OfPeer peer (windowWithin n view peer height .items)
 window-peer zero view peer height = tt
@@ -87,13 +93,16 @@ reached (suc n) view peer height e = go (view (suc height)) refl e (reached n vi
     go (some (present sections)) h v rest =
         let r : Reached n view peer (suc height) = rest v in
         let next : (i : ℕ) → height + 1 + suc i ≡ suc height + 1 + i = λ i. omega arith in
-        let r-within = r .within in
+        let most = r .within in
         record {
           heights = suc (r .heights);
           within = omega arith;
           present = there r;
           stops = ⊎-elim (λ k. inl (ap suc k)) (λ k. inr (rw (next (r .heights)) k)) (r .stops);
-          offers = λ typeId. rw h (missing-ids typeId peer sections (windowWithin n view peer (suc height) .items) ∙ ap (λ (l : List Id). notStored typeId sections ++ l) (r .offers typeId));
+          offers =
+              λ typeId. rw h
+              (missing-ids typeId peer sections (windowWithin n view peer (suc height) .items)
+              ∙ ap (λ (l : List Id). notStored typeId sections ++ l) (r .offers typeId));
         }
       where
         there : (r : Reached n view peer (suc height)) → (i : ℕ) → i < suc (r .heights) → Present (view (height + 1 + i))
@@ -117,48 +126,30 @@ pub record AskedWindow (view : View) (chainHeight height peer : ℕ) (Then : Id 
   pub typesRise : TypesRise asked
   pub onePeer : All (λ (q : Requested). q .peer ≡ peer) asked
 
-module _ (view : View) (chainHeight height peer : ℕ) where
-  -- what was pending, said in other words
-  then-as : (Then Then′ : Id → Type 0) → ((id : Id) → Then id → Then′ id) → ((id : Id) → Then′ id → Then id) → {asked : List Requested}
-      → AskedWindow view chainHeight height peer Then asked → AskedWindow view chainHeight height peer Then′ asked
-  then-as Then Then′ to from {asked} w =
-      record {
-        heights = w .heights;
-        few = w .few;
-        ours = w .ours;
-        present = w .present;
-        reaches = w .reaches;
-        requested =
-            λ typeId. left-same (λ (id : Id). Then id ⊎ AskedLower asked typeId id) (λ (id : Id). Then′ id ⊎ AskedLower asked typeId id)
-            (λ id. ⊎-elim (λ k. inl (to id k)) inr) (λ id. ⊎-elim (λ k. inl (from id k)) inr)
-            (offered typeId view height (w .heights)) (under typeId asked) (w .requested typeId);
-        typesRise = w .typesRise;
-        onePeer = w .onePeer;
-      }
-
 module _ (view : View) (chainHeight height peer clock : ℕ) (pending : List Request) where
-  window-asked : requestSectionsFrom view chainHeight height (some peer) .inView ≡ true
-      → AskedWindow view chainHeight height peer (PendingId pending) (askedBy true clock (requestSectionsFrom view chainHeight height (some peer) .acts) pending)
+  window-asked : (Then : Id → Type 0) → ((id : Id) → PendingId pending id → Then id) → ((id : Id) → Then id → PendingId pending id)
+      → requestSectionsFrom view chainHeight height (some peer) .inView ≡ true
+      → AskedWindow view chainHeight height peer Then (askedBy true clock (requestSectionsFrom view chainHeight height (some peer) .acts) pending)
   unfolding requestSectionsFrom
-  window-asked e =
+  window-asked Then to from e =
       let n : ℕ = min (height + windowSize) chainHeight - height in
       let items : List Item = windowWithin n view peer height .items in
+      let asked : List Requested = askedBy true clock (asks peer [] (batchesOf items)) pending in
       let r : Reached n view peer height = reached n view peer height e in
-      let within = r .within in
-      let b : ByType peer [] items pending (askedBy true clock (asks peer [] (batchesOf items)) pending) = asked-by-type clock peer [] items pending (window-peer n view peer height) in
+      let most = r .within in
+      let b : ByType peer [] items pending asked = asked-by-type clock peer [] items pending (window-peer n view peer height) in
       rw (own-peers peer [] (batchesOf items) (batches-stepwise peer items (window-peer n view peer height)))
       (record {
         heights = r .heights;
         few = omega arith;
-        ours = ours (r .heights) within;
+        ours = ours (r .heights) most;
         present = r .present;
         reaches = ⊎-elim (λ k. reaches (r .heights) k) (λ k. inr (inr k)) (r .stops);
         requested =
             λ typeId. rw (← r .offers typeId)
-            (left-same (Known [] pending (askedBy true clock (asks peer [] (batchesOf items)) pending) typeId)
-            (λ (id : Id). PendingId pending id ⊎ AskedLower (askedBy true clock (asks peer [] (batchesOf items)) pending) typeId id)
-            (λ id. ⊎-elim (⊎-elim inl (λ k. absurd k)) inr) (λ id. ⊎-elim (λ k. inl (inl k)) inr)
-            (ofType typeId items) (under typeId (askedBy true clock (asks peer [] (batchesOf items)) pending)) (b .requested typeId));
+            (left-same (Known [] pending asked typeId) (λ (id : Id). Then id ⊎ AskedLower asked typeId id)
+            (λ id. ⊎-elim (⊎-elim (λ k. inl (to id k)) (λ k. absurd k)) inr) (λ id. ⊎-elim (λ k. inl (inl (from id k))) inr)
+            (ofType typeId items) (under typeId asked) (b .requested typeId));
         typesRise = b .typesRise;
         onePeer = b .onePeer;
       })
@@ -390,8 +381,8 @@ module _ (st : State) (call : Call) where
     unfolding sections start
     next-window g e =
         subst (AskedWindow (viewOf (call .view)) (call .height) from peer (PendingThen (seenAs st call))) (sym (next-asked g))
-        (then-as (viewOf (call .view)) (call .height) from peer (PendingId start) (PendingThen (seenAs st call)) (n .pendingThen) (n .thenPending)
-        (window-asked (viewOf (call .view)) (call .height) from peer (call .clock) start (next-in-view e)))
+        (window-asked (viewOf (call .view)) (call .height) from peer (call .clock) start (PendingThen (seenAs st call)) (n .pendingThen) (n .thenPending)
+        (next-in-view e))
 
 pub sections-asked : (st : State) (call : Call) → Finished st call
     → (peer : ℕ) → call .gate ≡ 1 → NextSections (seenAs st call) → First peer (peersIn (call .peers)) → AsksWindow (seenAs st call) peer
