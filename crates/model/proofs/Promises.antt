@@ -1,4 +1,7 @@
 -- The promises, proved: what specs/Promises says of any finished call.
+pub mod ByTypeLaws
+pub mod OrphansAsked
+pub mod SectionsAsked
 pub mod SeenLaws
 pub mod OutcomesKept
 pub mod SaidLaws
