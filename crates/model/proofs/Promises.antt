@@ -4,3 +4,4 @@ pub mod WordLaws
 pub mod PartLaws
 pub mod CourseLaws
 pub mod SyncInfosKept
+pub mod MarksKept

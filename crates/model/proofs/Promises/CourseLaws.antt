@@ -47,7 +47,7 @@ is-syncing ended e = absurd (false≢true e)
 pub not-syncing : (m : Mode) → isMode m syncing ≡ false → m ≡ syncing → ⊥
 not-syncing m e s = false≢true (sym e ∙ ap (λ (m : Mode). isMode m syncing) s)
 
-no-peer : (m : Mode) → hasSyncPeer m ≡ false → (m ≡ syncing) ⊎ (m ≡ synced) → ⊥
+pub no-peer : (m : Mode) → hasSyncPeer m ≡ false → (m ≡ syncing) ⊎ (m ≡ synced) → ⊥
 no-peer m e h =
     let with : (m ≡ syncing) ⊎ (m ≡ synced) → hasSyncPeer m ≡ true = ⊎-elim (ap hasSyncPeer) (ap hasSyncPeer) in
     false≢true (sym e ∙ with h)

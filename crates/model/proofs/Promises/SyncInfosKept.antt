@@ -173,11 +173,11 @@ module _ (s : Seen) where
 -- ---- what the interval holds back
 
 module _ (settings : Settings) (clock lastSend : ℕ) (past : lastSend ≤ clock) where
-  due : throttled settings clock lastSend ≡ false → lastSend + settings .minSendInterval ≤ clock
+  pub due : throttled settings clock lastSend ≡ false → lastSend + settings .minSendInterval ≤ clock
   unfolding throttled
   due e = let l = ltb-false (clock - lastSend) (settings .minSendInterval) e in omega arith
 
-  not-due : throttled settings clock lastSend ≡ true → lastSend + settings .minSendInterval ≤ clock → ⊥
+  pub not-due : throttled settings clock lastSend ≡ true → lastSend + settings .minSendInterval ≤ clock → ⊥
   unfolding throttled
   not-due e h = let l = ltb-true (clock - lastSend) (settings .minSendInterval) e in lt-irrefl 0 (omega arith)
 
