@@ -30,3 +30,7 @@ pub mod DecidedLaws
 pub mod LeftLaws
 pub mod PendingKept
 pub mod ToldKept
+pub mod PartLaws
+pub mod CourseLaws
+pub mod SyncInfosKept
+pub mod MarksKept
