@@ -3,19 +3,20 @@ use Prim.Native.Nat.{ℕ}
 use mathlib.Core.Path.{_≡_, refl, sym, ap, _∙_, subst}
 use mathlib.Core.Bool.{Bool, true, false, cond}
 use mathlib.Core.Logic.{_⊎_, inl, inr, ⊎-elim}
-use mathlib.Core.List.{List, [], _∷_, _++_, map, append-nil}
+use mathlib.Core.List.{List, [], _∷_, _++_, map}
 use Rattle.fields.specs.Facts.{All}
 use Rattle.fields.specs.Filter.{consIf, kept}
 use Rattle.fields.specs.Sort.{inserted, sorted}
 use Rattle.model.specs.Protocol.{Id}
 use Rattle.model.specs.Delivery.{Request, idsOf, isPending, idBefore, markRequested}
-use Rattle.model.specs.Requests.{Act, ask, send, wanted, requestOf, Done, perform, performAll}
+use Rattle.model.specs.Requests.{Act, ask, send, wanted, Done, perform, performAll}
 use Rattle.model.specs.Requests
 use Rattle.model.specs.Book.{Requested}
 use Rattle.model.specs.Promises.Words.{Among}
 use Rattle.model.specs.Promises.Pending.{asRequested}
 use Rattle.model.proofs.Widths.{WellAct}
 use Rattle.model.proofs.RequestedLaws.{requested, requestedBySendings, requested-append}
+use Rattle.model.proofs.EnteringLaws.{requested-list}
 use Rattle.model.proofs.Promises.WordLaws.{passes-pending, fails-pending}
 
 -- ---- lists
@@ -161,10 +162,6 @@ module _ (clock : ℕ) where
     marks-grow (id ∷ ids) rs =
         let one : List Request = cond (isPending id rs) rs (inserted idBefore (entering id) rs) in
         grows-then (one-grows id rs) (marks-grow ids one)
-
-    requested-list : (ids : List Id) → requestedBySendings (requestOf typeId peer ids) ≡ map (requested typeId peer) ids
-    requested-list [] = refl
-    requested-list (id ∷ ids) = append-nil (map (requested typeId peer) (id ∷ ids))
 
   act-grows : (gate : Bool) (act : Act) (rs : List Request) → WellAct act
       → Grows clock rs (requestedBySendings (perform gate clock act rs .sendings)) (perform gate clock act rs .pending)
