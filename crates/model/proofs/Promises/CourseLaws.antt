@@ -1,5 +1,5 @@
 -- What a step comes to as far as rules 1 and 2 go: it is one of a few courses, and its commands stand in three parts.
-use Prim.Native.Nat.{ℕ, suc, _+_, _-_, _≤_, _<_, min}
+use Prim.Native.Nat.{ℕ, _+_, _-_, _≤_, min}
 use mathlib.Core.Path.{_≡_, refl, sym, ap, _∙_, subst}
 use mathlib.Core.Bool.{Bool, true, false, not, cond, _&&_, _||_, false≢true}
 use mathlib.Core.Logic.{_⊎_, inl, inr, ⊎-elim}
@@ -9,31 +9,38 @@ use native.Mathlib.Omega.{arith}
 use lib.Dec.{eqb, leb, ltb}
 use borrow.Author.Tests.{eqb-true, eqb-false, eq-eqb, ltb-true, lt-ltb, leb-true, le-leb}
 use Rattle.fields.specs.Facts.{All}
-use Rattle.fields.proofs.AllLaws.{all-map, either}
+use Rattle.fields.proofs.AllLaws.{either}
 use Rattle.fields.proofs.OrderLaws.{and-left, and-right}
 use Rattle.model.specs.Protocol.{Id, headerType, isAnnounceable, windowSize}
 use Rattle.model.specs.Settings as settings
-use Rattle.model.specs.Settings.{Settings, throttled}
+use Rattle.model.specs.Settings.{throttled}
 use Rattle.model.specs.Delivery.{Request, orphansOf}
-use Rattle.model.specs.State.{Mode, new, seeking, syncing, synced, ended, isMode, hasSyncPeer, SendClock, Sync, State, withDownloaded, withKnownTip, withEvicted}
+use Rattle.model.specs.State.{Mode, new, seeking, syncing, synced, ended, isMode, hasSyncPeer, SendClock, Sync, State}
+use Rattle.model.specs.State.{withDownloaded, withKnownTip, withEvicted}
 use Rattle.model.specs.Peers.{firstOf, orElse, firstUnstalled, selectPeer, resetSends, isSome}
-use Rattle.model.specs.Requests.{Sending, announcement, Command, Act, ask, send, performAll, syncInfoTo, commandsFrom}
+use Rattle.model.specs.Requests.{Sending, announcement, Command, Act, ask, send, syncInfoTo}
 use Rattle.model.specs.Requests as requests
-use Rattle.model.specs.Sections.{Item, Batch, batchesOf, requestSectionsFrom, requestNextSections, Window, windowWithin}
+use Rattle.model.specs.Sections.{Item, Batch, batchesOf, requestSectionsFrom, requestNextSections, windowWithin}
 use Rattle.model.specs.Check.{retries, markAllRetried, retrySendings, askFresh}
-use Rattle.model.specs.Events.{Outcome, Continue, Synced, BehindPeer, SyncPeerGone, Stalled, EndOfStream, outcomeNumber, tipOutcome, raisedTip, notAbove, announce, continuation}
+use Rattle.model.specs.Events.{Outcome, Continue, Synced, BehindPeer, SyncPeerGone, Stalled, EndOfStream, outcomeNumber}
+use Rattle.model.specs.Events.{tipOutcome, raisedTip, notAbove, announce, continuation}
 use Rattle.model.specs.Steps
-use Rattle.model.specs.Steps.{Step, Args, Plan, ofMode, isCheck, unmarked, withoutPeer, sayTo, advanceFrom, sectionsFrom, continues, leaves, advances, advancesAndRequests, entersSyncing, picks, isAtTip, answers, hearsSyncInfo, hearsAnnounced, askOrphans, loses, ticksSyncing, ticksSynced, progresses, checks, evicts, planOf, plan, remaining, retried, performed, after, commands}
+use Rattle.model.specs.Steps.{Step, Args, Plan, ofMode, isCheck, unmarked, withoutPeer, sayTo, advanceFrom, sectionsFrom, continues, leaves, advances}
+use Rattle.model.specs.Steps.{advancesAndRequests, entersSyncing, picks, isAtTip, answers, hearsSyncInfo, hearsAnnounced, askOrphans, loses}
+use Rattle.model.specs.Steps.{ticksSyncing, ticksSynced, progresses, checks, evicts, planOf, plan, remaining, retried, performed, after, commands}
 use Rattle.model.specs.Lists.{idsIn, peersIn}
 use Rattle.model.specs.Calls.{Call, Answer, argsOf, stepOf, stepAnswer}
 use Rattle.model.specs.Promises.Numbers as numbers
 use Rattle.model.specs.Promises.Words.{Seen, First}
-use Rattle.model.specs.Promises.Outcomes.{Heard}
 use Rattle.model.specs.Promises.SyncInfos.{Announces, continuationIds}
 use Rattle.model.proofs.Promises.SeenLaws.{Finished, seenAs, Kind, kind-of, mode-of}
 use Rattle.model.proofs.Promises.SeenLaws as kinds
 use Rattle.model.proofs.Promises.WordLaws.{listed-first, first-listed}
 use Rattle.model.proofs.Promises.PartLaws.{IsAsk, all-mapped, ActParts, Parts, only-asks, commands-parts}
+
+-- A number is one only.
+pub apart : {n a b : ℕ} → n ≡ a → n ≡ b → eqb a b ≡ false → ⊥
+apart {n} {a} {b} e f d = eqb-false a b d (sym e ∙ f)
 
 -- ---- modes
 
@@ -92,7 +99,18 @@ seenBy st call p sent =
     record {
       before = st;
       call = call;
-      answer = record { number = 0; outcome = outcomeNumber (p .outcome); retried = s .retried; fresh = s .fresh; abandoned = s .abandoned; forgotten = s .forgotten; pending = s .pending; evicted = s .evicted; length = s .length };
+      answer =
+          record {
+            number = 0;
+            outcome = outcomeNumber (p .outcome);
+            retried = s .retried;
+            fresh = s .fresh;
+            abandoned = s .abandoned;
+            forgotten = s .forgotten;
+            pending = s .pending;
+            evicted = s .evicted;
+            length = s .length;
+          };
       sent = sent;
       after = record { settings = st .settings; mode = p .mode; lastClock = call .clock; pending = performed st a .pending; sync = p .sync };
     }
@@ -108,9 +126,6 @@ isPlain kind = not (eqb kind numbers.pick || (eqb kind numbers.syncInfo || (eqb 
 
 plain-not : (kind other : ℕ) → isPlain kind ≡ true → isPlain other ≡ false → kind ≡ other → ⊥
 plain-not kind other p q e = false≢true (sym q ∙ (sym (ap isPlain e) ∙ p))
-
-plain-kind : (kind one : ℕ) → kind ≡ one → isPlain one ≡ true → isPlain kind ≡ true
-plain-kind kind one e p = ap isPlain e ∙ p
 
 -- ---- the courses
 
@@ -174,7 +189,8 @@ module _ (st : State) (call : Call) where
 
   -- ---- what each course sends
 
-  say-sends : (clock : ℕ) (c : SendClock) (peer : ℕ) → syncInfoTo (st .settings) clock c peer ≡ map send (saidTo (throttled (st .settings) clock (c .lastSend)) peer)
+  say-sends : (clock : ℕ) (c : SendClock) (peer : ℕ)
+      → syncInfoTo (st .settings) clock c peer ≡ map send (saidTo (throttled (st .settings) clock (c .lastSend)) peer)
   unfolding syncInfoTo
   say-sends clock c peer = go (throttled (st .settings) clock (c .lastSend))
     where
@@ -279,7 +295,8 @@ module _ (st : State) (call : Call) where
       })
     where
       go : (t : Bool)
-          → ActParts announced [] (map send announced ++ (cond t (sectionsFrom st (argsOf call) (st .sync .downloaded)) (record { acts = []; inView = true })) .acts)
+          → ActParts announced [] (map send announced
+          ++ (cond t (sectionsFrom st (argsOf call) (st .sync .downloaded)) (record { acts = []; inView = true })) .acts)
       go true =
           let asks : List Act = sectionsFrom st (argsOf call) (st .sync .downloaded) .acts in
           record { asks = asks; parts = rw (append-nil asks); areAsks = sections-ask st (argsOf call) (st .sync .downloaded) }
@@ -322,7 +339,9 @@ none-above ours tip false named h = refl
 
 module _ (s : Seen) where
   abbrev isOpen : Bool
-  isOpen = eqb (s .call .parsed) 1 && (ltb 0 (s .call .height) && notAbove (s .call .height) (knownOf (eqb (s .call .parsed) 1) (eqb (s .call .hastip) 1) (s .call .tip)))
+  isOpen =
+      eqb (s .call .parsed) 1
+      && (ltb 0 (s .call .height) && notAbove (s .call .height) (knownOf (eqb (s .call .parsed) 1) (eqb (s .call .hastip) 1) (s .call .tip)))
 
   open-announces : isOpen ≡ true → s .call .kind ≡ numbers.syncInfo → (continuationIds s ≡ [] → ⊥) → Announces s
   open-announces e k listed =
@@ -337,8 +356,8 @@ module _ (s : Seen) where
         noneAbove =
             λ tip h.
             let l : s .call .tip ≤ s .call .height =
-                above-none (s .call .height) (s .call .tip) parsed named (and-right low none (and-right parsed (low && none) e))
-                (eq-eqb (s .call .parsed) 1 (h .parsed)) (eq-eqb (s .call .hastip) 1 (h .named)) in
+            above-none (s .call .height) (s .call .tip) parsed named (and-right low none (and-right parsed (low && none) e))
+            (eq-eqb (s .call .parsed) 1 (h .parsed)) (eq-eqb (s .call .hastip) 1 (h .named)) in
             let n = h .names in
             omega (arith, l, n);
         any = listed;
@@ -351,8 +370,8 @@ module _ (s : Seen) where
       let p : eqb (s .call .parsed) 1 ≡ true = eq-eqb (s .call .parsed) 1 (n .parsed) in
       let l : ltb 0 (s .call .height) ≡ true = lt-ltb 0 (s .call .height) (n .ours) in
       let t : notAbove (s .call .height) (knownOf parsed named (s .call .tip)) ≡ true =
-          none-above (s .call .height) (s .call .tip) parsed named
-          (λ e f. n .noneAbove (s .call .tip) (record { kind = n .kind; parsed = n .parsed; named = eqb-true (s .call .hastip) 1 f; names = refl })) in
+      none-above (s .call .height) (s .call .tip) parsed named
+      (λ e f. n .noneAbove (s .call .tip) (record { kind = n .kind; parsed = n .parsed; named = eqb-true (s .call .hastip) 1 f; names = refl })) in
       both p (both l t)
     where
       both : {a b : Bool} → a ≡ true → b ≡ true → a && b ≡ true
@@ -404,9 +423,6 @@ module _ (st : State) (call : Call) where
     pub course : Course st call announced said (planOf st (argsOf call) step)
     pub retriesAlone : (isCheck step ≡ false) ⊎ (announced ≡ [])
 
-  apart : (a b : ℕ) → eqb a b ≡ false → call .kind ≡ a → call .kind ≡ b → ⊥
-  apart a b d e k = eqb-false a b d (sym e ∙ k)
-
   -- a course, whatever is said
   abbrev Says : Plan → Type 0
   Says p = (said : List Sending) × Course st call [] said p
@@ -439,14 +455,14 @@ module _ (st : State) (call : Call) where
       go true m false u = (saidTo (isQuiet st call) (st .sync .syncPeer), worksFirst k (is-syncing (st .mode) m) u)
       go false m used u =
           let silent : Silent st call (progresses st (argsOf call) false) =
-              record {
-                notPick = apart 11 2 refl k;
-                notReply = λ e o. apart 11 6 refl k e;
-                notProgress = λ e s. not-syncing (st .mode) m s;
-                notTick = λ e s. apart 11 13 refl k e;
-                nobody = λ peer e l. apart 11 13 refl k e;
-                usedTick = λ e. absurd (apart 11 13 refl k e);
-              } in
+          record {
+            notPick = λ e. apart k e refl;
+            notReply = λ e o. apart k e refl;
+            notProgress = λ e s. not-syncing (st .mode) m s;
+            notTick = λ e s. apart k e refl;
+            nobody = λ peer e l. apart k e refl;
+            usedTick = λ e. absurd (apart k e refl);
+          } in
           ([], goes-on st call (progresses st (argsOf call) false) silent (sections-ask st (argsOf call) (st .sync .downloaded)) refl refl)
 
   ticks-says : call .kind ≡ numbers.scheduledTick → hasSyncPeer (st .mode) ≡ true → (late : Bool)
@@ -460,14 +476,14 @@ module _ (st : State) (call : Call) where
       go true m false first l = (saidTo (isQuiet st call) (st .sync .syncPeer), ticks k (is-syncing (st .mode) m))
       go false m late none l =
           let silent : Silent st call (ticksSynced st (argsOf call) none) =
-              record {
-                notPick = apart 13 2 refl k;
-                notReply = λ e o. apart 13 6 refl k e;
-                notProgress = λ e s. apart 13 11 refl k e;
-                notTick = λ e s. not-syncing (st .mode) m s;
-                nobody = λ peer e f. false≢true (ap isSome (sym l ∙ first-listed peer (peersIn (call .peers)) f));
-                usedTick = λ e. refl;
-              } in
+          record {
+            notPick = λ e. apart k e refl;
+            notReply = λ e o. apart k e refl;
+            notProgress = λ e s. apart k e refl;
+            notTick = λ e s. not-syncing (st .mode) m s;
+            nobody = λ peer e f. false≢true (ap isSome (sym l ∙ first-listed peer (peersIn (call .peers)) f));
+            usedTick = λ e. refl;
+          } in
           ([], is-left st call SyncPeerGone seeking [] silent tt refl refl refl)
       go false m late (some peer) l =
           (saidTo (isQuiet st call) peer, visits peer k (is-synced (st .mode) h m) (listed-first peer (peersIn (call .peers)) l))
@@ -478,14 +494,14 @@ module _ (st : State) (call : Call) where
   answers-says announced tip Continue t k = (saidTo (isQuiet st call) (call .peer), replies announced tip k)
   answers-says announced tip Synced t k =
       let silent : Silent st call (isAtTip st (argsOf call) (map send announced) tip) =
-          record {
-            notPick = apart 6 2 refl k;
-            notReply = λ e o. eqb-false 1 0 refl o;
-            notProgress = λ e s. apart 6 11 refl k e;
-            notTick = λ e s. apart 6 13 refl k e;
-            nobody = λ peer e l. apart 6 13 refl k e;
-            usedTick = λ e. refl;
-          } in
+      record {
+        notPick = λ e. apart k e refl;
+        notReply = λ e o. eqb-false 1 0 refl o;
+        notProgress = λ e s. apart k e refl;
+        notTick = λ e s. apart k e refl;
+        nobody = λ peer e l. apart k e refl;
+        usedTick = λ e. refl;
+      } in
       ([], is-at-tip st call announced tip silent)
   answers-says announced tip BehindPeer t k = (saidTo (isQuiet st call) (call .peer), ahead announced tip k)
   answers-says announced tip SyncPeerGone t k = absurd t
@@ -535,7 +551,8 @@ module _ (st : State) (call : Call) where
       (either (All IsAsk) (isMode (st .mode) syncing) orphans [] (orphans-ask st (argsOf call) peer (firstOf (argsOf call .peers))) tt) refl refl refl)
       (goes-on st call (continues st (argsOf call) []) (plain-silent st call (continues st (argsOf call) []) k) tt refl refl)
 
-  requests-next : (height : ℕ) → Silent st call (advancesAndRequests st (argsOf call) height) → Course st call [] [] (advancesAndRequests st (argsOf call) height)
+  requests-next : (height : ℕ) → Silent st call (advancesAndRequests st (argsOf call) height)
+      → Course st call [] [] (advancesAndRequests st (argsOf call) height)
   unfolding advancesAndRequests
   requests-next height s =
       goes-on st call (advancesAndRequests st (argsOf call) height) s (sections-ask st (argsOf call) (advanceFrom st (argsOf call) height .height)) refl refl
@@ -543,13 +560,13 @@ module _ (st : State) (call : Call) where
   told-of : (step : Step) → Kind call step → ofMode (st .mode) (st .sync .entrySent) step ≡ true → Told step
   unfolding planOf ofMode argsOf continues advances checks evicts unmarked
   told-of Steps.start (kinds.start k) m = plain Steps.start 1 refl k (λ s. goes-on st call (advances st (argsOf call) seeking) s tt refl refl)
-  told-of Steps.pick (kinds.pick k) m = untold Steps.pick (apart 2 6 refl k) (picks-says k)
-  told-of Steps.progress (kinds.progress k) m = untold Steps.progress (apart 11 6 refl k) (progress-says k)
+  told-of Steps.pick (kinds.pick k) m = untold Steps.pick (λ e. apart k e refl) (picks-says k)
+  told-of Steps.progress (kinds.progress k) m = untold Steps.progress (λ e. apart k e refl) (progress-says k)
   told-of Steps.check (kinds.check k) m =
       plain Steps.check 12 refl k
       (λ s. goes-on st call (checks st (argsOf call) (isMode (st .mode) syncing)) s (fresh-ask st (argsOf call) (firstOf (argsOf call .peers))) refl refl)
   told-of Steps.scheduledTick (kinds.scheduledTick k) m =
-      untold Steps.scheduledTick (apart 13 6 refl k) (ticks-says k m (settings.stalled (st .settings) (call .clock) (st .sync .lastProgress)))
+      untold Steps.scheduledTick (λ e. apart k e refl) (ticks-says k m (settings.stalled (st .settings) (call .clock) (st .sync .lastProgress)))
   told-of Steps.sectionTick (kinds.sectionTick k) m =
       plain Steps.sectionTick 14 refl k (requests-next (st .sync .downloaded))
   told-of Steps.sendFailure (kinds.sendFailure k) m = plain Steps.sendFailure 15 refl k (λ s. is-left st call SyncPeerGone seeking [] s tt refl refl refl)
@@ -563,13 +580,16 @@ module _ (st : State) (call : Call) where
       (λ s. goes-on st call (continues st (argsOf call) (ask typeId (st .sync .syncPeer) (argsOf call .stored) ids ∷ [])) s (tt, tt) refl refl)
   told-of (Steps.reorg fork) (kinds.reorg k) m =
       plain (Steps.reorg fork) 4 refl k (requests-next (min (st .sync .downloaded) fork))
-  told-of (Steps.announced peer typeId ids) (kinds.announcedIds k) m = plain (Steps.announced peer typeId ids) 5 refl k (λ s. hears-announced peer typeId ids (ap isPlain k))
+  told-of (Steps.announced peer typeId ids) (kinds.announcedIds k) m =
+      plain (Steps.announced peer typeId ids) 5 refl k (λ s. hears-announced peer typeId ids (ap isPlain k))
   told-of (Steps.syncInfo peer parsed tip ids) (kinds.syncInfo k) m = hears k
   told-of (Steps.lostPeer peer) (kinds.lostPeer k) m = plain (Steps.lostPeer peer) 8 refl k (λ s. loses-peer peer (ap isPlain k))
-  told-of (Steps.received ids) (kinds.receivedIds k) m = plain (Steps.received ids) 9 refl k (λ s. goes-on st call (advances st (argsOf call) (st .mode)) s tt refl refl)
+  told-of (Steps.received ids) (kinds.receivedIds k) m =
+      plain (Steps.received ids) 9 refl k (λ s. goes-on st call (advances st (argsOf call) (st .mode)) s tt refl refl)
   told-of (Steps.evicted ids) (kinds.evictedIds k) m = plain (Steps.evicted ids) 10 refl k (λ s. goes-on st call (evicts st (argsOf call) ids) s tt refl refl)
 
-  retries-none : (announced : List Sending) (t : Bool) (items : List Item) → (t ≡ false) ⊎ (announced ≡ []) → (retrySendings (cond t items []) ≡ []) ⊎ (announced ≡ [])
+  retries-none : (announced : List Sending) (t : Bool) (items : List Item) → (t ≡ false) ⊎ (announced ≡ [])
+      → (retrySendings (cond t items []) ≡ []) ⊎ (announced ≡ [])
   unfolding retrySendings batchesOf
   retries-none announced t items (inl e) = inl (rw e)
   retries-none announced t items (inr e) = inr e

@@ -3,10 +3,9 @@ use Prim.Native.Nat.{ℕ, _≤_}
 use mathlib.Core.Path.{_≡_, refl, sym, ap, _∙_, subst}
 use mathlib.Core.Bool.{Bool, true, false, not, cond, false≢true}
 use mathlib.Core.Logic.{_⊎_, _↔_, inl, inr, ⊎-elim}
-use mathlib.Core.List.{List, [], _∷_, _++_}
+use mathlib.Core.List.{List, [], _∷_, _++_, append-nil}
 use mathlib.Core.Option.{Option, none, some, Option·some-injective}
 use native.Mathlib.Nat.{le-trans}
-use lib.Dec.{eqb}
 use borrow.Author.Tests.{eqb-false}
 use Rattle.fields.specs.Facts.{All}
 use Rattle.fields.specs.Filter.{consIf, kept}
@@ -16,16 +15,16 @@ use Rattle.model.specs.State.{Mode, seeking, syncing, synced, isMode, St
 use Rattle.model.specs.Peers.{isListed, firstOf, orElse, isSome, firstUnstalled, selectPeer, stalledAfterSelect, joinStalled, resetSends}
 use Rattle.model.specs.Requests.{Sending, Command}
 use Rattle.model.specs.Steps
-use Rattle.model.specs.Steps.{Step, Plan, ofMode, planOf, after, commands}
+use Rattle.model.specs.Steps.{entersSyncing, picks, answers, ticksSyncing, ticksSynced, progresses, withoutPeer, Step, Plan, ofMode, plan, after, commands}
 use Rattle.model.specs.Calls.{Call, argsOf, stepOf}
 use Rattle.model.specs.Promises.Numbers
-use Rattle.model.specs.Promises.Words.{Seen, peers, Among, First}
+use Rattle.model.specs.Promises.Words.{Seen, peers, Among}
 use Rattle.model.specs.Promises.Marks as promised
-use Rattle.model.specs.Promises.Marks.{IsStalled, Chosen, Picked, Enters, Progresses, SaysSyncInfo, SyncPeer, Emptied, allStalled, byProgress, StalledSet, Marks}
+use Rattle.model.specs.Promises.Marks.{Chosen, Picked, Enters, Progresses, SaysSyncInfo, SyncPeer, Emptied, allStalled, byProgress, StalledSet, Marks}
 use Rattle.model.specs.Promises.SyncInfos.{SpeaksTo, onPick, whenBehind, Due, SyncInfos}
 use Rattle.model.proofs.Promises.SeenLaws.{Finished, seenAs, mode-of}
 use Rattle.model.proofs.Promises.WordLaws.{listed-passes, passes-listed, fails-listed, listed-first}
-use Rattle.model.proofs.Promises.CourseLaws.{is-syncing, not-syncing, no-peer, seenBy, seen-by, isQuiet, Passes, Course, told}
+use Rattle.model.proofs.Promises.CourseLaws.{apart, is-syncing, not-syncing, no-peer, seenBy, seen-by, isQuiet, Course, told}
 use Rattle.model.proofs.Promises.CourseLaws as courses
 use Rattle.model.proofs.Promises.SyncInfosKept.{due, not-due, sync-infos-kept}
 
@@ -95,12 +94,9 @@ module _ (peer : ℕ) (stalledPeers : List ℕ) where
   unfolding joinStalled
   joined-there h = rw (listed-passes peer stalledPeers h)
 
--- ---- a call is of one kind
+-- ---- what a step is not
 
 module _ (s : Seen) where
-  apart : (a b : ℕ) → eqb a b ≡ false → s .call .kind ≡ a → s .call .kind ≡ b → ⊥
-  apart a b d e k = eqb-false a b d (sym e ∙ k)
-
   abbrev NotPicked : Type 0
   NotPicked = Picked s → ⊥
 
@@ -110,14 +106,14 @@ module _ (s : Seen) where
   abbrev NotProgress : Type 0
   NotProgress = Progresses s → ⊥
 
-  -- ---- the sync peer
+-- ---- the sync peer and the stalled set
 
-  peer-stays : NotPicked → NotBehind → ((s .after .mode ≡ syncing) ⊎ (s .after .mode ≡ synced) → s .after .sync .syncPeer ≡ s .before .sync .syncPeer) → SyncPeer s
+module _ {s : Seen} where
+  peer-stays : NotPicked s → NotBehind s
+      → ((s .after .mode ≡ syncing) ⊎ (s .after .mode ≡ synced) → s .after .sync .syncPeer ≡ s .before .sync .syncPeer) → SyncPeer s
   peer-stays p b e = record { picked = λ q. absurd (p q); behind = λ o. absurd (b o); kept = λ n m. e m }
 
-  -- ---- the stalled set
-
-  set-stays : (s .call .kind ≡ Numbers.pick → ⊥) → NotProgress → NotBehind → (s .answer .outcome ≡ Numbers.saysStalled → ⊥)
+  set-stays : (s .call .kind ≡ Numbers.pick → ⊥) → NotProgress s → NotBehind s → (s .answer .outcome ≡ Numbers.saysStalled → ⊥)
       → s .after .sync .stalledPeers ≡ s .before .sync .stalledPeers → StalledSet s
   set-stays k p b o e =
       record { emptied = λ q. absurd (not-emptied q); joins = λ q n. absurd (o q); isThere = λ q n. absurd (o q); kept = λ n q. e }
@@ -141,8 +137,8 @@ module _ (s : Seen) where
       }
     where
       not-emptied : Emptied s → ⊥
-      not-emptied (allStalled q w) = apart 13 2 refl k q
-      not-emptied (byProgress q) = apart 13 11 refl k (q .kind)
+      not-emptied (allStalled q w) = apart k q refl
+      not-emptied (byProgress q) = apart k (q .kind) refl
       not-emptied (promised.behind q) = eqb-false 4 2 refl (sym o ∙ q)
 
   pick-set : s .call .kind ≡ Numbers.pick → s .answer .outcome ≡ Numbers.saysContinue
@@ -157,34 +153,31 @@ module _ (s : Seen) where
     where
       empties : Emptied s → s .after .sync .stalledPeers ≡ []
       empties (allStalled q w) = e ∙ select-empties (s .before .sync .stalledPeers) (peers s) w
-      empties (byProgress q) = absurd (apart 2 11 refl k (q .kind))
+      empties (byProgress q) = absurd (apart k (q .kind) refl)
       empties (promised.behind q) = absurd (eqb-false 0 2 refl (sym o ∙ q))
 
 module _ (st : State) (call : Call) where
   course-set : {announced said : List Sending} {p : Plan} → Course st call announced said p → (sent : List Command) → StalledSet (seenBy st call p sent)
-  unfolding argsOf Steps.picks Steps.entersSyncing Steps.answers Steps.ticksSyncing Steps.ticksSynced Steps.progresses Steps.unmarked Steps.withoutPeer
+  unfolding argsOf picks entersSyncing answers ticksSyncing ticksSynced progresses Steps.unmarked withoutPeer
   course-set {p = p} (courses.passes q) sent =
-      set-stays (seenBy st call p sent) (q .silent .notPick) (λ e. q .silent .notProgress (e .kind) (e .mode)) (q .notBehind) (q .notStalled) (q .stalledPeers)
-  course-set {p = p} (courses.nobody k e) sent = pick-set (seenBy st call p sent) k refl refl
-  course-set {p = p} (courses.chooses peer k e) sent = pick-set (seenBy st call p sent) k refl refl
-  course-set {p = p} (courses.ahead announced tip k) sent = set-empties (seenBy st call p sent) (promised.behind refl) (eqb-false 2 4 refl) refl
+      set-stays (q .silent .notPick) (λ e. q .silent .notProgress (e .kind) (e .mode)) (q .notBehind) (q .notStalled) (q .stalledPeers)
+  course-set {p = p} (courses.nobody k e) sent = pick-set k refl refl
+  course-set {p = p} (courses.chooses peer k e) sent = pick-set k refl refl
+  course-set {p = p} (courses.ahead announced tip k) sent = set-empties (promised.behind refl) (eqb-false 2 4 refl) refl
   course-set {p = p} (courses.replies announced tip k) sent =
-      let s : Seen = seenBy st call p sent in
-      set-stays s (apart s 6 2 refl k) (λ e. apart s 6 11 refl k (e .kind)) (eqb-false 0 2 refl) (eqb-false 0 4 refl) refl
-  course-set {p = p} (courses.stalls k m) sent = set-joins (seenBy st call p sent) k refl refl
+      set-stays (λ e. apart k e refl) (λ e. apart k (e .kind) refl) (eqb-false 0 2 refl) (eqb-false 0 4 refl) refl
+  course-set {p = p} (courses.stalls k m) sent = set-joins k refl refl
   course-set {p = p} (courses.ticks k m) sent =
-      let s : Seen = seenBy st call p sent in
-      set-stays s (apart s 13 2 refl k) (λ e. apart s 13 11 refl k (e .kind)) (eqb-false 0 2 refl) (eqb-false 0 4 refl) refl
+      set-stays (λ e. apart k e refl) (λ e. apart k (e .kind) refl) (eqb-false 0 2 refl) (eqb-false 0 4 refl) refl
   course-set {p = p} (courses.visits peer k m l) sent =
-      let s : Seen = seenBy st call p sent in
-      set-stays s (apart s 13 2 refl k) (λ e. apart s 13 11 refl k (e .kind)) (eqb-false 0 2 refl) (eqb-false 0 4 refl) refl
-  course-set {p = p} (courses.worksFirst k m u) sent = set-empties (seenBy st call p sent) (byProgress (record { kind = k; mode = m })) (eqb-false 0 4 refl) refl
-  course-set {p = p} (courses.worksAgain k m u) sent = set-empties (seenBy st call p sent) (byProgress (record { kind = k; mode = m })) (eqb-false 0 4 refl) refl
+      set-stays (λ e. apart k e refl) (λ e. apart k (e .kind) refl) (eqb-false 0 2 refl) (eqb-false 0 4 refl) refl
+  course-set {p = p} (courses.worksFirst k m u) sent = set-empties (byProgress (record { kind = k; mode = m })) (eqb-false 0 4 refl) refl
+  course-set {p = p} (courses.worksAgain k m u) sent = set-empties (byProgress (record { kind = k; mode = m })) (eqb-false 0 4 refl) refl
 
   course-peer : {announced said : List Sending} {p : Plan} → Course st call announced said p → (sent : List Command) → SyncPeer (seenBy st call p sent)
-  unfolding argsOf Steps.picks Steps.entersSyncing Steps.answers Steps.ticksSyncing Steps.ticksSynced Steps.progresses Steps.unmarked Steps.withoutPeer
-  course-peer {p = p} (courses.passes q) sent = peer-stays (seenBy st call p sent) (λ e. q .silent .notPick (e .kind)) (q .notBehind) (q .syncPeer)
-  course-peer {p = p} (courses.nobody k e) sent = peer-stays (seenBy st call p sent) (λ q. not-syncing seeking refl (q .mode)) (eqb-false 0 2 refl) (λ m. refl)
+  unfolding argsOf picks entersSyncing answers ticksSyncing ticksSynced progresses Steps.unmarked withoutPeer
+  course-peer {p = p} (courses.passes q) sent = peer-stays (λ e. q .silent .notPick (e .kind)) (q .notBehind) (q .syncPeer)
+  course-peer {p = p} (courses.nobody k e) sent = peer-stays (λ q. not-syncing seeking refl (q .mode)) (eqb-false 0 2 refl) (λ m. refl)
   course-peer {p = p} (courses.chooses peer k e) sent =
       record {
         picked = λ q. chosen (seenBy st call p sent) peer e;
@@ -192,28 +185,197 @@ module _ (st : State) (call : Call) where
         kept = λ n m. absurd (n (inl (record { kind = k; mode = refl })));
       }
   course-peer {p = p} (courses.ahead announced tip k) sent =
-      record { picked = λ q. absurd (apart (seenBy st call p sent) 6 2 refl k (q .kind)); behind = λ o. refl; kept = λ n m. absurd (n (inr refl)) }
+      record { picked = λ q. absurd (apart k (q .kind) refl); behind = λ o. refl; kept = λ n m. absurd (n (inr refl)) }
   course-peer {p = p} (courses.replies announced tip k) sent =
-      let s : Seen = seenBy st call p sent in
-      peer-stays s (λ q. apart s 6 2 refl k (q .kind)) (eqb-false 0 2 refl) (λ m. refl)
+      peer-stays (λ q. apart k (q .kind) refl) (eqb-false 0 2 refl) (λ m. refl)
   course-peer {p = p} (courses.stalls k m) sent =
-      let s : Seen = seenBy st call p sent in
-      peer-stays s (λ q. apart s 13 2 refl k (q .kind)) (eqb-false 4 2 refl) (λ m. absurd (no-peer seeking refl m))
+      peer-stays (λ q. apart k (q .kind) refl) (eqb-false 4 2 refl) (λ m. absurd (no-peer seeking refl m))
   course-peer {p = p} (courses.ticks k m) sent =
-      let s : Seen = seenBy st call p sent in
-      peer-stays s (λ q. apart s 13 2 refl k (q .kind)) (eqb-false 0 2 refl) (λ m. refl)
+      peer-stays (λ q. apart k (q .kind) refl) (eqb-false 0 2 refl) (λ m. refl)
   course-peer {p = p} (courses.visits peer k m l) sent =
-      let s : Seen = seenBy st call p sent in
-      peer-stays s (λ q. apart s 13 2 refl k (q .kind)) (eqb-false 0 2 refl) (λ m. refl)
+      peer-stays (λ q. apart k (q .kind) refl) (eqb-false 0 2 refl) (λ m. refl)
   course-peer {p = p} (courses.worksFirst k m u) sent =
-      let s : Seen = seenBy st call p sent in
-      peer-stays s (λ q. apart s 11 2 refl k (q .kind)) (eqb-false 0 2 refl) (λ m. refl)
+      peer-stays (λ q. apart k (q .kind) refl) (eqb-false 0 2 refl) (λ m. refl)
   course-peer {p = p} (courses.worksAgain k m u) sent =
-      let s : Seen = seenBy st call p sent in
-      peer-stays s (λ q. apart s 11 2 refl k (q .kind)) (eqb-false 0 2 refl) (λ m. refl)
+      peer-stays (λ q. apart k (q .kind) refl) (eqb-false 0 2 refl) (λ m. refl)
 
 pub stalled-set-kept : (st : State) (call : Call) → Finished st call → StalledSet (seenAs st call)
 stalled-set-kept st call f = rw (seen-by st call) (course-set st call (told st call f .course) (commands st (argsOf call)))
 
 pub sync-peer-kept : (st : State) (call : Call) → Finished st call → SyncPeer (seenAs st call)
 sync-peer-kept st call f = rw (seen-by st call) (course-peer st call (told st call f .course) (commands st (argsOf call)))
+
+-- ---- the marks
+
+-- What a step does to last progress and to the two marks.
+record Marked (s : Seen) : Type 0 where
+  progressSet : Picked s ⊎ Progresses s → s .after .sync .lastProgress ≡ s .call .clock
+  progressKept : (Picked s ⊎ Progresses s → ⊥) → s .after .sync .lastProgress ≡ s .before .sync .lastProgress
+  entryMark : (s .after .sync .entrySent ≡ true) ↔ (Enters s × SaysSyncInfo s)
+  usedByProgress : Progresses s → s .after .sync .progressUsed ≡ true
+  allowedAgain : Enters s ⊎ (s .call .kind ≡ Numbers.scheduledTick) → s .after .sync .progressUsed ≡ false
+  usedKept :
+      (Progresses s → ⊥) → (Enters s → ⊥) → (s .call .kind ≡ Numbers.scheduledTick → ⊥) → s .after .mode ≡ syncing
+      → s .after .sync .progressUsed ≡ s .before .sync .progressUsed
+
+module _ {s : Seen} where
+  unmarked : (Enters s → ⊥) → s .after .sync .entrySent ≡ false → (s .after .sync .entrySent ≡ true) ↔ (Enters s × SaysSyncInfo s)
+  unmarked n e = ((λ t. absurd (false≢true (sym e ∙ t))), (λ q. absurd (n (q .0))))
+
+  -- a step that neither enters syncing nor progresses
+  stays-marked : NotPicked s → NotBehind s → NotProgress s → s .after .sync .lastProgress ≡ s .before .sync .lastProgress → s .after .sync .entrySent ≡ false
+      → (s .call .kind ≡ Numbers.scheduledTick → s .after .sync .progressUsed ≡ false)
+      → ((s .call .kind ≡ Numbers.scheduledTick → ⊥) → s .after .mode ≡ syncing → s .after .sync .progressUsed ≡ s .before .sync .progressUsed) → Marked s
+  stays-marked p b r last entry tick used =
+      record {
+        progressSet = λ q. absurd (⊎-elim p r q);
+        progressKept = λ n. last;
+        entryMark = unmarked (⊎-elim p b) entry;
+        usedByProgress = λ q. absurd (r q);
+        allowedAgain = ⊎-elim (λ q. absurd (⊎-elim p b q)) tick;
+        usedKept = λ n q t m. used t m;
+      }
+
+  progress-marked : Progresses s → NotBehind s → s .after .sync .lastProgress ≡ s .call .clock → s .after .sync .entrySent ≡ false
+      → s .after .sync .progressUsed ≡ true → Marked s
+  progress-marked r b last entry used =
+      let p : NotPicked s = λ q. apart (r .kind) (q .kind) refl in
+      record {
+        progressSet = λ q. last;
+        progressKept = λ n. absurd (n (inr r));
+        entryMark = unmarked (⊎-elim p b) entry;
+        usedByProgress = λ q. used;
+        allowedAgain = ⊎-elim (λ q. absurd (⊎-elim p b q)) (λ t. absurd (apart (r .kind) t refl));
+        usedKept = λ n q t m. absurd (n r);
+      }
+
+  entry-marked : Enters s → NotProgress s → (Picked s → s .after .sync .lastProgress ≡ s .call .clock)
+      → (NotPicked s → s .after .sync .lastProgress ≡ s .before .sync .lastProgress) → (s .after .sync .entrySent ≡ true) ↔ (Enters s × SaysSyncInfo s)
+      → s .after .sync .progressUsed ≡ false → Marked s
+  entry-marked e r set kept mark used =
+      record {
+        progressSet = ⊎-elim set (λ q. absurd (r q));
+        progressKept = λ n. kept (λ q. n (inl q));
+        entryMark = mark;
+        usedByProgress = λ q. absurd (r q);
+        allowedAgain = λ q. used;
+        usedKept = λ n q t m. absurd (q e);
+      }
+
+-- ---- the entry mark says whether a sync info went out
+
+module _ {A : Type 0} where
+  among-last : (xs : List A) (x : A) → Among x (xs ++ (x ∷ []))
+  among-last [] x = inl refl
+  among-last (y ∷ xs) x = inr (among-last xs x)
+
+  among-all : (P : A → Type 0) (x : A) (xs : List A) → All P xs → Among x xs → P x
+  among-all P x [] w h = absurd h
+  among-all P x (y ∷ xs) w (inl e) = subst P (sym e) (w .0)
+  among-all P x (y ∷ xs) w (inr h) = among-all P x xs (w .1) h
+
+module _ (s : Seen) (infos : SyncInfos s) where
+  one-said : (c : Command) → infos .said ≡ c ∷ [] → c .kind ≡ Numbers.aSyncInfo → SaysSyncInfo s
+  one-said c e k =
+      promised.said c (subst (Among c) (sym (infos .parts ∙ ap (λ (cs : List Command). infos .others ++ cs) e)) (among-last (infos .others) c)) k
+
+  none-said : infos .said ≡ [] → SaysSyncInfo s → ⊥
+  none-said e (promised.said c h k) =
+      among-all (λ (c : Command). c .kind ≡ Numbers.aSyncInfo → ⊥) c (infos .others) (infos .noneBefore)
+      (subst (Among c) (infos .parts ∙ (ap (λ (cs : List Command). infos .others ++ cs) e ∙ append-nil (infos .others))) h) k
+
+  entry-mark : (peer : ℕ) → SpeaksTo s peer → Enters s → (quiet : Bool) → s .after .sync .entrySent ≡ not quiet → (quiet ≡ false → Due s)
+      → (quiet ≡ true → Due s → ⊥) → (s .after .sync .entrySent ≡ true) ↔ (Enters s × SaysSyncInfo s)
+  entry-mark peer to enters true e due held =
+      ((λ t. absurd (false≢true (sym e ∙ t))), (λ q. absurd (none-said (infos .heldBack (held refl)) (q .1))))
+  entry-mark peer to enters false e due held =
+      let out = infos .goesOut peer to (due refl) in
+      ((λ t. (enters, one-said (out .0) (out .1) (out .2 .0))), (λ q. e))
+
+module _ (st : State) (call : Call) (past : st .sync .sendClock .lastSend ≤ call .clock) where
+  abbrev Elsewhere : Plan → Type 0
+  Elsewhere p = (p .mode ≡ syncing → ⊥) → p .sync .progressUsed ≡ false
+
+  enters-marked : (p : Plan) (sent : List Command) (peer : ℕ) → SyncInfos (seenBy st call p sent) → SpeaksTo (seenBy st call p sent) peer
+      → Enters (seenBy st call p sent) → p .sync .entrySent ≡ not (isQuiet st call)
+      → (p .sync .entrySent ≡ true) ↔ (Enters (seenBy st call p sent) × SaysSyncInfo (seenBy st call p sent))
+  enters-marked p sent peer infos to enters e =
+      entry-mark (seenBy st call p sent) infos peer to enters (isQuiet st call) e
+      (due (st .settings) (call .clock) (st .sync .sendClock .lastSend) past) (not-due (st .settings) (call .clock) (st .sync .sendClock .lastSend) past)
+
+  course-marks : {announced said : List Sending} {p : Plan} → Course st call announced said p
+      → (sent : List Command) → SyncInfos (seenBy st call p sent) → Elsewhere p
+      → Marked (seenBy st call p sent)
+  unfolding argsOf picks entersSyncing answers ticksSyncing ticksSynced progresses Steps.unmarked withoutPeer resetSends
+  course-marks {p = p} (courses.passes q) sent infos elsewhere =
+      stays-marked (λ e. q .silent .notPick (e .kind)) (q .notBehind) (λ e. q .silent .notProgress (e .kind) (e .mode)) (q .lastProgress)
+      (q .entrySent) (q .silent .usedTick) (λ t m. q .used m)
+  course-marks {p = p} (courses.nobody k e) sent infos elsewhere =
+      stays-marked (λ q. not-syncing seeking refl (q .mode)) (eqb-false 0 2 refl) (λ q. apart k (q .kind) refl) refl refl
+      (λ t. absurd (apart k t refl)) (λ t m. refl)
+  course-marks {p = p} (courses.chooses peer k e) sent infos elsewhere =
+      let s : Seen = seenBy st call p sent in
+      let picked : Picked s = record { kind = k; mode = refl } in
+      entry-marked (inl picked) (λ q. apart k (q .kind) refl) (λ q. refl) (λ q. absurd (q picked))
+      (enters-marked p sent peer infos (onPick picked) (inl picked) refl) refl
+  course-marks {p = p} (courses.ahead announced tip k) sent infos elsewhere =
+      entry-marked (inr refl) (λ q. apart k (q .kind) refl) (λ q. absurd (apart k (q .kind) refl)) (λ q. refl)
+      (enters-marked p sent (call .peer) infos (whenBehind refl) (inr refl) refl) refl
+  course-marks {p = p} (courses.replies announced tip k) sent infos elsewhere =
+      stays-marked (λ q. apart k (q .kind) refl) (eqb-false 0 2 refl) (λ q. apart k (q .kind) refl) refl refl
+      (λ t. absurd (apart k t refl)) (λ t m. refl)
+  course-marks {p = p} (courses.stalls k m) sent infos elsewhere =
+      stays-marked (λ q. apart k (q .kind) refl) (eqb-false 4 2 refl) (λ q. apart k (q .kind) refl) refl refl (λ t. refl) (λ t m. absurd (t k))
+  course-marks {p = p} (courses.ticks k m) sent infos elsewhere =
+      stays-marked (λ q. apart k (q .kind) refl) (eqb-false 0 2 refl) (λ q. apart k (q .kind) refl) refl refl (λ t. refl) (λ t m. absurd (t k))
+  course-marks {p = p} (courses.visits peer k m l) sent infos elsewhere =
+      stays-marked (λ q. apart k (q .kind) refl) (eqb-false 0 2 refl) (λ q. apart k (q .kind) refl) refl refl
+      (λ t. elsewhere (not-syncing (st .mode) (ap (λ (mode : Mode). isMode mode syncing) m))) (λ t m. absurd (t k))
+  course-marks {p = p} (courses.worksFirst k m u) sent infos elsewhere =
+      progress-marked (record { kind = k; mode = m }) (eqb-false 0 2 refl) refl refl refl
+  course-marks {p = p} (courses.worksAgain k m u) sent infos elsewhere =
+      progress-marked (record { kind = k; mode = m }) (eqb-false 0 2 refl) refl refl refl
+
+-- a send failure is taken only after an entry that sent
+failure-step : (call : Call) → call .kind ≡ Numbers.sendFailure → stepOf call ≡ Steps.sendFailure
+unfolding stepOf
+failure-step call e = rw e
+
+failure-marked : (mode : Mode) (entrySent : Bool) (step : Step) → step ≡ Steps.sendFailure → ofMode mode entrySent step ≡ true → entrySent ≡ true
+unfolding ofMode
+failure-marked mode entrySent step e m = and-right (isMode mode syncing) entrySent (rw e at m)
+
+is-elsewhere : (m : Mode) → (m ≡ syncing → ⊥) → isMode m syncing ≡ false
+is-elsewhere m n = go (isMode m syncing) refl
+  where
+    go : (t : Bool) → isMode m syncing ≡ t → isMode m syncing ≡ false
+    go true e = absurd (n (is-syncing m e))
+    go false e = e
+
+module _ (st : State) (call : Call) (f : Finished st call) where
+  allowed-elsewhere : (after st (argsOf call) .mode ≡ syncing → ⊥) → after st (argsOf call) .sync .progressUsed ≡ false
+  allowed-elsewhere n = f .wellAfter .sync .progressUsed (is-elsewhere (after st (argsOf call) .mode) n)
+
+  marked : Marked (seenAs st call)
+  unfolding after plan argsOf
+  marked =
+      let past : st .sync .sendClock .lastSend ≤ call .clock = le-trans (f .well .sync .lastSend) (f .passed .clock) in
+      rw (seen-by st call)
+      (course-marks st call past (told st call f .course) (commands st (argsOf call))
+      (subst SyncInfos (seen-by st call) (sync-infos-kept st call f)) allowed-elsewhere)
+
+  pub marks-kept : Marks (seenAs st call)
+  unfolding after argsOf
+  marks-kept =
+      record {
+        lastClock = refl;
+        settings = refl;
+        progressSet = marked .progressSet;
+        progressKept = marked .progressKept;
+        entryMark = marked .entryMark;
+        sendFailure = λ k. failure-marked (st .mode) (st .sync .entrySent) (stepOf call) (failure-step call k) (mode-of st call f);
+        usedByProgress = marked .usedByProgress;
+        allowedAgain = marked .allowedAgain;
+        allowedElsewhere = allowed-elsewhere;
+        usedKept = marked .usedKept;
+      }

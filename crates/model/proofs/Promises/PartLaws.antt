@@ -1,5 +1,5 @@
 -- The commands of a step in parts: an announcement, then requests, then a sync info.
-use Prim.Native.Nat.{ℕ, zero, suc}
+use Prim.Native.Nat.{ℕ, suc}
 use mathlib.Core.Path.{_≡_, refl, sym, ap, _∙_}
 use mathlib.Core.Bool.{Bool, true, false}
 use mathlib.Core.Logic.{_⊎_, inl, inr}
@@ -8,7 +8,8 @@ use Rattle.fields.specs.Facts.{All}
 use Rattle.fields.proofs.AllLaws.{all-append}
 use Rattle.model.specs.Protocol.{Id}
 use Rattle.model.specs.Delivery.{Request}
-use Rattle.model.specs.Requests.{Sending, request, announcement, syncInfo, Command, runs, commandsOf, commandsFrom, Act, ask, send, wanted, requestOf, perform, performAll}
+use Rattle.model.specs.Requests.{Sending, request, announcement, syncInfo, Command, runs, commandsOf, commandsFrom}
+use Rattle.model.specs.Requests.{Act, ask, send, wanted, requestOf, perform, performAll}
 use Rattle.model.specs.Sections.{Item, Batch, batchesOf}
 use Rattle.model.specs.Check.{retrySendings}
 use Rattle.model.specs.Promises.Numbers as numbers
@@ -63,7 +64,8 @@ performed-append gate clock (act ∷ acts) others rs =
     (append-assoc (one .sendings) (performAll gate clock acts (one .pending) .sendings)
     (performAll gate clock others (performAll gate clock acts (one .pending) .pending) .sendings))
 
-pub sends-performed : (gate : Bool) (clock : ℕ) (sendings : List Sending) (rs : List Request) → performAll gate clock (map send sendings) rs .sendings ≡ sendings
+pub sends-performed : (gate : Bool) (clock : ℕ) (sendings : List Sending) (rs : List Request)
+    → performAll gate clock (map send sendings) rs .sendings ≡ sendings
 sends-performed gate clock [] rs = refl
 sends-performed gate clock (s ∷ sendings) rs = ap (λ (ss : List Sending). s ∷ ss) (sends-performed gate clock sendings rs)
 
@@ -119,10 +121,16 @@ module _ (gate : Bool) (clock : ℕ) (announced said : List Sending) where
       × All IsRequest requests
   performed-parts asks rs w =
       let rs₁ = performAll gate clock (map send announced) rs .pending in
-      let rs₂ = performAll gate clock asks rs₁ .pending in
-      (performAll gate clock asks rs₁ .sendings,
-      rw (performed-append gate clock (map send announced) (asks ++ map send said) rs, performed-append gate clock asks (map send said) rs₁, sends-performed gate clock announced rs, sends-performed gate clock said rs₂),
-      asks-request gate clock asks rs₁ w)
+      let rs₂ = performAll gate clock asks rs₁ .pending in (
+        performAll gate clock asks rs₁ .sendings,
+        rw (
+          performed-append gate clock (map send announced) (asks ++ map send said) rs,
+          performed-append gate clock asks (map send said) rs₁,
+          sends-performed gate clock announced rs,
+          sends-performed gate clock said rs₂,
+        ),
+        asks-request gate clock asks rs₁ w,
+      )
 
   -- requests that go before all else may be counted with those behind the announcement, if there is none, or if there are none of these
   retries-behind : (retries requests : List Sending) → (retries ≡ []) ⊎ (announced ≡ [])
@@ -140,6 +148,12 @@ module _ (gate : Bool) (clock : ℕ) (announced said : List Sending) where
         requests = commandsFrom n requests;
         batch = batchAfter n requests;
         parts =
-            rw (p .parts, done .1, retries-behind (retrySendings items) (done .0) alone, commands-append 0 announced (requests ++ said), commands-append n requests said);
+            rw (
+              p .parts,
+              done .1,
+              retries-behind (retrySendings items) (done .0) alone,
+              commands-append 0 announced (requests ++ said),
+              commands-append n requests said,
+            );
         areRequests = requests-kind n requests (all-append IsRequest (retrySendings items) (done .0) (retries-request items) (done .2));
       }

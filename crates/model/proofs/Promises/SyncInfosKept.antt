@@ -1,30 +1,31 @@
 -- Sync infos and announcements go out as specs/Promises/SyncInfos says.
-use Prim.Native.Nat.{ℕ, _+_, _-_, _≤_, _<_, _%_, _^_}
-use mathlib.Core.Path.{_≡_, refl, sym, ap, _∙_, subst}
+use Prim.Native.Nat.{ℕ, _+_, _-_, _≤_, _%_, _^_}
+use mathlib.Core.Path.{_≡_, refl, sym, ap, _∙_}
 use mathlib.Core.Bool.{Bool, true, false, cond, false≢true}
 use mathlib.Core.Logic.{_⊎_, inl, inr}
 use mathlib.Core.List.{List, [], _∷_, _++_, append-assoc, cons≢nil}
 use native.Mathlib.Nat.{lt-irrefl, le-trans}
 use native.Mathlib.Omega.{arith}
-use lib.Dec.{eqb, ltb}
+use lib.Dec.{eqb}
 use borrow.Author.Tests.{eqb-false, ltb-true, ltb-false}
 use Rattle.fields.specs.Facts.{All}
-use Rattle.fields.proofs.AllLaws.{all-append, all-weaker, either}
+use Rattle.fields.proofs.AllLaws.{all-append, all-weaker}
 use Rattle.model.specs.Settings.{Settings, throttled}
 use Rattle.model.specs.State.{Mode, seeking, syncing, synced, modeNumber, SendClock, State}
 use Rattle.model.specs.Peers.{sendSyncInfo, resetSends}
-use Rattle.model.specs.Requests.{Sending, request, announcement, syncInfo, Command, commandsOf, commandsFrom}
+use Rattle.model.specs.Requests.{Sending, announcement, syncInfo, Command, commandsFrom}
 use Rattle.model.specs.Steps
-use Rattle.model.specs.Steps.{Plan, planOf, plan, after, commands}
-use Rattle.model.specs.Lists.{peersIn}
-use Rattle.model.specs.Calls.{Call, argsOf, stepOf, stepAnswer}
+use Rattle.model.specs.Steps.{entersSyncing, picks, answers, ticksSyncing, ticksSynced, progresses, unmarked, withoutPeer, Plan, planOf, after, commands}
+use Rattle.model.specs.Calls.{Call, argsOf, stepOf}
 use Rattle.model.specs.Promises.Numbers
 use Rattle.model.specs.Promises.Words.{Seen, peers, First}
-use Rattle.model.specs.Promises.Marks.{Picked, Progresses}
-use Rattle.model.specs.Promises.SyncInfos.{SpeaksTo, onPick, whenBehind, inReply, onProgress, onTick, onSyncedTick, Due, SyncInfos, Announces, Announcements, continuationIds}
+use Rattle.model.specs.Promises.Marks.{Picked}
+use Rattle.model.specs.Promises.SyncInfos.{SpeaksTo, onPick, whenBehind, inReply, onProgress, onTick, onSyncedTick}
+use Rattle.model.specs.Promises.SyncInfos.{Due, SyncInfos, Announcements, continuationIds}
 use Rattle.model.proofs.Promises.SeenLaws.{Finished, seenAs}
 use Rattle.model.proofs.Promises.PartLaws.{OfKind, Parts}
-use Rattle.model.proofs.Promises.CourseLaws.{seenBy, seen-by, saidTo, isQuiet, Passes, Course, Front, keepsStill, announces, told, told-parts, not-syncing}
+use Rattle.model.proofs.Promises.CourseLaws.{apart, not-syncing, seenBy, seen-by, saidTo, isQuiet}
+use Rattle.model.proofs.Promises.CourseLaws.{Passes, Course, Front, keepsStill, announces, told, told-parts}
 use Rattle.model.proofs.Promises.CourseLaws as courses
 
 -- ---- lists
@@ -51,7 +52,8 @@ front-kind s announced (announces n) = (refl, tt)
 
 module _ (st : State) (call : Call) where
   -- behind the requests stand sync infos only
-  course-kind : {announced said : List Sending} {p : Plan} → Course st call announced said p → (batch : ℕ) → All (OfKind Numbers.aSyncInfo) (commandsFrom batch said)
+  course-kind : {announced said : List Sending} {p : Plan} → Course st call announced said p
+      → (batch : ℕ) → All (OfKind Numbers.aSyncInfo) (commandsFrom batch said)
   course-kind (courses.passes q) batch = tt
   course-kind (courses.nobody k e) batch = tt
   course-kind (courses.chooses peer k e) batch = said-kind batch (isQuiet st call) peer
@@ -106,69 +108,67 @@ announcements-kept st call f =
 
 -- ---- who is spoken to
 
-module _ (s : Seen) where
-  apart : (a b : ℕ) → eqb a b ≡ false → s .call .kind ≡ a → s .call .kind ≡ b → ⊥
-  apart a b d e k = eqb-false a b d (sym e ∙ k)
+synced-not-syncing : {m : Mode} → m ≡ synced → m ≡ syncing → ⊥
+synced-not-syncing e f = eqb-false 3 2 refl (ap modeNumber (sym e ∙ f))
 
-  synced-not-syncing : s .before .mode ≡ synced → s .before .mode ≡ syncing → ⊥
-  synced-not-syncing e f = eqb-false 3 2 refl (ap modeNumber (sym e ∙ f))
+abbrev NotBehind : Seen → Type 0
+NotBehind s = s .answer .outcome ≡ Numbers.saysBehindPeer → ⊥
 
-  abbrev NotBehind : Type 0
-  NotBehind = s .answer .outcome ≡ Numbers.saysBehindPeer → ⊥
-
-  to-picked : {other : ℕ} → s .call .kind ≡ Numbers.pick → NotBehind → SpeaksTo s other → other ≡ s .after .sync .syncPeer
+module _ {s : Seen} where
+  to-picked : {other : ℕ} → s .call .kind ≡ Numbers.pick → NotBehind s → SpeaksTo s other → other ≡ s .after .sync .syncPeer
   to-picked k b (onPick p) = refl
   to-picked k b (whenBehind o) = absurd (b o)
-  to-picked k b (inReply e o) = absurd (apart 2 6 refl k e)
-  to-picked k b (onProgress p u) = absurd (apart 2 11 refl k (p .kind))
-  to-picked k b (onTick e m) = absurd (apart 2 13 refl k e)
-  to-picked k b (onSyncedTick peer e m l) = absurd (apart 2 13 refl k e)
+  to-picked k b (inReply e o) = absurd (apart k e refl)
+  to-picked k b (onProgress p u) = absurd (apart k (p .kind) refl)
+  to-picked k b (onTick e m) = absurd (apart k e refl)
+  to-picked k b (onSyncedTick peer e m l) = absurd (apart k e refl)
 
   to-sender : {other : ℕ} → s .call .kind ≡ Numbers.syncInfo → SpeaksTo s other → other ≡ s .call .peer
-  to-sender k (onPick p) = absurd (apart 6 2 refl k (p .kind))
+  to-sender k (onPick p) = absurd (apart k (p .kind) refl)
   to-sender k (whenBehind o) = refl
   to-sender k (inReply e o) = refl
-  to-sender k (onProgress p u) = absurd (apart 6 11 refl k (p .kind))
-  to-sender k (onTick e m) = absurd (apart 6 13 refl k e)
-  to-sender k (onSyncedTick peer e m l) = absurd (apart 6 13 refl k e)
+  to-sender k (onProgress p u) = absurd (apart k (p .kind) refl)
+  to-sender k (onTick e m) = absurd (apart k e refl)
+  to-sender k (onSyncedTick peer e m l) = absurd (apart k e refl)
 
-  to-sync-peer : {other : ℕ} → (s .call .kind ≡ Numbers.progress) ⊎ (s .call .kind ≡ Numbers.scheduledTick) → s .before .mode ≡ syncing → NotBehind → SpeaksTo s other
+  to-sync-peer : {other : ℕ} → (s .call .kind ≡ Numbers.progress) ⊎ (s .call .kind ≡ Numbers.scheduledTick) → s .before .mode ≡ syncing
+      → NotBehind s → SpeaksTo s other
       → other ≡ s .before .sync .syncPeer
-  to-sync-peer (inl k) m b (onPick p) = absurd (apart 11 2 refl k (p .kind))
-  to-sync-peer (inr k) m b (onPick p) = absurd (apart 13 2 refl k (p .kind))
+  to-sync-peer (inl k) m b (onPick p) = absurd (apart k (p .kind) refl)
+  to-sync-peer (inr k) m b (onPick p) = absurd (apart k (p .kind) refl)
   to-sync-peer k m b (whenBehind o) = absurd (b o)
-  to-sync-peer (inl k) m b (inReply e o) = absurd (apart 11 6 refl k e)
-  to-sync-peer (inr k) m b (inReply e o) = absurd (apart 13 6 refl k e)
+  to-sync-peer (inl k) m b (inReply e o) = absurd (apart k e refl)
+  to-sync-peer (inr k) m b (inReply e o) = absurd (apart k e refl)
   to-sync-peer k m b (onProgress p u) = refl
   to-sync-peer k m b (onTick e n) = refl
   to-sync-peer k m b (onSyncedTick peer e n l) = absurd (synced-not-syncing n m)
 
-  to-first : {other : ℕ} → (peer : ℕ) → s .call .kind ≡ Numbers.scheduledTick → s .before .mode ≡ synced → First peer (peers s) → NotBehind → SpeaksTo s other
+  to-first : {other : ℕ} → (peer : ℕ) → s .call .kind ≡ Numbers.scheduledTick → s .before .mode ≡ synced → First peer (peers s) → NotBehind s → SpeaksTo s other
       → other ≡ peer
-  to-first peer k m l b (onPick p) = absurd (apart 13 2 refl k (p .kind))
+  to-first peer k m l b (onPick p) = absurd (apart k (p .kind) refl)
   to-first peer k m l b (whenBehind o) = absurd (b o)
-  to-first peer k m l b (inReply e o) = absurd (apart 13 6 refl k e)
-  to-first peer k m l b (onProgress p u) = absurd (apart 13 11 refl k (p .kind))
+  to-first peer k m l b (inReply e o) = absurd (apart k e refl)
+  to-first peer k m l b (onProgress p u) = absurd (apart k (p .kind) refl)
   to-first peer k m l b (onTick e n) = absurd (synced-not-syncing m n)
   to-first peer k m l b (onSyncedTick other e n f) = one-first other peer (peers s) f l
 
   -- a pick that finds nobody
-  to-nobody : (other : ℕ) → s .call .kind ≡ Numbers.pick → (s .after .mode ≡ syncing → ⊥) → NotBehind → SpeaksTo s other → ⊥
+  to-nobody : (other : ℕ) → s .call .kind ≡ Numbers.pick → (s .after .mode ≡ syncing → ⊥) → NotBehind s → SpeaksTo s other → ⊥
   to-nobody other k m b (onPick p) = m (p .mode)
   to-nobody other k m b (whenBehind o) = b o
-  to-nobody other k m b (inReply e o) = apart 2 6 refl k e
-  to-nobody other k m b (onProgress p u) = apart 2 11 refl k (p .kind)
-  to-nobody other k m b (onTick e n) = apart 2 13 refl k e
-  to-nobody other k m b (onSyncedTick peer e n l) = apart 2 13 refl k e
+  to-nobody other k m b (inReply e o) = apart k e refl
+  to-nobody other k m b (onProgress p u) = apart k (p .kind) refl
+  to-nobody other k m b (onTick e n) = apart k e refl
+  to-nobody other k m b (onSyncedTick peer e n l) = apart k e refl
 
   -- progress that has tried to send
-  to-nobody-again : (other : ℕ) → s .call .kind ≡ Numbers.progress → s .before .sync .progressUsed ≡ true → NotBehind → SpeaksTo s other → ⊥
-  to-nobody-again other k t b (onPick p) = apart 11 2 refl k (p .kind)
+  to-nobody-again : (other : ℕ) → s .call .kind ≡ Numbers.progress → s .before .sync .progressUsed ≡ true → NotBehind s → SpeaksTo s other → ⊥
+  to-nobody-again other k t b (onPick p) = apart k (p .kind) refl
   to-nobody-again other k t b (whenBehind o) = b o
-  to-nobody-again other k t b (inReply e o) = apart 11 6 refl k e
+  to-nobody-again other k t b (inReply e o) = apart k e refl
   to-nobody-again other k t b (onProgress p u) = false≢true (sym u ∙ t)
-  to-nobody-again other k t b (onTick e n) = apart 11 13 refl k e
-  to-nobody-again other k t b (onSyncedTick peer e n l) = apart 11 13 refl k e
+  to-nobody-again other k t b (onTick e n) = apart k e refl
+  to-nobody-again other k t b (onSyncedTick peer e n l) = apart k e refl
 
 -- ---- what the interval holds back
 
@@ -186,7 +186,7 @@ module _ (settings : Settings) (clock lastSend : ℕ) (past : lastSend ≤ clock
 abbrev sentAt : ℕ → SendClock → SendClock
 sentAt clock c = record { lastSend = clock; sends = (c .sends + 1) % 2 ^ 32 }
 
-module _ (s : Seen) (others : List Command) (noneBefore : All (NotOfKind Numbers.aSyncInfo) others) where
+module _ {s : Seen} (others : List Command) (noneBefore : All (NotOfKind Numbers.aSyncInfo) others) where
   -- nobody is to be told anything
   nothing-said : s .sent ≡ others ++ [] → ((peer : ℕ) → SpeaksTo s peer → ⊥) → s .after .sync .sendClock ≡ s .before .sync .sendClock → SyncInfos s
   nothing-said parts mute e =
@@ -247,67 +247,61 @@ module _ (s : Seen) (others : List Command) (noneBefore : All (NotOfKind Numbers
       }
 
 module _ (st : State) (call : Call) (past : st .sync .sendClock .lastSend ≤ call .clock) where
+  -- a step that passes
+  passes-nobody : {announced : List Sending} (p : Plan) (sent : List Command) → Passes st call announced p
+      → (peer : ℕ) → SpeaksTo (seenBy st call p sent) peer → ⊥
+  passes-nobody p sent q peer (onPick e) = q .silent .notPick (e .kind)
+  passes-nobody p sent q peer (whenBehind o) = q .notBehind o
+  passes-nobody p sent q peer (inReply k o) = q .silent .notReply k o
+  passes-nobody p sent q peer (onProgress e u) = q .silent .notProgress (e .kind) (e .mode)
+  passes-nobody p sent q peer (onTick k m) = q .silent .notTick k m
+  passes-nobody p sent q peer (onSyncedTick other k m l) = q .silent .nobody other k l
+
   module _ (p : Plan) (sent others : List Command) (noneBefore : All (NotOfKind Numbers.aSyncInfo) others) where
     abbrev s : Seen
     s = seenBy st call p sent
 
-    -- a step that passes
-    passes-said : (announced : List Sending) → Passes st call announced p → (peer : ℕ) → SpeaksTo s peer → ⊥
-    passes-said announced q peer (onPick e) = q .silent .notPick (e .kind)
-    passes-said announced q peer (whenBehind o) = q .notBehind o
-    passes-said announced q peer (inReply k o) = q .silent .notReply k o
-    passes-said announced q peer (onProgress e u) = q .silent .notProgress (e .kind) (e .mode)
-    passes-said announced q peer (onTick k m) = q .silent .notTick k m
-    passes-said announced q peer (onSyncedTick other k m l) = q .silent .nobody other k l
-
     -- rule 2, unless a pick counts anew
-    goes-to : (peer batch : ℕ) → SpeaksTo s peer → ((other : ℕ) → SpeaksTo s other → other ≡ peer) → (Picked s → ⊥) → sent ≡ others ++ commandsFrom batch (saidTo (isQuiet st call) peer)
+    goes-to : (peer batch : ℕ) → SpeaksTo s peer → ((other : ℕ) → SpeaksTo s other → other ≡ peer) → (Picked s → ⊥)
+        → sent ≡ others ++ commandsFrom batch (saidTo (isQuiet st call) peer)
         → p .sync .sendClock ≡ sendSyncInfo (st .settings) (call .clock) (st .sync .sendClock) → SyncInfos s
     unfolding sendSyncInfo
     goes-to peer batch to only notPicked parts e =
-        said-to s others noneBefore peer batch (isQuiet st call) (st .sync .sendClock) to only (due (st .settings) (call .clock) (st .sync .sendClock .lastSend) past)
-        (not-due (st .settings) (call .clock) (st .sync .sendClock .lastSend) past) refl (λ q. absurd (notPicked q)) (λ q. refl) parts e
+        said-to others noneBefore peer batch (isQuiet st call) (st .sync .sendClock) to only
+        (due (st .settings) (call .clock) (st .sync .sendClock .lastSend) past) (not-due (st .settings) (call .clock) (st .sync .sendClock .lastSend) past) refl (λ q. absurd (notPicked q)) (λ q. refl) parts e
 
-  course-infos : {announced said : List Sending} {p : Plan} → Course st call announced said p → (sent others : List Command) → All (NotOfKind Numbers.aSyncInfo) others
+  course-infos : {announced said : List Sending} {p : Plan} → Course st call announced said p
+      → (sent others : List Command) → All (NotOfKind Numbers.aSyncInfo) others
       → (batch : ℕ) → sent ≡ others ++ commandsFrom batch said → SyncInfos (seenBy st call p sent)
-  unfolding argsOf Steps.picks Steps.entersSyncing Steps.answers Steps.ticksSyncing Steps.ticksSynced Steps.progresses Steps.unmarked Steps.withoutPeer Steps.sent resetSends sendSyncInfo
-  course-infos {p = p} (courses.passes {announced = announced} q) sent others none batch parts =
-      nothing-said (seenBy st call p sent) others none parts (passes-said p sent others none announced q) (q .sendClock)
+  unfolding argsOf picks entersSyncing answers ticksSyncing ticksSynced progresses unmarked withoutPeer Steps.sent resetSends sendSyncInfo
+  course-infos {p = p} (courses.passes q) sent others none batch parts =
+      nothing-said others none parts (passes-nobody p sent q) (q .sendClock)
   course-infos {p = p} (courses.nobody k e) sent others none batch parts =
-      let s : Seen = seenBy st call p sent in
-      nothing-said s others none parts (λ other t. to-nobody s other k (not-syncing seeking refl) (eqb-false 0 2 refl) t) refl
+      nothing-said others none parts (λ other t. to-nobody other k (not-syncing seeking refl) (eqb-false 0 2 refl) t) refl
   course-infos {p = p} (courses.chooses peer k e) sent others none batch parts =
-      let s : Seen = seenBy st call p sent in
-      said-to s others none peer batch (isQuiet st call) (resetSends (st .sync .sendClock)) (onPick (record { kind = k; mode = refl }))
-      (λ other t. to-picked s k (eqb-false 0 2 refl) t)
+      said-to others none peer batch (isQuiet st call) (resetSends (st .sync .sendClock)) (onPick (record { kind = k; mode = refl }))
+      (λ other t. to-picked k (eqb-false 0 2 refl) t)
       (due (st .settings) (call .clock) (st .sync .sendClock .lastSend) past) (not-due (st .settings) (call .clock) (st .sync .sendClock .lastSend) past)
       refl (λ q. refl) (λ q. absurd (q (record { kind = k; mode = refl }))) parts refl
   course-infos {p = p} (courses.ahead announced tip k) sent others none batch parts =
-      let s : Seen = seenBy st call p sent in
-      goes-to p sent others none (call .peer) batch (whenBehind refl) (λ other t. to-sender s k t) (λ q. apart s 6 2 refl k (q .kind)) parts refl
+      goes-to p sent others none (call .peer) batch (whenBehind refl) (λ other t. to-sender k t) (λ q. apart k (q .kind) refl) parts refl
   course-infos {p = p} (courses.replies announced tip k) sent others none batch parts =
-      let s : Seen = seenBy st call p sent in
-      goes-to p sent others none (call .peer) batch (inReply k refl) (λ other t. to-sender s k t) (λ q. apart s 6 2 refl k (q .kind)) parts refl
+      goes-to p sent others none (call .peer) batch (inReply k refl) (λ other t. to-sender k t) (λ q. apart k (q .kind) refl) parts refl
   course-infos {p = p} (courses.stalls k m) sent others none batch parts =
-      let s : Seen = seenBy st call p sent in
-      goes-to p sent others none (st .sync .syncPeer) batch (onTick k m) (λ other t. to-sync-peer s (inr k) m (eqb-false 4 2 refl) t)
-      (λ q. apart s 13 2 refl k (q .kind)) parts refl
+      goes-to p sent others none (st .sync .syncPeer) batch (onTick k m) (λ other t. to-sync-peer (inr k) m (eqb-false 4 2 refl) t)
+      (λ q. apart k (q .kind) refl) parts refl
   course-infos {p = p} (courses.ticks k m) sent others none batch parts =
-      let s : Seen = seenBy st call p sent in
-      goes-to p sent others none (st .sync .syncPeer) batch (onTick k m) (λ other t. to-sync-peer s (inr k) m (eqb-false 0 2 refl) t)
-      (λ q. apart s 13 2 refl k (q .kind)) parts refl
+      goes-to p sent others none (st .sync .syncPeer) batch (onTick k m) (λ other t. to-sync-peer (inr k) m (eqb-false 0 2 refl) t)
+      (λ q. apart k (q .kind) refl) parts refl
   course-infos {p = p} (courses.visits peer k m l) sent others none batch parts =
-      let s : Seen = seenBy st call p sent in
-      goes-to p sent others none peer batch (onSyncedTick peer k m l) (λ other t. to-first s peer k m l (eqb-false 0 2 refl) t)
-      (λ q. apart s 13 2 refl k (q .kind)) parts refl
+      goes-to p sent others none peer batch (onSyncedTick peer k m l) (λ other t. to-first peer k m l (eqb-false 0 2 refl) t)
+      (λ q. apart k (q .kind) refl) parts refl
   course-infos {p = p} (courses.worksFirst k m u) sent others none batch parts =
-      let s : Seen = seenBy st call p sent in
       goes-to p sent others none (st .sync .syncPeer) batch (onProgress (record { kind = k; mode = m }) u)
-      (λ other t. to-sync-peer s (inl k) m (eqb-false 0 2 refl) t) (λ q. apart s 11 2 refl k (q .kind)) parts
+      (λ other t. to-sync-peer (inl k) m (eqb-false 0 2 refl) t) (λ q. apart k (q .kind) refl) parts
       (ap (λ (used : Bool). cond used (st .sync .sendClock) (sendSyncInfo (st .settings) (call .clock) (st .sync .sendClock))) u)
   course-infos {p = p} (courses.worksAgain k m u) sent others none batch parts =
-      let s : Seen = seenBy st call p sent in
-      nothing-said s others none parts (λ other t. to-nobody-again s other k u (eqb-false 0 2 refl) t)
+      nothing-said others none parts (λ other t. to-nobody-again other k u (eqb-false 0 2 refl) t)
       (ap (λ (used : Bool). cond used (st .sync .sendClock) (sendSyncInfo (st .settings) (call .clock) (st .sync .sendClock))) u)
 
 pub sync-infos-kept : (st : State) (call : Call) → Finished st call → SyncInfos (seenAs st call)
@@ -319,9 +313,9 @@ sync-infos-kept st call f =
     let front : List Command = commandsFrom 0 (t .announced) in
     let others : List Command = front ++ parts .requests in
     let none : All (NotOfKind Numbers.aSyncInfo) others =
-        all-append (NotOfKind Numbers.aSyncInfo) front (parts .requests)
-        (none-of Numbers.anAnnouncement Numbers.aSyncInfo refl front (front-kind (seenBy st call p sent) (t .announced) (t .front p sent)))
-        (none-of Numbers.aRequest Numbers.aSyncInfo refl (parts .requests) (parts .areRequests)) in
+    all-append (NotOfKind Numbers.aSyncInfo) front (parts .requests)
+    (none-of Numbers.anAnnouncement Numbers.aSyncInfo refl front (front-kind (seenBy st call p sent) (t .announced) (t .front p sent)))
+    (none-of Numbers.aRequest Numbers.aSyncInfo refl (parts .requests) (parts .areRequests)) in
     let past : st .sync .sendClock .lastSend ≤ call .clock = le-trans (f .well .sync .lastSend) (f .passed .clock) in
     rw (seen-by st call)
     (course-infos st call past (t .course) sent others none (parts .batch)
