@@ -26,11 +26,15 @@ use Rattle.model.specs.Steps
 use Rattle.model.specs.Steps.{Step, Args, isCheck, planOf, plan, remaining, retried, performed, commands}
 use Rattle.model.specs.Calls.{Call, stepOf, argsOf}
 use Rattle.model.specs.Book.{requestedIn}
-use Rattle.model.specs.Promises.Batches.{Alike, Follows, EachNext, StartsAt, Batches}
+use Rattle.model.specs.Promises.Numbers
+use Rattle.model.specs.Promises.Words.{peers}
+use Rattle.model.specs.Promises.Asked.{AsksFresh}
+use Rattle.model.specs.Promises.Batches.{Alike, Follows, EachNext, StartsAt, OneBatch, Uncut, Batches}
 use Rattle.model.proofs.Widths.{WellAct}
 use Rattle.model.proofs.RequestedLaws.{requestedBySendings, requested-commands}
 use Rattle.model.proofs.StepKindLaws.{check-of-kind}
 use Rattle.model.proofs.Promises.SeenLaws.{seenAs, Finished, numbers-fit}
+use Rattle.model.proofs.Promises.CheckAsked.{fresh-performed}
 use Rattle.model.proofs.Promises.PairLaws.{Pairwise, all-of, pairwise-append, pairwise-map, pairwise-next}
 use Rattle.model.proofs.Promises.PairLaws.{OfFirst, Neighbours, next-of, next-append, next-map}
 use Rattle.model.proofs.Promises.ItemLaws.{BatchBelow, batches-keyed, batches-rise}
@@ -446,28 +450,7 @@ module _ (st : State) (call : Call) (f : Finished st call) where
       (performed-apart (a .gate) (a .clock) (plan st a .acts) (markAllRetried (retried st a) (remaining st a (a .step))) (acts-well st call f)
       (plan-differ st a (a .step)))
 
-  -- a step other than a check sends nothing again
-  sendings-next : (call .kind ≡ 12 → ⊥) → Neighbours Apart sendings
-  unfolding argsOf retrySendings batchesOf
-  sendings-next n =
-      let fit = numbers-fit st call f in
-      let e : isCheck (stepOf call) ≡ false = sym (check-of-kind call (fit .kindLow) (fit .kindHigh)) ∙ ne-eqb (call .kind) 12 n in
-      subst (λ (items : List Item). Neighbours Apart (retrySendings items ++ performed st (argsOf call) .sendings))
-      (sym (unretried st (argsOf call) e)) performed-next
-
-  pub batches-kept : Batches (seenAs st call)
-  unfolding commands
-  batches-kept =
-      record {
-        sizes = commands-sized 0 sendings;
-        from = starts-at 0 (commandsFrom 0 sendings) (commands-start 0 sendings sendings-send);
-        follows = each-next Follows (commandsFrom 0 sendings) (commands-follow 0 sendings sendings-send);
-        together = λ n.
-            each-next (λ (c d : Command). Alike c d → d .batch ≡ c .batch) (commandsFrom 0 sendings)
-            (commands-together 0 sendings (sendings-next n) sendings-send);
-      }
-
--- ---- a check's two parts
+-- ---- what is sent again, and what is asked for anew
 
 commands-append : (batch : ℕ) (ss ts : List Sending) → (behind : ℕ) × (commandsFrom batch (ss ++ ts) ≡ commandsFrom batch ss ++ commandsFrom behind ts)
 commands-append batch [] ts = (batch, refl)
@@ -484,19 +467,17 @@ retries-next items =
     (pairwise-map (λ (b : Batch). request (b .typeId) (b .peer) (b .ids)) BatchBelow Apart (λ b c l k h t p. below-differ b c l t p)
     (batchesOf items) (batches-rise items))
 
--- In any step what is sent again stands before what is asked for anew, and no list of either is cut into two batches.
-pub record InTwo (st : State) (call : Call) : Type 0 where
-  pub again : List Command
-  pub anew : List Command
-  pub parts : commands st (argsOf call) ≡ again ++ anew
-  pub requestedAgain : requestedIn again ≡ requestedBySendings (retrySendings (retried st (argsOf call)))
-  pub requestedAnew : requestedIn anew ≡ requestedBySendings (performed st (argsOf call) .sendings)
-  pub togetherAgain : EachNext (λ (c d : Command). Alike c d → d .batch ≡ c .batch) again
-  pub togetherAnew : EachNext (λ (c d : Command). Alike c d → d .batch ≡ c .batch) anew
+-- a step other than a check sends nothing again
+none-again : (st : State) (call : Call) → Finished st call → (call .kind ≡ Numbers.check → ⊥) → commandsFrom 0 (retrySendings (retried st (argsOf call))) ≡ []
+unfolding argsOf retrySendings batchesOf
+none-again st call f n =
+    let fit = numbers-fit st call f in
+    let e : isCheck (stepOf call) ≡ false = sym (check-of-kind call (fit .kindLow) (fit .kindHigh)) ∙ ne-eqb (call .kind) Numbers.check n in
+    ap (λ (items : List Item). commandsFrom 0 (retrySendings items)) (unretried st (argsOf call) e)
 
-pub in-two : (st : State) (call : Call) → Finished st call → InTwo st call
+uncut : (st : State) (call : Call) → Finished st call → Uncut (seenAs st call)
 unfolding commands
-in-two st call f =
+uncut st call f =
     let again : List Sending = retrySendings (retried st (argsOf call)) in
     let anew : List Sending = performed st (argsOf call) .sendings in
     let (behind, e) = commands-append 0 again anew in
@@ -504,12 +485,22 @@ in-two st call f =
       again = commandsFrom 0 again;
       anew = commandsFrom behind anew;
       parts = e;
-      requestedAgain = requested-commands 0 again;
-      requestedAnew = requested-commands behind anew;
-      togetherAgain =
-          each-next (λ (c d : Command). Alike c d → d .batch ≡ c .batch) (commandsFrom 0 again)
+      oneAgain =
+          each-next OneBatch (commandsFrom 0 again)
           (commands-together 0 again (retries-next (retried st (argsOf call))) (retries-send (retried st (argsOf call))));
-      togetherAnew =
-          each-next (λ (c d : Command). Alike c d → d .batch ≡ c .batch) (commandsFrom behind anew)
-          (commands-together behind anew (performed-next st call f) (performed-send st call f));
+      oneAnew = each-next OneBatch (commandsFrom behind anew) (commands-together behind anew (performed-next st call f) (performed-send st call f));
+      elsewhere = none-again st call f;
+      fresh = λ check gate.
+          subst (AsksFresh (seenAs st call) (peers (seenAs st call))) (sym (requested-commands behind anew)) (fresh-performed st call f gate check);
+    }
+
+pub batches-kept : (st : State) (call : Call) → Finished st call → Batches (seenAs st call)
+unfolding commands
+batches-kept st call f =
+    let all = sendings st call f in
+    record {
+      sizes = commands-sized 0 all;
+      from = starts-at 0 (commandsFrom 0 all) (commands-start 0 all (sendings-send st call f));
+      follows = each-next Follows (commandsFrom 0 all) (commands-follow 0 all (sendings-send st call f));
+      uncut = uncut st call f;
     }

@@ -406,6 +406,16 @@ check-step : (call : Call) → call .kind ≡ Numbers.check → stepOf call ≡ 
 unfolding stepOf
 check-step call e = rw e
 
+-- what a check asks for anew are the fresh ids
+pub fresh-performed : (st : State) (call : Call) → Finished st call → call .gate ≡ 1 → call .kind ≡ Numbers.check
+    → AsksFresh (seenAs st call) (peers (seenAs st call)) (requestedBySendings (steps.performed st (argsOf call) .sendings))
+unfolding argsOf
+fresh-performed st call f gate check =
+    let s = seenAs st call in
+    let a = argsOf call in
+    subst (λ (sendings : List Sending). AsksFresh s (peers s) (requestedBySendings sendings))
+    (sym (performed-behind st a (check-step call check) (eq-eqb (call .gate) 1 gate))) (asks-fresh s check (stamps-past st call f) (again st a) (peers s))
+
 pub check-asked : (st : State) (call : Call) → Finished st call → call .gate ≡ 1 → call .kind ≡ Numbers.check → AsksAgain (seenAs st call)
 unfolding argsOf judged
 check-asked st call f gate check =

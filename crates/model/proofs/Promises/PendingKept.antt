@@ -14,10 +14,12 @@ use Rattle.fields.specs.Filter.{kept}
 use Rattle.fields.specs.Sort.{sorted}
 use Rattle.fields.proofs.AllLaws.{either}
 use Rattle.fields.proofs.OrderLaws.{not-both}
+use Rattle.fields.specs.Order.{before}
+use Rattle.model.proofs.Well.{RisingIds}
 use Rattle.model.specs.Protocol.{Id, headerType, isAmong}
 use Rattle.model.specs.Settings as settings
 use Rattle.model.specs.Delivery
-use Rattle.model.specs.Delivery.{Request, Verdict, verdict, verdictNumber, checkTimeouts, judged}
+use Rattle.model.specs.Delivery.{idsOf, Request, Verdict, verdict, verdictNumber, checkTimeouts, judged}
 use Rattle.model.specs.Delivery.{markReceived, pendingAfterEviction, evictedAfterEviction, purgePeer, purgeAll}
 use Rattle.model.specs.State.{State, Mode, syncing, seeking, isMode}
 use Rattle.model.specs.Peers.{firstOf, selectPeer}
@@ -34,7 +36,7 @@ use Rattle.model.specs.Calls.{Call, stepOf, argsOf}
 use Rattle.model.specs.Promises.Numbers
 use Rattle.model.specs.Promises.Words.{Seen, Among}
 use Rattle.model.specs.Promises.Pending as pending
-use Rattle.model.specs.Promises.Pending.{Retried, TakenOut, Becomes, asRequested, Entered, Stayed, Pending, Evicted}
+use Rattle.model.specs.Promises.Pending.{Retried, TakenOut, Becomes, asRequested, Entered, Stayed, IdsRise, Pending, Evicted}
 use Rattle.model.proofs.Widths.{WellAct}
 use Rattle.model.proofs.PlanLaws.{plan-well}
 use Rattle.model.proofs.RequestedLaws.{requestedItem, requestedBySendings, requested-append, requested-commands, requested-retries}
@@ -323,5 +325,19 @@ module _ (st : State) (call : Call) (f : Finished st call) where
           let r = retry-pending (p .0) (among-sorted itemBelow (p .0) (retried st (argsOf call)) (p .1)) in
           (r .0, r .1, r .2 ∙ sym (ap (λ (x : Requested). x .id) (p .2)))
 
+above-ids : (id : Id) (rs : List Request) → All (λ (other : Id). before id other ≡ true) (idsOf rs) → All (λ (r : Request). before id (r .id) ≡ true) rs
+above-ids id [] h = tt
+above-ids id (r ∷ rs) h = (h .0, above-ids id rs (h .1))
+
+ids-rise : (rs : List Request) → RisingIds (idsOf rs) → IdsRise rs
+ids-rise [] h = tt
+ids-rise (r ∷ rs) h = (above-ids (r .id) rs (h .0), ids-rise rs (h .1))
+
 pub pending-kept : (st : State) (call : Call) → Finished st call → Pending (seenAs st call)
-pending-kept st call f = record { stays = pending-stays st call f; comes = pending-comes st call f; asked = pending-asked st call f }
+pending-kept st call f =
+    record {
+      stays = pending-stays st call f;
+      comes = pending-comes st call f;
+      asked = pending-asked st call f;
+      rising = ids-rise (after st (argsOf call) .pending) (f .wellAfter .rising);
+    }

@@ -3,7 +3,9 @@ use Prim.Native.Nat.{ℕ, suc, _+_, _≤_, _<_}
 use mathlib.Core.Path.{_≡_}
 use mathlib.Core.Logic.{_⊎_}
 use mathlib.Core.List.{List, [], _∷_, _++_}
+use mathlib.Core.Bool.{true}
 use Rattle.fields.specs.Facts.{All}
+use Rattle.fields.specs.Order.{before}
 use Rattle.model.specs.Delivery.{Request}
 use Rattle.model.specs.State.{syncing}
 use Rattle.model.specs.Book.{Requested, requestedIn}
@@ -86,11 +88,17 @@ pub record Stayed (s : Seen) (r : Request) : Type 0 where
   pub notTaken : TakenOut s old → ⊥
   pub becomes : Becomes s old r
 
+-- ids rise strictly, byte by byte, so that none stands twice
+abbrev pub IdsRise : List Request → Type 0
+IdsRise [] = Unit {0}
+IdsRise (r ∷ requests) = All (λ (later : Request). before (r .id) (later .id) ≡ true) requests × IdsRise requests
+
 pub record Pending (s : Seen) : Type 0 where
   pub stays : (r : Request) → Among r (s .before .pending) → (TakenOut s r → ⊥) → (now : Request) × Becomes s r now × Among now (s .after .pending)
   pub comes : (r : Request) → Among r (s .after .pending) → Stayed s r ⊎ Entered s r
   -- whatever is asked for is pending afterwards
   pub asked : (q : Requested) → Among q (requestedIn (s .sent)) → (r : Request) × Among r (s .after .pending) × (r .id ≡ q .id)
+  pub rising : IdsRise (s .after .pending)
 
 pub record Evicted (s : Seen) : Type 0 where
   -- "appends every given id to the evicted list, repeats included"
