@@ -34,3 +34,4 @@ pub mod PartLaws
 pub mod CourseLaws
 pub mod SyncInfosKept
 pub mod MarksKept
+pub mod Kept
