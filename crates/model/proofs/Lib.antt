@@ -4,6 +4,7 @@ pub mod BalanceLaws
 pub mod BatchLaws
 pub mod BoundLaws
 pub mod Cases
+pub mod CaseTables
 pub mod CommandLaws
 pub mod Demand3
 pub mod EnteringLaws
@@ -14,6 +15,7 @@ pub mod FormedLaws
 pub mod HeaderLaws
 pub mod IdLaws
 pub mod ImageLaws
+pub mod LayoutCases
 pub mod ListLaws
 pub mod ModeLaws
 pub mod PeerLaws

@@ -1,7 +1,9 @@
 pub mod Layout
+pub mod LayoutCases
 pub mod Book
 pub mod Calls
 pub mod Cases
+pub mod CaseTables
 pub mod Check
 pub mod Commands
 pub mod Delivery
