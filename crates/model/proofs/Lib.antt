@@ -7,6 +7,7 @@ pub mod Cases
 pub mod CaseTables
 pub mod CommandLaws
 pub mod Demand3
+pub mod EdgeCases
 pub mod EnteringLaws
 pub mod EntryLaws
 pub mod FateLaws

@@ -8,6 +8,7 @@ pub mod Check
 pub mod Commands
 pub mod Delivery
 pub mod Demand3
+pub mod EdgeCases
 pub mod Events
 pub mod Image
 pub mod Lists
