@@ -21,7 +21,7 @@ use Rattle.model.specs.Commands as commands
 use Rattle.model.specs.Calls as calls
 use Rattle.model.specs.Cases as starred
 use Rattle.model.specs.CaseTables.{Entry, allAsExpected}
-use Rattle.model.specs.EdgeCases.{Case, found, refusals, callsRead, picksAndSends, announcedIds, windows, advances, deliveryChecks, messages, modeSteps}
+use Rattle.model.specs.EdgeCases.{Case, found, refusals, callsRead, picksAndSends, announcedIds, windows, viewReaders, advances, deliveryChecks, messages, modeSteps}
 use Rattle.model.proofs.CaseTables.{each}
 
 -- Every definition that a case computes with, opened by one name.
@@ -76,6 +76,13 @@ window-test = refl
 
 pub window-cases : All (λ (e : Entry Case). found (e .case) ≡ e .expected) windows
 window-cases = each found windows window-test
+
+view-reader-test : allAsExpected found viewReaders ≡ true
+unfolding opened
+view-reader-test = refl
+
+pub view-reader-cases : All (λ (e : Entry Case). found (e .case) ≡ e .expected) viewReaders
+view-reader-cases = each found viewReaders view-reader-test
 
 advance-test : allAsExpected found advances ≡ true
 unfolding opened

@@ -5,7 +5,6 @@ use mathlib.Core.List.{List, [], _∷_}
 use Rattle.model.specs.Cases.{sameLists}
 
 infix 4 _gives_
-
 -- A case and what it should give.
 pub record Entry (Case : Type 0) : Type 0 where
   pub case : Case

@@ -4,7 +4,7 @@ use mathlib.Core.Bool.{Bool, true, false, cond, _&&_}
 use mathlib.Core.List.{List, [], _∷_, _++_, map}
 use mathlib.Core.Option.{Option, none, some}
 use lib.ListN.{length, replicate}
-use lib.Dec.{leb}
+use lib.Dec.{eqb, leb}
 use Rattle.fields.specs.Number.{fromBe, toBe}
 use Rattle.model.specs.Protocol.{Id}
 use Rattle.model.specs.Delivery.{Request}
@@ -110,6 +110,14 @@ rows (row ∷ others) (suc (suc n)) = rows others (suc n)
 -- of the view in which every height has a section, the rows up to a height
 abbrev pub rowsTo : ℕ → View
 rowsTo last height = cond (leb height last) (starred.heightView height) none
+
+-- the same, without a section at height 1
+abbrev pub emptyFirst : ℕ → View
+emptyFirst last height = cond (eqb height 1) (some (present [])) (rowsTo last height)
+
+-- no row, chain height 1, peer 5 listed
+abbrev pub blind : Step → Args
+blind step = seeing (argsAt 200 1 (5 ∷ []) step) (rows [])
 
 -- ---- how results are told
 
@@ -399,6 +407,9 @@ picksAndSends =
     -- nobody: the set is emptied, nothing is reset
     ∷ (leaves (seekingCore (4 ∷ []) 9) (at 200 pick) gives
     (0 ∷ 1 ∷ []) ∷ (0 ∷ 0 ∷ 0 ∷ []) ∷ (200 ∷ 0 ∷ 0 ∷ 9 ∷ []) ∷ (0 ∷ 0 ∷ []) ∷ [] ∷ [] ∷ [])
+    -- picked again 199 after the last send, which stays
+    ∷ (leaves (after (pickedAt 200) (at 250 endOfStream)) (argsAt 399 0 (5 ∷ []) pick) gives
+    (0 ∷ 2 ∷ []) ∷ (5 ∷ 0 ∷ 0 ∷ []) ∷ (399 ∷ 399 ∷ 200 ∷ 0 ∷ []) ∷ (0 ∷ 0 ∷ []) ∷ [] ∷ [] ∷ [])
     -- rule 2 at the interval less one, at the interval, and for the 2^32nd time
     ∷ (sends syncingCore (at 199 scheduledTick) gives (0 ∷ 2 ∷ []) ∷ [])
     ∷ (leaves syncingCore (at 199 scheduledTick) gives
@@ -425,9 +436,10 @@ announcedIds =
     ∷ (sends (holding syncing (waits 5 102 7 0 1 ∷ [])) (at 50 (announced 8 102 (ids (5 ∷ 5 ∷ [])))) gives
     (0 ∷ 2 ∷ []) ∷ pending 5 102 7 0 1 ∷ [])
     ∷ (sends syncingCore (gateShut (at 50 (announced 8 102 (ids (5 ∷ []))))) gives (0 ∷ 2 ∷ []) ∷ [])
-    -- a needed modifier, of any type, from the sync peer
+    -- a needed modifier, of any type, from the sync peer; stored
     ∷ (sends syncedCore (at 50 (neededModifier 103 (ids (5 ∷ [])))) gives
     (0 ∷ 3 ∷ []) ∷ requests 0 103 7 (5 ∷ []) ∷ pending 5 103 7 50 0 ∷ [])
+    ∷ (sends syncedCore (storing (at 50 (neededModifier 103 (ids (5 ∷ [])))) (pair 103 5 ∷ [])) gives (0 ∷ 3 ∷ []) ∷ [])
     -- requests of at most 400, those of one list with its number
     ∷ (inRuns 0 gives [] ∷ [])
     ∷ (inRuns 400 gives (400 ∷ []) ∷ [])
@@ -475,6 +487,43 @@ windows =
     -- 192 heights: from 307, up to 499
     ∷ (refusedAs (core synced (withDownloaded baseSync 307)) (gateShut (seeing (argsAt 50 500 (5 ∷ []) progress) (rowsTo 499))) gives number 0)
     ∷ (refusedAs (core synced (withDownloaded baseSync 307)) (gateShut (seeing (argsAt 50 500 (5 ∷ []) progress) (rowsTo 498))) gives number 9) ∷ []
+
+-- Which steps read the view: 9 for those that would read height 1 (peer 5 is listed, the chain is that high), which has no row.
+abbrev pub viewReaders : List (Entry Case)
+viewReaders =
+    (refusedAs (newCore 0) (blind start) gives number 9)
+    ∷ (refusedAs (seekingCore [] 0) (blind pick) gives number 0)
+    -- in syncing
+    ∷ (refusedAs syncingCore (blind (neededModifier 102 (ids (5 ∷ [])))) gives number 0)
+    ∷ (refusedAs syncingCore (blind (reorg 0)) gives number 9)
+    ∷ (refusedAs syncingCore (blind (announced 8 101 [])) gives number 9)
+    ∷ (refusedAs syncingCore (blind (announced 8 102 [])) gives number 0)
+    ∷ (refusedAs syncingCore (blind (announced 8 101 (ids (5 ∷ [])))) gives number 0)
+    ∷ (refusedAs syncingCore (blind (syncInfo 7 true (some 1) [])) gives number 9)
+    ∷ (refusedAs syncingCore (blind (syncInfo 7 true (some 2) [])) gives number 0)
+    ∷ (refusedAs syncingCore (blind (syncInfo 7 true (some 3) [])) gives number 0)
+    ∷ (refusedAs syncingCore (blind otherMessage) gives number 0)
+    ∷ (refusedAs syncingCore (blind (lostPeer 7)) gives number 0)
+    ∷ (refusedAs syncingCore (blind (received [])) gives number 9)
+    ∷ (refusedAs syncingCore (blind (evicted [])) gives number 0)
+    ∷ (refusedAs syncingCore (blind progress) gives number 9)
+    ∷ (refusedAs syncingCore (blind check) gives number 9)
+    ∷ (refusedAs syncingCore (blind scheduledTick) gives number 0)
+    ∷ (refusedAs syncingCore (blind endOfStream) gives number 0)
+    -- in synced
+    ∷ (refusedAs syncedCore (blind (announced 8 101 [])) gives number 0)
+    ∷ (refusedAs syncedCore (blind (syncInfo 7 true (some 1) [])) gives number 0)
+    ∷ (refusedAs syncedCore (blind (received [])) gives number 9)
+    ∷ (refusedAs syncedCore (blind progress) gives number 9)
+    ∷ (refusedAs syncedCore (blind check) gives number 0)
+    ∷ (refusedAs syncedCore (blind scheduledTick) gives number 9)
+    ∷ (refusedAs syncedCore (seeing (argsAt 200 1 [] scheduledTick) (rows [])) gives number 0)
+    -- a section tick reads for rule 5 with nobody listed, and for rule 4 where rule 5 has stopped
+    ∷ (refusedAs syncedCore (seeing (argsAt 200 2 [] sectionTick) (rows (present [] ∷ []))) gives number 9)
+    ∷ (refusedAs syncedCore (seeing (argsAt 200 2 (5 ∷ []) sectionTick) (rows (present (section 102 11 false ∷ []) ∷ []))) gives number 9)
+    -- rule 5 passes height 1, so rule 4 reads 2 to 193
+    ∷ (refusedAs syncedCore (gateShut (seeing (argsAt 200 500 (5 ∷ []) sectionTick) (emptyFirst 193))) gives number 0)
+    ∷ (refusedAs syncedCore (gateShut (seeing (argsAt 200 500 (5 ∷ []) sectionTick) (emptyFirst 192))) gives number 9) ∷ []
 
 -- Rule 5, by start.
 abbrev pub advances : List (Entry Case)
@@ -544,6 +593,8 @@ deliveryChecks =
     -- nobody listed, or the gate shut: handed out and lost
     ∷ (answers (evicting 2 [] (5 ∷ 6 ∷ [])) (checking []) gives (0 ∷ 0 ∷ 2 ∷ 0 ∷ 0 ∷ 0 ∷ 0 ∷ 0 ∷ []) ∷ [])
     ∷ (answers (evicting 2 [] (5 ∷ 6 ∷ [])) (gateShut (checking (8 ∷ []))) gives (0 ∷ 0 ∷ 2 ∷ 0 ∷ 0 ∷ 0 ∷ 0 ∷ 0 ∷ []) ∷ [])
+    -- no other step judges or hands out
+    ∷ (answers (evicting 2 (waits 5 102 7 0 0 ∷ []) (5 ∷ 6 ∷ [])) (at 10000 otherMessage) gives (0 ∷ 0 ∷ 0 ∷ 0 ∷ 0 ∷ 1 ∷ 2 ∷ 0 ∷ []) ∷ [])
     -- rule 5 in syncing, not in synced
     ∷ (leaves syncingCore (seeing (argsAt 50 1 [] check) (rows (present [] ∷ []))) gives
     (0 ∷ 2 ∷ []) ∷ (7 ∷ 1 ∷ 0 ∷ []) ∷ (50 ∷ 0 ∷ 0 ∷ 0 ∷ []) ∷ (0 ∷ 0 ∷ []) ∷ [] ∷ [] ∷ [])

@@ -1,5 +1,5 @@
 -- The byte examples of docs/LAYOUT.md in one table, with the tests of lists and areas at their edges: what the definitions make of bytes.
-use Prim.Native.Nat.{ℕ}
+use Prim.Native.Nat.{ℕ, zero, suc}
 use mathlib.Core.Bool.{Bool, true, false}
 use mathlib.Core.List.{List, [], _∷_, _++_, map}
 use mathlib.Core.Option.{Option, none, some}
@@ -13,7 +13,7 @@ use Rattle.model.specs.Sections.{Section, Header, absent, present}
 use Rattle.model.specs.Image.{bit, headerBytes, encode, decode, requestBytes, requestOf, countsFit, wellFormed}
 use Rattle.model.specs.Lists.{idsIn, peersIn, pairsIn, viewOf, idsFit, continuationFits, peersFit, pairsFit, rowFits, viewFits}
 use Rattle.model.specs.Commands.{allCommandBytes, commandsIn}
-use Rattle.model.specs.Calls.{questionPairs}
+use Rattle.model.specs.Calls.{Call, Answer, Result, Asked, questionPairs, stepRefusal, step, question}
 use Rattle.model.specs.Cases.{syncingState}
 use Rattle.model.specs.CaseTables.{Entry, _gives_}
 
@@ -34,6 +34,11 @@ pub data Case : Type 0 where
   commandsRead : List ℕ → Case
   -- the question's pairs: its flag
   questioned : ℕ → State → Case
+  -- the entries on whole areas, all bytes of the command area 77: what a step is refused with, given so many of them; a step; a
+  -- question by its flag
+  refusedAs : List ℕ → ℕ → Call → Case
+  stepped : List ℕ → Call → Case
+  asked : List ℕ → ℕ → Case
   -- tests, 1 where the bytes pass
   idsTested continuationTested peersTested pairsTested rowTested viewTested countsTested : List ℕ → Case
   -- whether the sound area below is well formed with these bytes changed: an offset and the byte there, and so on
@@ -63,6 +68,9 @@ stateNumbers st =
     ∷ (st .settings .timeout ∷ st .settings .maxChecks ∷ st .settings .minSendInterval ∷ st .settings .stallTimeout ∷ [])
     ∷ (st .sync .lastProgress ∷ st .sync .sendClock .lastSend ∷ st .sync .syncPeer ∷ [])
     ∷ (st .sync .sendClock .sends ∷ st .sync .downloaded ∷ st .sync .knownTip ∷ []) ∷ []
+
+abbrev pub answerNumbers : Answer → List ℕ
+answerNumbers a = a .number ∷ a .outcome ∷ a .retried ∷ a .fresh ∷ a .abandoned ∷ a .forgotten ∷ a .pending ∷ a .evicted ∷ a .length ∷ []
 
 abbrev pub told : Bool → List (List ℕ)
 told test = (bit test ∷ []) ∷ []
@@ -135,10 +143,20 @@ soundArea =
     ∷ 0x00 ∷ 0x00 ∷ 0x00 ∷ 0x00 ∷ 0x00 ∷ 0x00 ∷ 0x03 ∷ 0xe8 ∷ 0x00 ∷ 0x00 ∷ 0x00 ∷ 0x00
     ∷ replicate 8 0x00))))
 
+-- bytes with some of them changed: an offset and the byte there, and so on
 abbrev pub withBytes : List ℕ → List ℕ → List ℕ
 withBytes [] bytes = bytes
 withBytes (at ∷ []) bytes = bytes
 withBytes (at ∷ (byte ∷ others)) bytes = withBytes others (set bytes at byte)
+
+-- the whole of it, 65,536 bytes, with the evicted ids ee × 32 and 11 × 32 at its end
+abbrev pub wholeArea : List ℕ
+wholeArea = withBytes (73 ∷ 2 ∷ []) soundArea ++ (replicate 62796 0x00 ++ (all32 0xee ++ all32 0x11))
+
+-- kind and clock; nothing is lent
+abbrev pub callOf : ℕ → ℕ → Call
+callOf kind clock =
+    record { kind = kind; clock = clock; gate = 1; height = 0; peer = 0; typeid = 0; fork = 0; parsed = 0; hastip = 0; tip = 0; ids = []; continuation = []; stored = []; peers = []; view = replicate 4 0x00 }
 
 abbrev pub partsOf : List ℕ → List ℕ → List (List ℕ)
 partsOf [] bytes = []
@@ -152,6 +170,11 @@ place typeId byte stored = typeId ∷ all32 byte ++ (stored ∷ [])
 -- "A view of height 401 with one row of one section, block transactions cc × 32, not stored"
 abbrev pub viewOf401 : List ℕ
 viewOf401 = 0x00 ∷ 0x00 ∷ 0x01 ∷ 0x91 ∷ 0x01 ∷ 0x66 ∷ all32 0xcc ++ (0x00 ∷ replicate 68 0x00)
+
+-- so many pairs of one type, their ids rising: the first two bytes are a number from here on
+abbrev pub risingPairs : ℕ → ℕ → List ℕ
+risingPairs zero from = []
+risingPairs (suc n) from = 0x66 ∷ toBe 2 from ++ (replicate 30 0x00 ++ risingPairs n (suc from))
 
 abbrev pub absentRow : List ℕ
 absentRow = 0xff ∷ replicate 102 0x00
@@ -221,6 +244,13 @@ found (viewRead height bytes) = headerNumbers (viewOf bytes height)
 found (written commands) = allCommandBytes commands ∷ []
 found (commandsRead bytes) = allCommandNumbers (commandsIn bytes)
 found (questioned flag st) = questionPairs st flag
+found (stepped state c) =
+    let r : Result = step state (replicate 65536 0x77) c in
+    answerNumbers (r .answer) ∷ take 76 (r .state) ∷ take 18 (r .commands) ∷ []
+found (refusedAs state count c) = (stepRefusal state (replicate count 0x77) c ∷ []) ∷ []
+found (asked state flag) =
+    let a : Asked = question state (replicate 65536 0x77) flag in
+    (a .number ∷ a .length ∷ []) ∷ take 68 (a .commands) ∷ []
 found (idsTested bytes) = told (idsFit bytes)
 found (continuationTested bytes) = told (continuationFits bytes)
 found (peersTested bytes) = told (peersFit bytes)
@@ -299,6 +329,8 @@ listTests =
     ∷ (idsTested (replicate 31 0) gives fails)
     ∷ (idsTested (replicate 32 0) gives passes)
     ∷ (idsTested (replicate 33 0) gives fails)
+    ∷ (idsTested (replicate 32768 0) gives passes)
+    ∷ (idsTested (replicate 32800 0) gives fails)
     ∷ (continuationTested (replicate 63 0) gives fails)
     ∷ (continuationTested (replicate 12800 0) gives passes)
     ∷ (continuationTested (replicate 12832 0) gives fails)
@@ -317,6 +349,8 @@ listTests =
     ∷ (pairsTested (0x66 ∷ all32 0xaa ++ (0x65 ∷ all32 0xbb)) gives fails)
     ∷ (pairsTested (0x65 ∷ all32 0xbb ++ (0x66 ∷ all32 0xaa)) gives passes)
     ∷ (pairsTested (0x65 ∷ all32 0xaa ++ (0x66 ∷ all32 0xaa ++ (0x66 ∷ all32 0xaa))) gives fails)
+    ∷ (pairsTested (risingPairs 1024 0) gives passes)
+    ∷ (pairsTested (risingPairs 1025 0) gives fails)
     -- a row: count 0 to 3 or 255
     ∷ (rowTested emptyRow gives passes)
     ∷ (rowTested threePlaces gives passes)
@@ -393,9 +427,10 @@ areaTests =
     ∷ (changed (2559 ∷ 1 ∷ []) gives fails)
     ∷ (changed (2668 ∷ 1 ∷ []) gives fails)
     ∷ (changed (71 ∷ 1 ∷ []) gives fails)
-    -- the second id equal to the first, and below it
+    -- the second id equal to the first, and below it; equal, with a higher peer
     ∷ (changed (2645 ∷ 0xaa ∷ []) gives fails)
     ∷ (changed (2645 ∷ 0xa9 ∷ []) gives fails)
+    ∷ (changed (2645 ∷ 0xaa ∷ 2653 ∷ 8 ∷ []) gives fails)
     -- a type's high byte
     ∷ (changed (2600 ∷ 1 ∷ []) gives fails)
     -- a stamp after the last clock
@@ -407,18 +442,28 @@ areaTests =
     ∷ (changed (2667 ∷ 1 ∷ []) gives fails)
     ∷ (changed (2655 ∷ 0x66 ∷ 2667 ∷ 1 ∷ []) gives passes) ∷ []
 
--- Whole areas: the opened core; then the last and first bytes of stalled peers, records and evicted ids, with zeros around them.
+-- A whole area: its stalled peers, records and evicted ids at their places, zeros around them, and nothing after 65,536 bytes.
 abbrev pub wholeAreas : List (Entry Case)
 wholeAreas =
-    (area (0 ∷ 80 ∷ 65530 ∷ 10 ∷ []) openedCore gives
-    (0x45 ∷ 0x44 ∷ 0x54 ∷ 0x00 ∷ 0x01 ∷ 0x00 ∷ 0x00 ∷ 0x00 ∷ 0x00 ∷ 0x00 ∷ 0x00 ∷ 0x00 ∷ 0x00 ∷ 0x00 ∷ 0x03 ∷ 0xe8
-    ∷ 0x00 ∷ 0x00 ∷ 0x27 ∷ 0x10 ∷ 0x00 ∷ 0x00 ∷ 0x00 ∷ 0x64 ∷ 0x00 ∷ 0x00 ∷ 0x00 ∷ 0xc8 ∷ 0x00 ∷ 0x00 ∷ 0xea ∷ 0x60
-    ∷ 0x00 ∷ 0x00 ∷ 0x00 ∷ 0x00 ∷ 0x00 ∷ 0x00 ∷ 0x03 ∷ 0xe8 ∷ 0x00 ∷ 0x00 ∷ 0x00 ∷ 0x00 ∷ 0x00 ∷ 0x00 ∷ 0x03 ∷ 0xe8
-    ∷ 0x00 ∷ 0x00 ∷ 0x00 ∷ 0x00 ∷ 0x00 ∷ 0x00 ∷ 0x00 ∷ 0x00 ∷ 0x00 ∷ 0x00 ∷ 0x00 ∷ 0x00 ∷ 0x00 ∷ 0x00 ∷ 0x00 ∷ 0x05
-    ∷ replicate 16 0x00) ∷ replicate 6 0x00 ∷ [])
-    ∷ (area (504 ∷ 40 ∷ 2552 ∷ 120 ∷ 65468 ∷ 100 ∷ []) fullState gives
+    (area (504 ∷ 40 ∷ 2552 ∷ 120 ∷ 65468 ∷ 100 ∷ []) fullState gives
     (replicate 15 0x00 ++ (0x05 ∷ 0x01 ∷ 0x02 ∷ 0x03 ∷ 0x04 ∷ 0x05 ∷ 0x06 ∷ 0x07 ∷ 0x08 ∷ replicate 7 0x00 ++ (0x04 ∷ replicate 8 0x00)))
     ∷ (replicate 8 0x00 ++ (all32 0xaa ++ (0x00 ∷ 0x00 ∷ 0x00 ∷ 0x00 ∷ 0x00 ∷ 0x00 ∷ 0x00 ∷ 0x07 ∷ 0x00 ∷ 0x66
     ∷ 0x00 ∷ 0x00 ∷ 0x00 ∷ 0x00 ∷ 0x00 ∷ 0x00 ∷ 0x27 ∷ 0x10 ∷ 0x00 ∷ 0x00 ∷ 0x00 ∷ 0x01
     ∷ all32 0xbb ++ (0x01 ∷ 0x02 ∷ 0x03 ∷ 0x04 ∷ 0x05 ∷ 0x06 ∷ 0x07 ∷ 0x08 ∷ 0x00 ∷ 0x02 ∷ replicate 7 0x00 ++ (0x09 ∷ replicate 8 0x00)))))
     ∷ (replicate 4 0x00 ++ (all32 0xee ++ all32 0x11)) ∷ []) ∷ []
+
+-- The entries: 1 before 2, 2 before 3, 3 before 4; a question and a step that finish.
+abbrev pub entryCases : List (Entry Case)
+entryCases =
+    (refusedAs (replicate 65535 0x00) 65536 (callOf 13 1200) gives (1 ∷ []) ∷ [])
+    ∷ (refusedAs (replicate 65537 0x00) 65536 (callOf 13 1200) gives (1 ∷ []) ∷ [])
+    ∷ (refusedAs (replicate 65536 0x00) 65535 (callOf 13 1200) gives (2 ∷ []) ∷ [])
+    ∷ (refusedAs wholeArea 65535 (callOf 13 999) gives (3 ∷ []) ∷ [])
+    -- a check's pairs in the command area, whose later bytes stay
+    ∷ (asked wholeArea 0 gives
+    (0 ∷ 66 ∷ []) ∷ (0x65 ∷ all32 0x11 ++ (0x65 ∷ all32 0xee ++ (0x77 ∷ 0x77 ∷ []))) ∷ [])
+    -- a scheduled tick at 1,200: last clock and last send are that, two sends are counted, 16 bytes are written
+    ∷ (stepped wholeArea (callOf 13 1200) gives
+    (0 ∷ 0 ∷ 0 ∷ 0 ∷ 0 ∷ 0 ∷ 2 ∷ 2 ∷ 16 ∷ [])
+    ∷ withBytes (14 ∷ 0x04 ∷ 15 ∷ 0xb0 ∷ 46 ∷ 0x04 ∷ 47 ∷ 0xb0 ∷ 59 ∷ 2 ∷ 73 ∷ 2 ∷ []) (take 76 soundArea)
+    ∷ (0x03 ∷ replicate 10 0x00 ++ (0x07 ∷ 0x00 ∷ 0x00 ∷ 0x00 ∷ 0x00 ∷ 0x77 ∷ 0x77 ∷ [])) ∷ []) ∷ []
