@@ -2,8 +2,6 @@
 use Prim.Native.Nat.{ℕ}
 use mathlib.Core.Path.{_≡_, refl}
 use mathlib.Core.Bool.{true}
-use mathlib.Core.List.{List}
-use Rattle.fields.specs.Facts.{All}
 use Rattle.fields.specs.Order.{before, same}
 use Rattle.fields.specs.Entries.{entry, rising}
 use Rattle.model.specs.Protocol as protocol
@@ -20,8 +18,9 @@ use Rattle.model.specs.Lists as lists
 use Rattle.model.specs.Commands as commands
 use Rattle.model.specs.Calls as calls
 use Rattle.model.specs.Cases as starred
-use Rattle.model.specs.CaseTables.{Entry, allAsExpected}
-use Rattle.model.specs.EdgeCases.{Case, found, refusals, callsRead, picksAndSends, announcedIds, windows, viewReaders, advances, deliveryChecks, messages, modeSteps}
+use Rattle.model.specs.CaseTables.{Hold, allAsExpected}
+use Rattle.model.specs.EdgeCases.{found, refusals, callsRead, picksAndSends, announcedIds, windows, viewReaders, advances}
+use Rattle.model.specs.EdgeCases.{deliveryChecks, messages, modeSteps}
 use Rattle.model.proofs.CaseTables.{each}
 
 -- Every definition that a case computes with, opened by one name.
@@ -46,68 +45,68 @@ refusal-test : allAsExpected found refusals ≡ true
 unfolding opened
 refusal-test = refl
 
-pub refusal-cases : All (λ (e : Entry Case). found (e .case) ≡ e .expected) refusals
+pub refusal-cases : Hold found refusals
 refusal-cases = each found refusals refusal-test
 
 call-read-test : allAsExpected found callsRead ≡ true
 unfolding opened
 call-read-test = refl
 
-pub call-read-cases : All (λ (e : Entry Case). found (e .case) ≡ e .expected) callsRead
+pub call-read-cases : Hold found callsRead
 call-read-cases = each found callsRead call-read-test
 
 pick-and-send-test : allAsExpected found picksAndSends ≡ true
 unfolding opened
 pick-and-send-test = refl
 
-pub pick-and-send-cases : All (λ (e : Entry Case). found (e .case) ≡ e .expected) picksAndSends
+pub pick-and-send-cases : Hold found picksAndSends
 pick-and-send-cases = each found picksAndSends pick-and-send-test
 
 announced-id-test : allAsExpected found announcedIds ≡ true
 unfolding opened
 announced-id-test = refl
 
-pub announced-id-cases : All (λ (e : Entry Case). found (e .case) ≡ e .expected) announcedIds
+pub announced-id-cases : Hold found announcedIds
 announced-id-cases = each found announcedIds announced-id-test
 
 window-test : allAsExpected found windows ≡ true
 unfolding opened
 window-test = refl
 
-pub window-cases : All (λ (e : Entry Case). found (e .case) ≡ e .expected) windows
+pub window-cases : Hold found windows
 window-cases = each found windows window-test
 
 view-reader-test : allAsExpected found viewReaders ≡ true
 unfolding opened
 view-reader-test = refl
 
-pub view-reader-cases : All (λ (e : Entry Case). found (e .case) ≡ e .expected) viewReaders
+pub view-reader-cases : Hold found viewReaders
 view-reader-cases = each found viewReaders view-reader-test
 
 advance-test : allAsExpected found advances ≡ true
 unfolding opened
 advance-test = refl
 
-pub advance-cases : All (λ (e : Entry Case). found (e .case) ≡ e .expected) advances
+pub advance-cases : Hold found advances
 advance-cases = each found advances advance-test
 
 delivery-check-test : allAsExpected found deliveryChecks ≡ true
 unfolding opened
 delivery-check-test = refl
 
-pub delivery-check-cases : All (λ (e : Entry Case). found (e .case) ≡ e .expected) deliveryChecks
+pub delivery-check-cases : Hold found deliveryChecks
 delivery-check-cases = each found deliveryChecks delivery-check-test
 
 message-test : allAsExpected found messages ≡ true
 unfolding opened
 message-test = refl
 
-pub message-cases : All (λ (e : Entry Case). found (e .case) ≡ e .expected) messages
+pub message-cases : Hold found messages
 message-cases = each found messages message-test
 
 mode-step-test : allAsExpected found modeSteps ≡ true
 unfolding opened
 mode-step-test = refl
 
-pub mode-step-cases : All (λ (e : Entry Case). found (e .case) ≡ e .expected) modeSteps
+pub mode-step-cases : Hold found modeSteps
 mode-step-cases = each found modeSteps mode-step-test

@@ -1,9 +1,6 @@
 -- The byte cases hold: a test computed over each table, and so an equation for each case.
-use Prim.Native.Nat.{ℕ}
 use mathlib.Core.Path.{_≡_, refl}
 use mathlib.Core.Bool.{true}
-use mathlib.Core.List.{List}
-use Rattle.fields.specs.Facts.{All}
 use Rattle.fields.specs.Order.{before, same}
 use Rattle.fields.specs.Entries.{entry, rising}
 use Rattle.fields.specs.Overwrite.{overwritten}
@@ -20,8 +17,8 @@ use Rattle.model.specs.Image as image
 use Rattle.model.specs.Lists as lists
 use Rattle.model.specs.Commands as commands
 use Rattle.model.specs.Calls as calls
-use Rattle.model.specs.CaseTables.{Entry, allAsExpected}
-use Rattle.model.specs.LayoutCases.{Case, found, layouts, listTests, areaTests, wholeAreas, entryCases}
+use Rattle.model.specs.CaseTables.{Hold, allAsExpected}
+use Rattle.model.specs.LayoutCases.{found, layouts, listTests, areaTests, wholeAreas, entryCases}
 use Rattle.model.proofs.CaseTables.{each}
 
 layouts-test : allAsExpected found layouts ≡ true
@@ -55,17 +52,17 @@ unfolding found before same rising overwritten protocol.isTransaction settings.m
     calls.stepRefusal calls.step calls.questionPairs calls.questionRefusal calls.question
 entry-test = refl
 
-pub layout-cases : All (λ (e : Entry Case). found (e .case) ≡ e .expected) layouts
+pub layout-cases : Hold found layouts
 layout-cases = each found layouts layouts-test
 
-pub list-cases : All (λ (e : Entry Case). found (e .case) ≡ e .expected) listTests
+pub list-cases : Hold found listTests
 list-cases = each found listTests list-test
 
-pub area-cases : All (λ (e : Entry Case). found (e .case) ≡ e .expected) areaTests
+pub area-cases : Hold found areaTests
 area-cases = each found areaTests area-test
 
-pub whole-area-cases : All (λ (e : Entry Case). found (e .case) ≡ e .expected) wholeAreas
+pub whole-area-cases : Hold found wholeAreas
 whole-area-cases = each found wholeAreas whole-test
 
-pub entry-cases : All (λ (e : Entry Case). found (e .case) ≡ e .expected) entryCases
+pub entry-cases : Hold found entryCases
 entry-cases = each found entryCases entry-test

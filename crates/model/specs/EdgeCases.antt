@@ -1,6 +1,6 @@
 -- The rules at their edges, and the refusals in their order, in tables: what a step of the rules gives, in numbers, and what it should.
-use Prim.Native.Nat.{ℕ, zero, suc, _+_, _-_}
-use mathlib.Core.Bool.{Bool, true, false, cond, _&&_}
+use Prim.Native.Nat.{ℕ, zero, suc, _+_}
+use mathlib.Core.Bool.{Bool, true, false, cond}
 use mathlib.Core.List.{List, [], _∷_, _++_, map}
 use mathlib.Core.Option.{Option, none, some}
 use lib.ListN.{length, replicate}
@@ -8,7 +8,7 @@ use lib.Dec.{eqb, leb}
 use Rattle.fields.specs.Number.{fromBe, toBe}
 use Rattle.model.specs.Protocol.{Id}
 use Rattle.model.specs.Delivery.{Request}
-use Rattle.model.specs.State.{Mode, new, seeking, syncing, synced, ended, modeNumber, State, Sync, SendClock}
+use Rattle.model.specs.State.{Mode, new, seeking, syncing, synced, ended, modeNumber, State, Sync}
 use Rattle.model.specs.State.{withDownloaded, withSendClock, withKnownTip, withStalledPeers, withEvicted, withSyncPeer}
 use Rattle.model.specs.Requests.{Pair, Command, runs}
 use Rattle.model.specs.Requests as sending
@@ -21,7 +21,7 @@ use Rattle.model.specs.Steps.{neededModifier, reorg, announced, syncInfo
 use Rattle.model.specs.Calls.{Call, Answer, stepOf, argsOf, callFits, callRefusal, stepAnswer, resultRefusal}
 use Rattle.model.specs.Cases.{caseSettings, syncingState, argsAt, numbered}
 use Rattle.model.specs.Cases as starred
-use Rattle.model.specs.CaseTables.{Entry, _gives_}
+use Rattle.model.specs.CaseTables.{Entry, _gives_, lends, plain, flagged}
 
 -- Timeout 10,000, limit 2 where none is named, interval 200, stall timeout 60,000; last clock, last progress and last send 0; the
 -- sync peer, if there is one, is 7.
@@ -185,24 +185,10 @@ number n = (n ∷ []) ∷ []
 
 -- ---- calls
 
--- kind, clock, gate, chain height; ids, continuation ids, stored pairs, peers, view
-abbrev pub call : ℕ → ℕ → ℕ → ℕ → List ℕ → List ℕ → List ℕ → List ℕ → List ℕ → Call
-call kind clock gate height ids continuation stored peers view =
-    record { kind = kind; clock = clock; gate = gate; height = height; peer = 9; typeid = 104; fork = 33; parsed = 1; hastip = 1; tip = 44; ids = ids; continuation = continuation; stored = stored; peers = peers; view = view }
-
--- with its flags parsed and hastip as given, and nothing lent
-abbrev pub flagged : ℕ → ℕ → ℕ → Call
-flagged kind parsed hastip =
-    record { kind = kind; clock = 1000; gate = 1; height = 0; peer = 9; typeid = 104; fork = 33; parsed = parsed; hastip = hastip; tip = 44; ids = []; continuation = []; stored = []; peers = []; view = replicate 4 0 }
-
--- with nothing lent
-abbrev pub plain : ℕ → ℕ → ℕ → Call
-plain kind clock gate = call kind clock gate 0 [] [] [] [] (replicate 4 0)
-
 -- with an id, a continuation id, a stored pair, a peer and a view of height 401 without a header
 abbrev pub lending : ℕ → Call
 lending kind =
-    call kind 1000 1 50 (toBe 32 5) (toBe 32 6) (101 ∷ toBe 32 8) (toBe 8 4) (0 ∷ 0 ∷ 1 ∷ 0x91 ∷ 255 ∷ replicate 102 0)
+    lends kind 1000 1 50 (toBe 32 5) (toBe 32 6) (101 ∷ toBe 32 8) (toBe 8 4) (0 ∷ 0 ∷ 1 ∷ 0x91 ∷ 255 ∷ replicate 102 0)
 
 -- in syncing, clock 1,000
 abbrev pub waiting : State
@@ -331,25 +317,25 @@ refusals =
     ∷ (called (pickedAt 200) (plain 15 1000 1) gives number 0)
     ∷ (called (after (pickedAt 200) (at 300 otherMessage)) (plain 15 1000 1) gives number 5)
     -- 6: each of the three lists; a needed modifier is one id
-    ∷ (called waiting (call 7 1000 1 0 (replicate 31 0) [] [] [] (replicate 4 0)) gives number 6)
-    ∷ (called waiting (call 7 1000 1 0 [] (replicate 31 0) [] [] (replicate 4 0)) gives number 6)
-    ∷ (called waiting (call 7 1000 1 0 [] [] (replicate 32 0) [] (replicate 4 0)) gives number 6)
-    ∷ (called waiting (call 7 1000 1 0 [] [] (replicate 66 0) [] (replicate 4 0)) gives number 6)
+    ∷ (called waiting (lends 7 1000 1 0 (replicate 31 0) [] [] [] (replicate 4 0)) gives number 6)
+    ∷ (called waiting (lends 7 1000 1 0 [] (replicate 31 0) [] [] (replicate 4 0)) gives number 6)
+    ∷ (called waiting (lends 7 1000 1 0 [] [] (replicate 32 0) [] (replicate 4 0)) gives number 6)
+    ∷ (called waiting (lends 7 1000 1 0 [] [] (replicate 66 0) [] (replicate 4 0)) gives number 6)
     ∷ (called waiting (plain 3 1000 1) gives number 6)
-    ∷ (called waiting (call 3 1000 1 0 (replicate 32 0) [] [] [] (replicate 4 0)) gives number 0)
-    ∷ (called waiting (call 3 1000 1 0 (replicate 64 0) [] [] [] (replicate 4 0)) gives number 6)
-    ∷ (called waiting (call 9 1000 1 0 (replicate 64 0) [] [] [] (replicate 4 0)) gives number 0)
+    ∷ (called waiting (lends 3 1000 1 0 (replicate 32 0) [] [] [] (replicate 4 0)) gives number 0)
+    ∷ (called waiting (lends 3 1000 1 0 (replicate 64 0) [] [] [] (replicate 4 0)) gives number 6)
+    ∷ (called waiting (lends 9 1000 1 0 (replicate 64 0) [] [] [] (replicate 4 0)) gives number 0)
     -- 7, 8, and 9: progress reads height 1 if a peer is listed and the chain is that high
-    ∷ (called waiting (call 7 1000 1 0 [] [] [] (replicate 7 0) (replicate 4 0)) gives number 7)
-    ∷ (called waiting (call 7 1000 1 0 [] [] [] [] (replicate 3 0)) gives number 8)
-    ∷ (called waiting (call 11 1000 1 1 [] [] [] (toBe 8 5) (replicate 4 0)) gives number 9)
-    ∷ (called waiting (call 11 1000 1 0 [] [] [] (toBe 8 5) (replicate 4 0)) gives number 0)
+    ∷ (called waiting (lends 7 1000 1 0 [] [] [] (replicate 7 0) (replicate 4 0)) gives number 7)
+    ∷ (called waiting (lends 7 1000 1 0 [] [] [] [] (replicate 3 0)) gives number 8)
+    ∷ (called waiting (lends 11 1000 1 1 [] [] [] (toBe 8 5) (replicate 4 0)) gives number 9)
+    ∷ (called waiting (lends 11 1000 1 0 [] [] [] (toBe 8 5) (replicate 4 0)) gives number 0)
     -- two faults: the first in order
     ∷ (called waiting (plain 0 999 1) gives number 4)
-    ∷ (called waiting (call 0 1000 1 0 (replicate 31 0) [] [] [] (replicate 4 0)) gives number 5)
-    ∷ (called waiting (call 7 1000 1 0 (replicate 31 0) [] [] (replicate 7 0) (replicate 4 0)) gives number 6)
-    ∷ (called waiting (call 7 1000 1 0 [] [] [] (replicate 7 0) (replicate 3 0)) gives number 7)
-    ∷ (called waiting (call 11 1000 1 1 [] [] [] (toBe 8 5) (replicate 3 0)) gives number 8)
+    ∷ (called waiting (lends 0 1000 1 0 (replicate 31 0) [] [] [] (replicate 4 0)) gives number 5)
+    ∷ (called waiting (lends 7 1000 1 0 (replicate 31 0) [] [] (replicate 7 0) (replicate 4 0)) gives number 6)
+    ∷ (called waiting (lends 7 1000 1 0 [] [] [] (replicate 7 0) (replicate 3 0)) gives number 7)
+    ∷ (called waiting (lends 11 1000 1 1 [] [] [] (toBe 8 5) (replicate 3 0)) gives number 8)
     -- 10: 1,024 evicted and 1,025; one pending that is evicted as the 1,024th, and one more announced
     ∷ (refusedAs (core syncing (withEvicted baseSync (numbered 1023))) (at 0 (evicted (ids (5 ∷ [])))) gives number 0)
     ∷ (refusedAs (core syncing (withEvicted baseSync (numbered 1024))) (at 0 (evicted (ids (5 ∷ [])))) gives number 10)

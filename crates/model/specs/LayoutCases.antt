@@ -5,7 +5,6 @@ use mathlib.Core.List.{List, [], _∷_, _++_, map}
 use mathlib.Core.Option.{Option, none, some}
 use lib.ListN.{length, take, drop, replicate, set}
 use Rattle.fields.specs.Number.{toBe}
-use Rattle.model.specs.Settings.{Settings}
 use Rattle.model.specs.Delivery.{Request}
 use Rattle.model.specs.State.{Mode, new, seeking, syncing, synced, ended, modeNumber, State, opened, withEvicted}
 use Rattle.model.specs.Requests.{Pair, Command}
@@ -15,7 +14,7 @@ use Rattle.model.specs.Lists.{idsIn, peersIn, pairsIn, viewOf, idsFit, c
 use Rattle.model.specs.Commands.{allCommandBytes, commandsIn}
 use Rattle.model.specs.Calls.{Call, Answer, Result, Asked, questionPairs, stepRefusal, step, question}
 use Rattle.model.specs.Cases.{syncingState}
-use Rattle.model.specs.CaseTables.{Entry, _gives_}
+use Rattle.model.specs.CaseTables.{Entry, _gives_, plain}
 
 pub data Case : Type 0 where
   -- a state's header; parts of its whole area: an offset and at most so many bytes from there on, and so on
@@ -152,11 +151,6 @@ withBytes (at ∷ (byte ∷ others)) bytes = withBytes others (set bytes at byte
 -- the whole of it, 65,536 bytes, with the evicted ids ee × 32 and 11 × 32 at its end
 abbrev pub wholeArea : List ℕ
 wholeArea = withBytes (73 ∷ 2 ∷ []) soundArea ++ (replicate 62796 0x00 ++ (all32 0xee ++ all32 0x11))
-
--- kind and clock; nothing is lent
-abbrev pub callOf : ℕ → ℕ → Call
-callOf kind clock =
-    record { kind = kind; clock = clock; gate = 1; height = 0; peer = 0; typeid = 0; fork = 0; parsed = 0; hastip = 0; tip = 0; ids = []; continuation = []; stored = []; peers = []; view = replicate 4 0x00 }
 
 abbrev pub partsOf : List ℕ → List ℕ → List (List ℕ)
 partsOf [] bytes = []
@@ -455,15 +449,15 @@ wholeAreas =
 -- The entries: 1 before 2, 2 before 3, 3 before 4; a question and a step that finish.
 abbrev pub entryCases : List (Entry Case)
 entryCases =
-    (refusedAs (replicate 65535 0x00) 65536 (callOf 13 1200) gives (1 ∷ []) ∷ [])
-    ∷ (refusedAs (replicate 65537 0x00) 65536 (callOf 13 1200) gives (1 ∷ []) ∷ [])
-    ∷ (refusedAs (replicate 65536 0x00) 65535 (callOf 13 1200) gives (2 ∷ []) ∷ [])
-    ∷ (refusedAs wholeArea 65535 (callOf 13 999) gives (3 ∷ []) ∷ [])
+    (refusedAs (replicate 65535 0x00) 65536 (plain 13 1200 1) gives (1 ∷ []) ∷ [])
+    ∷ (refusedAs (replicate 65537 0x00) 65536 (plain 13 1200 1) gives (1 ∷ []) ∷ [])
+    ∷ (refusedAs (replicate 65536 0x00) 65535 (plain 13 1200 1) gives (2 ∷ []) ∷ [])
+    ∷ (refusedAs wholeArea 65535 (plain 13 999 1) gives (3 ∷ []) ∷ [])
     -- a check's pairs in the command area, whose later bytes stay
     ∷ (asked wholeArea 0 gives
     (0 ∷ 66 ∷ []) ∷ (0x65 ∷ all32 0x11 ++ (0x65 ∷ all32 0xee ++ (0x77 ∷ 0x77 ∷ []))) ∷ [])
     -- a scheduled tick at 1,200: last clock and last send are that, two sends are counted, 16 bytes are written
-    ∷ (stepped wholeArea (callOf 13 1200) gives
+    ∷ (stepped wholeArea (plain 13 1200 1) gives
     (0 ∷ 0 ∷ 0 ∷ 0 ∷ 0 ∷ 0 ∷ 2 ∷ 2 ∷ 16 ∷ [])
     ∷ withBytes (14 ∷ 0x04 ∷ 15 ∷ 0xb0 ∷ 46 ∷ 0x04 ∷ 47 ∷ 0xb0 ∷ 59 ∷ 2 ∷ 73 ∷ 2 ∷ []) (take 76 soundArea)
     ∷ (0x03 ∷ replicate 10 0x00 ++ (0x07 ∷ 0x00 ∷ 0x00 ∷ 0x00 ∷ 0x00 ∷ 0x77 ∷ 0x77 ∷ [])) ∷ []) ∷ []
