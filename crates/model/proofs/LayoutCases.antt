@@ -18,7 +18,7 @@ use Rattle.model.specs.Lists as lists
 use Rattle.model.specs.Commands as commands
 use Rattle.model.specs.Calls as calls
 use Rattle.model.specs.CaseTables.{Hold, allAsExpected}
-use Rattle.model.specs.LayoutCases.{found, layouts, listTests, areaTests, wholeAreas, entryCases}
+use Rattle.model.specs.LayoutCases.{found, layouts, listTests, areaTests, entryCases}
 use Rattle.model.proofs.CaseTables.{each}
 
 layouts-test : allAsExpected found layouts ≡ true
@@ -37,10 +37,6 @@ unfolding found before same rising protocol.isTransaction settings.mostRequests 
     image.pendingOf image.noneTwice image.requestFits image.marksFit image.countsFit image.clocksFit image.unusedZero image.wellFormed
 area-test = refl
 
-whole-test : allAsExpected found wholeAreas ≡ true
-unfolding found same state.opened image.headerBytes image.requestBytes image.padded image.encode
-whole-test = refl
-
 entry-test : allAsExpected found entryCases ≡ true
 unfolding found before same rising overwritten protocol.isTransaction settings.mostRequests settings.stalled settings.throttled peers.sendSyncInfo
     requests.syncInfoTo image.requestBytes image.requestOf image.settingsOf image.modeOf image.stalledOf image.pendingOf image.evictedOf image.headerBytes
@@ -49,7 +45,7 @@ unfolding found before same rising overwritten protocol.isTransaction settings.m
     lists.idsIn lists.peersIn lists.pairsIn commands.commandBytes check.retrySendings sections.batchesOf steps.ofMode steps.sent steps.sayTo
     steps.ticksSyncing steps.planOf steps.plan steps.remaining steps.retried steps.performed steps.after steps.commands steps.countOf steps.freshCount
     calls.stepOf calls.argsOf calls.callFits calls.listsFit calls.stepBytes calls.stepAnswer calls.resultRefusal calls.callRefusal
-    calls.stepRefusal calls.step calls.questionPairs calls.questionRefusal calls.question
+    calls.stepRefusal calls.step
 entry-test = refl
 
 pub layout-cases : Hold found layouts
@@ -60,9 +56,6 @@ list-cases = each found listTests list-test
 
 pub area-cases : Hold found areaTests
 area-cases = each found areaTests area-test
-
-pub whole-area-cases : Hold found wholeAreas
-whole-area-cases = each found wholeAreas whole-test
 
 pub entry-cases : Hold found entryCases
 entry-cases = each found entryCases entry-test

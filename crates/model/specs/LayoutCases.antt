@@ -9,17 +9,16 @@ use Rattle.model.specs.Delivery.{Request}
 use Rattle.model.specs.State.{Mode, new, seeking, syncing, synced, ended, modeNumber, State, opened, withEvicted}
 use Rattle.model.specs.Requests.{Pair, Command}
 use Rattle.model.specs.Sections.{Section, Header, absent, present}
-use Rattle.model.specs.Image.{bit, headerBytes, encode, decode, requestBytes, requestOf, countsFit, wellFormed}
+use Rattle.model.specs.Image.{bit, headerBytes, decode, requestBytes, requestOf, countsFit, wellFormed}
 use Rattle.model.specs.Lists.{idsIn, peersIn, pairsIn, viewOf, idsFit, continuationFits, peersFit, pairsFit, rowFits, viewFits}
 use Rattle.model.specs.Commands.{allCommandBytes, commandsIn}
-use Rattle.model.specs.Calls.{Call, Answer, Result, Asked, questionPairs, stepRefusal, step, question}
+use Rattle.model.specs.Calls.{Call, Answer, Result, questionPairs, stepRefusal, step}
 use Rattle.model.specs.Cases.{syncingState}
 use Rattle.model.specs.CaseTables.{Entry, _gives_, plain}
 
 pub data Case : Type 0 where
-  -- a state's header; parts of its whole area: an offset and at most so many bytes from there on, and so on
+  -- a state's header
   header : State → Case
-  area : List ℕ → State → Case
   -- an area's header read: the numbers before its counts
   headerRead : List ℕ → Case
   -- a pending record written, and read
@@ -33,11 +32,10 @@ pub data Case : Type 0 where
   commandsRead : List ℕ → Case
   -- the question's pairs: its flag
   questioned : ℕ → State → Case
-  -- the entries on whole areas, all bytes of the command area 77: what a step is refused with, given so many of them; a step; a
-  -- question by its flag
+  -- a step on whole areas, each byte of the command area 77: what it is refused with, given so many of them; its answer, the first 18
+  -- bytes of the commands, the state area up to its last record and from before its evicted ids on
   refusedAs : List ℕ → ℕ → Call → Case
   stepped : List ℕ → Call → Case
-  asked : List ℕ → ℕ → Case
   -- tests, 1 where the bytes pass
   idsTested continuationTested peersTested pairsTested rowTested viewTested countsTested : List ℕ → Case
   -- whether the sound area below is well formed with these bytes changed: an offset and the byte there, and so on
@@ -152,11 +150,6 @@ withBytes (at ∷ (byte ∷ others)) bytes = withBytes others (set bytes at byte
 abbrev pub wholeArea : List ℕ
 wholeArea = withBytes (73 ∷ 2 ∷ []) soundArea ++ (replicate 62796 0x00 ++ (all32 0xee ++ all32 0x11))
 
-abbrev pub partsOf : List ℕ → List ℕ → List (List ℕ)
-partsOf [] bytes = []
-partsOf (at ∷ []) bytes = []
-partsOf (at ∷ (count ∷ others)) bytes = take count (drop at bytes) ∷ partsOf others bytes
-
 -- a place of a view's row: type, the id's byte, stored
 abbrev pub place : ℕ → ℕ → ℕ → List ℕ
 place typeId byte stored = typeId ∷ all32 byte ++ (stored ∷ [])
@@ -227,7 +220,6 @@ pendingOfTwo =
 
 unfoldable pub found : Case → List (List ℕ)
 found (header st) = headerBytes st ∷ []
-found (area parts st) = partsOf parts (encode st)
 found (headerRead bytes) = stateNumbers (decode bytes)
 found (recorded r) = requestBytes r ∷ []
 found (recordRead bytes) = requestNumbers (requestOf bytes) ∷ []
@@ -238,13 +230,10 @@ found (viewRead height bytes) = headerNumbers (viewOf bytes height)
 found (written commands) = allCommandBytes commands ∷ []
 found (commandsRead bytes) = allCommandNumbers (commandsIn bytes)
 found (questioned flag st) = questionPairs st flag
+found (refusedAs state count c) = (stepRefusal state (replicate count 0x77) c ∷ []) ∷ []
 found (stepped state c) =
     let r : Result = step state (replicate 65536 0x77) c in
-    answerNumbers (r .answer) ∷ take 76 (r .state) ∷ take 18 (r .commands) ∷ []
-found (refusedAs state count c) = (stepRefusal state (replicate count 0x77) c ∷ []) ∷ []
-found (asked state flag) =
-    let a : Asked = question state (replicate 65536 0x77) flag in
-    (a .number ∷ a .length ∷ []) ∷ take 68 (a .commands) ∷ []
+    answerNumbers (r .answer) ∷ take 18 (r .commands) ∷ take 2676 (r .state) ∷ drop 65468 (r .state) ∷ []
 found (idsTested bytes) = told (idsFit bytes)
 found (continuationTested bytes) = told (continuationFits bytes)
 found (peersTested bytes) = told (peersFit bytes)
@@ -338,6 +327,7 @@ listTests =
     ∷ (pairsTested (replicate 32 0) gives fails)
     ∷ (pairsTested (replicate 34 0) gives fails)
     ∷ (pairsTested (0x66 ∷ all32 0xaa ++ (0x66 ∷ all32 0xbb)) gives passes)
+    ∷ (pairsTested (0x66 ∷ toBe 32 1 ++ (0x66 ∷ toBe 32 2)) gives passes)
     ∷ (pairsTested (0x66 ∷ all32 0xaa ++ (0x66 ∷ all32 0xaa)) gives fails)
     ∷ (pairsTested (0x66 ∷ all32 0xbb ++ (0x66 ∷ all32 0xaa)) gives fails)
     ∷ (pairsTested (0x66 ∷ all32 0xaa ++ (0x65 ∷ all32 0xbb)) gives fails)
@@ -436,28 +426,15 @@ areaTests =
     ∷ (changed (2667 ∷ 1 ∷ []) gives fails)
     ∷ (changed (2655 ∷ 0x66 ∷ 2667 ∷ 1 ∷ []) gives passes) ∷ []
 
--- A whole area: its stalled peers, records and evicted ids at their places, zeros around them, and nothing after 65,536 bytes.
-abbrev pub wholeAreas : List (Entry Case)
-wholeAreas =
-    (area (504 ∷ 40 ∷ 2552 ∷ 120 ∷ 65468 ∷ 100 ∷ []) fullState gives
-    (replicate 15 0x00 ++ (0x05 ∷ 0x01 ∷ 0x02 ∷ 0x03 ∷ 0x04 ∷ 0x05 ∷ 0x06 ∷ 0x07 ∷ 0x08 ∷ replicate 7 0x00 ++ (0x04 ∷ replicate 8 0x00)))
-    ∷ (replicate 8 0x00 ++ (all32 0xaa ++ (0x00 ∷ 0x00 ∷ 0x00 ∷ 0x00 ∷ 0x00 ∷ 0x00 ∷ 0x00 ∷ 0x07 ∷ 0x00 ∷ 0x66
-    ∷ 0x00 ∷ 0x00 ∷ 0x00 ∷ 0x00 ∷ 0x00 ∷ 0x00 ∷ 0x27 ∷ 0x10 ∷ 0x00 ∷ 0x00 ∷ 0x00 ∷ 0x01
-    ∷ all32 0xbb ++ (0x01 ∷ 0x02 ∷ 0x03 ∷ 0x04 ∷ 0x05 ∷ 0x06 ∷ 0x07 ∷ 0x08 ∷ 0x00 ∷ 0x02 ∷ replicate 7 0x00 ++ (0x09 ∷ replicate 8 0x00)))))
-    ∷ (replicate 4 0x00 ++ (all32 0xee ++ all32 0x11)) ∷ []) ∷ []
-
--- The entries: 1 before 2, 2 before 3, 3 before 4; a question and a step that finish.
+-- The entries: 1 before 2, 2 before 3, 3 before 4, and a step that finishes.
 abbrev pub entryCases : List (Entry Case)
 entryCases =
     (refusedAs (replicate 65535 0x00) 65536 (plain 13 1200 1) gives (1 ∷ []) ∷ [])
-    ∷ (refusedAs (replicate 65537 0x00) 65536 (plain 13 1200 1) gives (1 ∷ []) ∷ [])
     ∷ (refusedAs (replicate 65536 0x00) 65535 (plain 13 1200 1) gives (2 ∷ []) ∷ [])
     ∷ (refusedAs wholeArea 65535 (plain 13 999 1) gives (3 ∷ []) ∷ [])
-    -- a check's pairs in the command area, whose later bytes stay
-    ∷ (asked wholeArea 0 gives
-    (0 ∷ 66 ∷ []) ∷ (0x65 ∷ all32 0x11 ++ (0x65 ∷ all32 0xee ++ (0x77 ∷ 0x77 ∷ []))) ∷ [])
-    -- a scheduled tick at 1,200: last clock and last send are that, two sends are counted, 16 bytes are written
+    -- a scheduled tick at 1,200 writes 16 bytes; last clock and last send are that, two sends are counted, all else stays
     ∷ (stepped wholeArea (plain 13 1200 1) gives
     (0 ∷ 0 ∷ 0 ∷ 0 ∷ 0 ∷ 0 ∷ 2 ∷ 2 ∷ 16 ∷ [])
-    ∷ withBytes (14 ∷ 0x04 ∷ 15 ∷ 0xb0 ∷ 46 ∷ 0x04 ∷ 47 ∷ 0xb0 ∷ 59 ∷ 2 ∷ 73 ∷ 2 ∷ []) (take 76 soundArea)
-    ∷ (0x03 ∷ replicate 10 0x00 ++ (0x07 ∷ 0x00 ∷ 0x00 ∷ 0x00 ∷ 0x00 ∷ 0x77 ∷ 0x77 ∷ [])) ∷ []) ∷ []
+    ∷ (0x03 ∷ replicate 10 0x00 ++ (0x07 ∷ 0x00 ∷ 0x00 ∷ 0x00 ∷ 0x00 ∷ 0x77 ∷ 0x77 ∷ []))
+    ∷ withBytes (14 ∷ 0x04 ∷ 15 ∷ 0xb0 ∷ 46 ∷ 0x04 ∷ 47 ∷ 0xb0 ∷ 59 ∷ 2 ∷ 73 ∷ 2 ∷ []) soundArea
+    ∷ (replicate 4 0x00 ++ (all32 0xee ++ all32 0x11)) ∷ []) ∷ []
