@@ -1,5 +1,5 @@
 -- The byte examples of docs/LAYOUT.md in one table, with the tests of lists and areas at their edges: what the definitions make of bytes.
-use Prim.Native.Nat.{ℕ, zero, suc}
+use Prim.Native.Nat.{ℕ}
 use mathlib.Core.Bool.{Bool, true, false}
 use mathlib.Core.List.{List, [], _∷_, _++_, map}
 use mathlib.Core.Option.{Option, none, some}
@@ -9,16 +9,17 @@ use Rattle.model.specs.Delivery.{Request}
 use Rattle.model.specs.State.{Mode, new, seeking, syncing, synced, ended, modeNumber, State, opened, withEvicted}
 use Rattle.model.specs.Requests.{Pair, Command}
 use Rattle.model.specs.Sections.{Section, Header, absent, present}
-use Rattle.model.specs.Image.{bit, headerBytes, decode, requestBytes, requestOf, countsFit, wellFormed}
+use Rattle.model.specs.Image.{bit, headerBytes, encode, decode, requestBytes, requestOf, countsFit, wellFormed}
 use Rattle.model.specs.Lists.{idsIn, peersIn, pairsIn, viewOf, idsFit, continuationFits, peersFit, pairsFit, rowFits, viewFits}
 use Rattle.model.specs.Commands.{allCommandBytes, commandsIn}
-use Rattle.model.specs.Calls.{Call, Answer, Result, questionPairs, stepRefusal, step}
+use Rattle.model.specs.Calls.{Call, questionPairs, stepRefusal}
 use Rattle.model.specs.Cases.{syncingState}
 use Rattle.model.specs.CaseTables.{Entry, _gives_, plain}
 
 pub data Case : Type 0 where
-  -- a state's header
+  -- a state's header; parts of its whole area: an offset and at most so many bytes from there on, and so on
   header : State → Case
+  area : List ℕ → State → Case
   -- an area's header read: the numbers before its counts
   headerRead : List ℕ → Case
   -- a pending record written, and read
@@ -32,10 +33,8 @@ pub data Case : Type 0 where
   commandsRead : List ℕ → Case
   -- the question's pairs: its flag
   questioned : ℕ → State → Case
-  -- a step on whole areas, each byte of the command area 77: what it is refused with, given so many of them; its answer, the first 18
-  -- bytes of the commands, the state area up to its last record and from before its evicted ids on
+  -- what a step is refused with: the state area, the length of the command area, the call
   refusedAs : List ℕ → ℕ → Call → Case
-  stepped : List ℕ → Call → Case
   -- tests, 1 where the bytes pass
   idsTested continuationTested peersTested pairsTested rowTested viewTested countsTested : List ℕ → Case
   -- whether the sound area below is well formed with these bytes changed: an offset and the byte there, and so on
@@ -65,9 +64,6 @@ stateNumbers st =
     ∷ (st .settings .timeout ∷ st .settings .maxChecks ∷ st .settings .minSendInterval ∷ st .settings .stallTimeout ∷ [])
     ∷ (st .sync .lastProgress ∷ st .sync .sendClock .lastSend ∷ st .sync .syncPeer ∷ [])
     ∷ (st .sync .sendClock .sends ∷ st .sync .downloaded ∷ st .sync .knownTip ∷ []) ∷ []
-
-abbrev pub answerNumbers : Answer → List ℕ
-answerNumbers a = a .number ∷ a .outcome ∷ a .retried ∷ a .fresh ∷ a .abandoned ∷ a .forgotten ∷ a .pending ∷ a .evicted ∷ a .length ∷ []
 
 abbrev pub told : Bool → List (List ℕ)
 told test = (bit test ∷ []) ∷ []
@@ -150,6 +146,11 @@ withBytes (at ∷ (byte ∷ others)) bytes = withBytes others (set bytes at byte
 abbrev pub wholeArea : List ℕ
 wholeArea = withBytes (73 ∷ 2 ∷ []) soundArea ++ (replicate 62796 0x00 ++ (all32 0xee ++ all32 0x11))
 
+abbrev pub partsOf : List ℕ → List ℕ → List (List ℕ)
+partsOf [] bytes = []
+partsOf (at ∷ []) bytes = []
+partsOf (at ∷ (count ∷ others)) bytes = take count (drop at bytes) ∷ partsOf others bytes
+
 -- a place of a view's row: type, the id's byte, stored
 abbrev pub place : ℕ → ℕ → ℕ → List ℕ
 place typeId byte stored = typeId ∷ all32 byte ++ (stored ∷ [])
@@ -157,11 +158,6 @@ place typeId byte stored = typeId ∷ all32 byte ++ (stored ∷ [])
 -- "A view of height 401 with one row of one section, block transactions cc × 32, not stored"
 abbrev pub viewOf401 : List ℕ
 viewOf401 = 0x00 ∷ 0x00 ∷ 0x01 ∷ 0x91 ∷ 0x01 ∷ 0x66 ∷ all32 0xcc ++ (0x00 ∷ replicate 68 0x00)
-
--- so many pairs of one type, their ids rising: the first two bytes are a number from here on
-abbrev pub risingPairs : ℕ → ℕ → List ℕ
-risingPairs zero from = []
-risingPairs (suc n) from = 0x66 ∷ toBe 2 from ++ (replicate 30 0x00 ++ risingPairs n (suc from))
 
 abbrev pub absentRow : List ℕ
 absentRow = 0xff ∷ replicate 102 0x00
@@ -220,6 +216,7 @@ pendingOfTwo =
 
 unfoldable pub found : Case → List (List ℕ)
 found (header st) = headerBytes st ∷ []
+found (area parts st) = partsOf parts (encode st)
 found (headerRead bytes) = stateNumbers (decode bytes)
 found (recorded r) = requestBytes r ∷ []
 found (recordRead bytes) = requestNumbers (requestOf bytes) ∷ []
@@ -231,9 +228,6 @@ found (written commands) = allCommandBytes commands ∷ []
 found (commandsRead bytes) = allCommandNumbers (commandsIn bytes)
 found (questioned flag st) = questionPairs st flag
 found (refusedAs state count c) = (stepRefusal state (replicate count 0x77) c ∷ []) ∷ []
-found (stepped state c) =
-    let r : Result = step state (replicate 65536 0x77) c in
-    answerNumbers (r .answer) ∷ take 18 (r .commands) ∷ take 2676 (r .state) ∷ drop 65468 (r .state) ∷ []
 found (idsTested bytes) = told (idsFit bytes)
 found (continuationTested bytes) = told (continuationFits bytes)
 found (peersTested bytes) = told (peersFit bytes)
@@ -333,8 +327,6 @@ listTests =
     ∷ (pairsTested (0x66 ∷ all32 0xaa ++ (0x65 ∷ all32 0xbb)) gives fails)
     ∷ (pairsTested (0x65 ∷ all32 0xbb ++ (0x66 ∷ all32 0xaa)) gives passes)
     ∷ (pairsTested (0x65 ∷ all32 0xaa ++ (0x66 ∷ all32 0xaa ++ (0x66 ∷ all32 0xaa))) gives fails)
-    ∷ (pairsTested (risingPairs 1024 0) gives passes)
-    ∷ (pairsTested (risingPairs 1025 0) gives fails)
     -- a row: count 0 to 3 or 255
     ∷ (rowTested emptyRow gives passes)
     ∷ (rowTested threePlaces gives passes)
@@ -426,15 +418,16 @@ areaTests =
     ∷ (changed (2667 ∷ 1 ∷ []) gives fails)
     ∷ (changed (2655 ∷ 0x66 ∷ 2667 ∷ 1 ∷ []) gives passes) ∷ []
 
--- The entries: 1 before 2, 2 before 3, 3 before 4, and a step that finishes.
-abbrev pub entryCases : List (Entry Case)
-entryCases =
-    (refusedAs (replicate 65535 0x00) 65536 (plain 13 1200 1) gives (1 ∷ []) ∷ [])
+-- Whole areas: stalled peers, records and evicted ids at their places, with zeros around them, and nothing after 65,536 bytes; then
+-- what a step is refused with: 1 before 2, 2 before 3, 3 before 4.
+abbrev pub wholeAreas : List (Entry Case)
+wholeAreas =
+    (area (504 ∷ 40 ∷ 2552 ∷ 120 ∷ 65468 ∷ 100 ∷ []) fullState gives
+    (replicate 15 0x00 ++ (0x05 ∷ 0x01 ∷ 0x02 ∷ 0x03 ∷ 0x04 ∷ 0x05 ∷ 0x06 ∷ 0x07 ∷ 0x08 ∷ replicate 7 0x00 ++ (0x04 ∷ replicate 8 0x00)))
+    ∷ (replicate 8 0x00 ++ (all32 0xaa ++ (0x00 ∷ 0x00 ∷ 0x00 ∷ 0x00 ∷ 0x00 ∷ 0x00 ∷ 0x00 ∷ 0x07 ∷ 0x00 ∷ 0x66
+    ∷ 0x00 ∷ 0x00 ∷ 0x00 ∷ 0x00 ∷ 0x00 ∷ 0x00 ∷ 0x27 ∷ 0x10 ∷ 0x00 ∷ 0x00 ∷ 0x00 ∷ 0x01
+    ∷ all32 0xbb ++ (0x01 ∷ 0x02 ∷ 0x03 ∷ 0x04 ∷ 0x05 ∷ 0x06 ∷ 0x07 ∷ 0x08 ∷ 0x00 ∷ 0x02 ∷ replicate 7 0x00 ++ (0x09 ∷ replicate 8 0x00)))))
+    ∷ (replicate 4 0x00 ++ (all32 0xee ++ all32 0x11)) ∷ [])
+    ∷ (refusedAs (replicate 65535 0x00) 65536 (plain 13 1200 1) gives (1 ∷ []) ∷ [])
     ∷ (refusedAs (replicate 65536 0x00) 65535 (plain 13 1200 1) gives (2 ∷ []) ∷ [])
-    ∷ (refusedAs wholeArea 65535 (plain 13 999 1) gives (3 ∷ []) ∷ [])
-    -- a scheduled tick at 1,200 writes 16 bytes; last clock and last send are that, two sends are counted, all else stays
-    ∷ (stepped wholeArea (plain 13 1200 1) gives
-    (0 ∷ 0 ∷ 0 ∷ 0 ∷ 0 ∷ 0 ∷ 2 ∷ 2 ∷ 16 ∷ [])
-    ∷ (0x03 ∷ replicate 10 0x00 ++ (0x07 ∷ 0x00 ∷ 0x00 ∷ 0x00 ∷ 0x00 ∷ 0x77 ∷ 0x77 ∷ []))
-    ∷ withBytes (14 ∷ 0x04 ∷ 15 ∷ 0xb0 ∷ 46 ∷ 0x04 ∷ 47 ∷ 0xb0 ∷ 59 ∷ 2 ∷ 73 ∷ 2 ∷ []) soundArea
-    ∷ (replicate 4 0x00 ++ (all32 0xee ++ all32 0x11)) ∷ []) ∷ []
+    ∷ (refusedAs wholeArea 65535 (plain 13 999 1) gives (3 ∷ []) ∷ []) ∷ []
