@@ -24,7 +24,7 @@ use Rattle.model.specs.EdgeCases.{deliveryChecks, messages, modeSteps}
 use Rattle.model.proofs.CaseTables.{each}
 
 -- Every definition that a case computes with, opened by one name.
-opened : ℕ
+rules : ℕ
 unfolding found starred.found before same entry rising protocol.isTransaction protocol.isAmong protocol.isAnnounceable settings.patience
     settings.expired settings.givenUp settings.throttled settings.stalled delivery.isPending delivery.markReceived delivery.pendingAfterEviction
     delivery.evictedAfterEviction delivery.purgePeer delivery.orphansOf delivery.purgeAll delivery.verdict delivery.restarted delivery.judged
@@ -39,73 +39,73 @@ unfolding found starred.found before same entry rising protocol.isTransaction pr
     lists.sectionOf lists.headerOf lists.usedPlaces lists.rowFits lists.firstHeight lists.rowCount lists.viewFits lists.viewOf
     commands.commandBytes calls.stepOf calls.argsOf calls.callFits calls.listsFit calls.stepBytes calls.stepAnswer calls.resultRefusal
     calls.callRefusal
-opened = 0
+rules = 0
 
 refusal-test : allAsExpected found refusals ≡ true
-unfolding opened
+unfolding rules
 refusal-test = refl
 
 pub refusal-cases : Hold found refusals
 refusal-cases = each found refusals refusal-test
 
 call-read-test : allAsExpected found callsRead ≡ true
-unfolding opened
+unfolding rules
 call-read-test = refl
 
 pub call-read-cases : Hold found callsRead
 call-read-cases = each found callsRead call-read-test
 
 pick-and-send-test : allAsExpected found picksAndSends ≡ true
-unfolding opened
+unfolding rules
 pick-and-send-test = refl
 
 pub pick-and-send-cases : Hold found picksAndSends
 pick-and-send-cases = each found picksAndSends pick-and-send-test
 
 announced-id-test : allAsExpected found announcedIds ≡ true
-unfolding opened
+unfolding rules
 announced-id-test = refl
 
 pub announced-id-cases : Hold found announcedIds
 announced-id-cases = each found announcedIds announced-id-test
 
 window-test : allAsExpected found windows ≡ true
-unfolding opened
+unfolding rules
 window-test = refl
 
 pub window-cases : Hold found windows
 window-cases = each found windows window-test
 
 view-reader-test : allAsExpected found viewReaders ≡ true
-unfolding opened
+unfolding rules
 view-reader-test = refl
 
 pub view-reader-cases : Hold found viewReaders
 view-reader-cases = each found viewReaders view-reader-test
 
 advance-test : allAsExpected found advances ≡ true
-unfolding opened
+unfolding rules
 advance-test = refl
 
 pub advance-cases : Hold found advances
 advance-cases = each found advances advance-test
 
 delivery-check-test : allAsExpected found deliveryChecks ≡ true
-unfolding opened
+unfolding rules
 delivery-check-test = refl
 
 pub delivery-check-cases : Hold found deliveryChecks
 delivery-check-cases = each found deliveryChecks delivery-check-test
 
 message-test : allAsExpected found messages ≡ true
-unfolding opened
+unfolding rules
 message-test = refl
 
 pub message-cases : Hold found messages
 message-cases = each found messages message-test
 
 mode-step-test : allAsExpected found modeSteps ≡ true
-unfolding opened
+unfolding rules
 mode-step-test = refl
 
 pub mode-step-cases : Hold found modeSteps

@@ -3,22 +3,16 @@ use mathlib.Core.Path.{_≡_, refl}
 use mathlib.Core.Bool.{true}
 use Rattle.fields.specs.Order.{before, same}
 use Rattle.fields.specs.Entries.{entry, rising}
-use Rattle.fields.specs.Overwrite.{overwritten}
 use Rattle.model.specs.Protocol as protocol
 use Rattle.model.specs.Settings as settings
 use Rattle.model.specs.Delivery as delivery
 use Rattle.model.specs.State as state
-use Rattle.model.specs.Peers as peers
-use Rattle.model.specs.Requests as requests
-use Rattle.model.specs.Sections as sections
-use Rattle.model.specs.Check as check
-use Rattle.model.specs.Steps as steps
 use Rattle.model.specs.Image as image
 use Rattle.model.specs.Lists as lists
 use Rattle.model.specs.Commands as commands
 use Rattle.model.specs.Calls as calls
 use Rattle.model.specs.CaseTables.{Hold, allAsExpected}
-use Rattle.model.specs.LayoutCases.{found, layouts, listTests, areaTests, wholeAreas, entryCases}
+use Rattle.model.specs.LayoutCases.{found, layouts, listTests, areaTests, wholeAreas}
 use Rattle.model.proofs.CaseTables.{each}
 
 layouts-test : allAsExpected found layouts ≡ true
@@ -37,20 +31,11 @@ unfolding found before same rising protocol.isTransaction settings.mostRequests 
     image.pendingOf image.noneTwice image.requestFits image.marksFit image.countsFit image.clocksFit image.unusedZero image.wellFormed
 area-test = refl
 
-whole-test : allAsExpected found wholeAreas ≡ true
-unfolding found same state.opened image.headerBytes image.requestBytes image.padded image.encode
-whole-test = refl
-
-entry-test : allAsExpected found entryCases ≡ true
-unfolding found before same rising overwritten protocol.isTransaction settings.mostRequests settings.stalled settings.throttled peers.sendSyncInfo
-    requests.syncInfoTo image.requestBytes image.requestOf image.settingsOf image.modeOf image.stalledOf image.pendingOf image.evictedOf image.headerBytes
-    image.padded image.encode image.decode image.noneTwice image.requestFits image.marksFit image.countsFit image.clocksFit image.unusedZero
-    image.wellFormed lists.listFits lists.idsFit lists.continuationFits lists.pairsFit lists.peersFit lists.firstHeight lists.rowCount lists.viewFits
-    lists.idsIn lists.peersIn lists.pairsIn commands.commandBytes check.retrySendings sections.batchesOf steps.ofMode steps.sent steps.sayTo
-    steps.ticksSyncing steps.planOf steps.plan steps.remaining steps.retried steps.performed steps.after steps.commands steps.countOf steps.freshCount
-    calls.stepOf calls.argsOf calls.callFits calls.listsFit calls.stepBytes calls.stepAnswer calls.resultRefusal calls.callRefusal
-    calls.stepRefusal calls.step calls.questionPairs calls.questionRefusal calls.question
-entry-test = refl
+whole-area-test : allAsExpected found wholeAreas ≡ true
+unfolding found before same rising protocol.isTransaction settings.mostRequests image.headerBytes image.requestBytes image.padded image.encode
+    image.requestOf image.settingsOf image.modeOf image.stalledOf image.pendingOf image.noneTwice image.requestFits image.marksFit image.countsFit
+    image.clocksFit image.unusedZero image.wellFormed calls.stepRefusal
+whole-area-test = refl
 
 pub layout-cases : Hold found layouts
 layout-cases = each found layouts layouts-test
@@ -62,7 +47,4 @@ pub area-cases : Hold found areaTests
 area-cases = each found areaTests area-test
 
 pub whole-area-cases : Hold found wholeAreas
-whole-area-cases = each found wholeAreas whole-test
-
-pub entry-cases : Hold found entryCases
-entry-cases = each found entryCases entry-test
+whole-area-cases = each found wholeAreas whole-area-test

@@ -280,6 +280,10 @@ hearing clock chainHeight peer tip continuation = argsAt clock chainHeight [] (s
 
 -- ---- what the definitions give
 
+-- What the rules give. A step that sends: outcome and mode; a row a command (kind, type, batch, peer, count, ids); a row a pending
+-- request (id, type, peer, stamp, checks). What it leaves: outcome and mode; sync peer, downloaded height, known tip; last clock, last
+-- progress, last send, sends counted; progress mark, entry mark; stalled peers; evicted ids. Its answer: outcome, retried, fresh,
+-- abandoned, forgotten, pending, evicted, length.
 unfoldable pub found : Case → List (List ℕ)
 found (sends st a) = ending st a ∷ map commandNumbers (commands st a) ++ map requestNumbers (after st a .pending)
 found (leaves st a) = ending st a ∷ syncNumbers (after st a .lastClock) (after st a .sync)
@@ -304,7 +308,7 @@ refusals =
     -- 4: the last clock is 1,000
     (called waiting (plain 7 999 1) gives number 4)
     ∷ (called waiting (plain 7 1000 1) gives number 0)
-    -- 5: kinds 0 and 17, kinds of another mode, each flag
+    -- 5: kinds 0 and 17, a kind of another mode, each flag
     ∷ (called waiting (plain 0 1000 1) gives number 5)
     ∷ (called waiting (plain 17 1000 1) gives number 5)
     ∷ (called waiting (plain 14 1000 1) gives number 5)
@@ -316,9 +320,11 @@ refusals =
     ∷ (called (pickedAt 199) (plain 15 1000 1) gives number 5)
     ∷ (called (pickedAt 200) (plain 15 1000 1) gives number 0)
     ∷ (called (after (pickedAt 200) (at 300 otherMessage)) (plain 15 1000 1) gives number 5)
-    -- 6: each of the three lists; a needed modifier is one id
+    -- 6: each of the three lists, 401 continuation ids; a needed modifier is one id
     ∷ (called waiting (lends 7 1000 1 0 (replicate 31 0) [] [] [] (replicate 4 0)) gives number 6)
     ∷ (called waiting (lends 7 1000 1 0 [] (replicate 31 0) [] [] (replicate 4 0)) gives number 6)
+    ∷ (called waiting (lends 7 1000 1 0 [] (replicate 12832 0) [] [] (replicate 4 0)) gives number 6)
+    ∷ (called waiting (lends 7 1000 1 0 (replicate 12832 0) [] [] [] (replicate 4 0)) gives number 0)
     ∷ (called waiting (lends 7 1000 1 0 [] [] (replicate 32 0) [] (replicate 4 0)) gives number 6)
     ∷ (called waiting (lends 7 1000 1 0 [] [] (replicate 66 0) [] (replicate 4 0)) gives number 6)
     ∷ (called waiting (plain 3 1000 1) gives number 6)
@@ -693,6 +699,8 @@ modeSteps =
     (0 ∷ 2 ∷ []) ∷ requests 0 102 5 (1 ∷ []) ∷ says 1 7 ∷ pending 1 102 5 200 0 ∷ [])
     ∷ (leaves (core syncing (withStalledPeers baseSync (4 ∷ []))) (at 200 progress) gives
     (0 ∷ 2 ∷ []) ∷ (7 ∷ 0 ∷ 0 ∷ []) ∷ (200 ∷ 200 ∷ 200 ∷ 1 ∷ []) ∷ (1 ∷ 0 ∷ []) ∷ [] ∷ [] ∷ [])
+    ∷ (leaves markedCore (at 200 progress) gives
+    (0 ∷ 2 ∷ []) ∷ (7 ∷ 0 ∷ 0 ∷ []) ∷ (200 ∷ 200 ∷ 0 ∷ 0 ∷ []) ∷ (1 ∷ 0 ∷ []) ∷ [] ∷ [] ∷ [])
     -- a second one sends nothing, also after one that was held back; after a tick, or a new entry, it sends again
     ∷ (sends (after syncingCore (at 200 progress)) (at 400 progress) gives (0 ∷ 2 ∷ []) ∷ [])
     ∷ (leaves (after syncingCore (at 200 progress)) (at 400 progress) gives

@@ -1,5 +1,5 @@
 -- The byte examples of docs/LAYOUT.md in one table, with the tests of lists and areas at their edges: what the definitions make of bytes.
-use Prim.Native.Nat.{ℕ, zero, suc}
+use Prim.Native.Nat.{ℕ}
 use mathlib.Core.Bool.{Bool, true, false}
 use mathlib.Core.List.{List, [], _∷_, _++_, map}
 use mathlib.Core.Option.{Option, none, some}
@@ -12,7 +12,7 @@ use Rattle.model.specs.Sections.{Section, Header, absent, present}
 use Rattle.model.specs.Image.{bit, headerBytes, encode, decode, requestBytes, requestOf, countsFit, wellFormed}
 use Rattle.model.specs.Lists.{idsIn, peersIn, pairsIn, viewOf, idsFit, continuationFits, peersFit, pairsFit, rowFits, viewFits}
 use Rattle.model.specs.Commands.{allCommandBytes, commandsIn}
-use Rattle.model.specs.Calls.{Call, Answer, Result, Asked, questionPairs, stepRefusal, step, question}
+use Rattle.model.specs.Calls.{Call, questionPairs, stepRefusal}
 use Rattle.model.specs.Cases.{syncingState}
 use Rattle.model.specs.CaseTables.{Entry, _gives_, plain}
 
@@ -33,11 +33,8 @@ pub data Case : Type 0 where
   commandsRead : List ℕ → Case
   -- the question's pairs: its flag
   questioned : ℕ → State → Case
-  -- the entries on whole areas, all bytes of the command area 77: what a step is refused with, given so many of them; a step; a
-  -- question by its flag
+  -- what a step is refused with: the state area, the length of the command area, the call
   refusedAs : List ℕ → ℕ → Call → Case
-  stepped : List ℕ → Call → Case
-  asked : List ℕ → ℕ → Case
   -- tests, 1 where the bytes pass
   idsTested continuationTested peersTested pairsTested rowTested viewTested countsTested : List ℕ → Case
   -- whether the sound area below is well formed with these bytes changed: an offset and the byte there, and so on
@@ -67,9 +64,6 @@ stateNumbers st =
     ∷ (st .settings .timeout ∷ st .settings .maxChecks ∷ st .settings .minSendInterval ∷ st .settings .stallTimeout ∷ [])
     ∷ (st .sync .lastProgress ∷ st .sync .sendClock .lastSend ∷ st .sync .syncPeer ∷ [])
     ∷ (st .sync .sendClock .sends ∷ st .sync .downloaded ∷ st .sync .knownTip ∷ []) ∷ []
-
-abbrev pub answerNumbers : Answer → List ℕ
-answerNumbers a = a .number ∷ a .outcome ∷ a .retried ∷ a .fresh ∷ a .abandoned ∷ a .forgotten ∷ a .pending ∷ a .evicted ∷ a .length ∷ []
 
 abbrev pub told : Bool → List (List ℕ)
 told test = (bit test ∷ []) ∷ []
@@ -165,11 +159,6 @@ place typeId byte stored = typeId ∷ all32 byte ++ (stored ∷ [])
 abbrev pub viewOf401 : List ℕ
 viewOf401 = 0x00 ∷ 0x00 ∷ 0x01 ∷ 0x91 ∷ 0x01 ∷ 0x66 ∷ all32 0xcc ++ (0x00 ∷ replicate 68 0x00)
 
--- so many pairs of one type, their ids rising: the first two bytes are a number from here on
-abbrev pub risingPairs : ℕ → ℕ → List ℕ
-risingPairs zero from = []
-risingPairs (suc n) from = 0x66 ∷ toBe 2 from ++ (replicate 30 0x00 ++ risingPairs n (suc from))
-
 abbrev pub absentRow : List ℕ
 absentRow = 0xff ∷ replicate 102 0x00
 
@@ -238,13 +227,7 @@ found (viewRead height bytes) = headerNumbers (viewOf bytes height)
 found (written commands) = allCommandBytes commands ∷ []
 found (commandsRead bytes) = allCommandNumbers (commandsIn bytes)
 found (questioned flag st) = questionPairs st flag
-found (stepped state c) =
-    let r : Result = step state (replicate 65536 0x77) c in
-    answerNumbers (r .answer) ∷ take 76 (r .state) ∷ take 18 (r .commands) ∷ []
 found (refusedAs state count c) = (stepRefusal state (replicate count 0x77) c ∷ []) ∷ []
-found (asked state flag) =
-    let a : Asked = question state (replicate 65536 0x77) flag in
-    (a .number ∷ a .length ∷ []) ∷ take 68 (a .commands) ∷ []
 found (idsTested bytes) = told (idsFit bytes)
 found (continuationTested bytes) = told (continuationFits bytes)
 found (peersTested bytes) = told (peersFit bytes)
@@ -338,13 +321,12 @@ listTests =
     ∷ (pairsTested (replicate 32 0) gives fails)
     ∷ (pairsTested (replicate 34 0) gives fails)
     ∷ (pairsTested (0x66 ∷ all32 0xaa ++ (0x66 ∷ all32 0xbb)) gives passes)
+    ∷ (pairsTested (0x66 ∷ toBe 32 1 ++ (0x66 ∷ toBe 32 2)) gives passes)
     ∷ (pairsTested (0x66 ∷ all32 0xaa ++ (0x66 ∷ all32 0xaa)) gives fails)
     ∷ (pairsTested (0x66 ∷ all32 0xbb ++ (0x66 ∷ all32 0xaa)) gives fails)
     ∷ (pairsTested (0x66 ∷ all32 0xaa ++ (0x65 ∷ all32 0xbb)) gives fails)
     ∷ (pairsTested (0x65 ∷ all32 0xbb ++ (0x66 ∷ all32 0xaa)) gives passes)
     ∷ (pairsTested (0x65 ∷ all32 0xaa ++ (0x66 ∷ all32 0xaa ++ (0x66 ∷ all32 0xaa))) gives fails)
-    ∷ (pairsTested (risingPairs 1024 0) gives passes)
-    ∷ (pairsTested (risingPairs 1025 0) gives fails)
     -- a row: count 0 to 3 or 255
     ∷ (rowTested emptyRow gives passes)
     ∷ (rowTested threePlaces gives passes)
@@ -436,7 +418,8 @@ areaTests =
     ∷ (changed (2667 ∷ 1 ∷ []) gives fails)
     ∷ (changed (2655 ∷ 0x66 ∷ 2667 ∷ 1 ∷ []) gives passes) ∷ []
 
--- A whole area: its stalled peers, records and evicted ids at their places, zeros around them, and nothing after 65,536 bytes.
+-- Whole areas: stalled peers, records and evicted ids at their places, with zeros around them, and nothing after 65,536 bytes; then
+-- what a step is refused with: 1 before 2, 2 before 3, 3 before 4.
 abbrev pub wholeAreas : List (Entry Case)
 wholeAreas =
     (area (504 ∷ 40 ∷ 2552 ∷ 120 ∷ 65468 ∷ 100 ∷ []) fullState gives
@@ -444,20 +427,7 @@ wholeAreas =
     ∷ (replicate 8 0x00 ++ (all32 0xaa ++ (0x00 ∷ 0x00 ∷ 0x00 ∷ 0x00 ∷ 0x00 ∷ 0x00 ∷ 0x00 ∷ 0x07 ∷ 0x00 ∷ 0x66
     ∷ 0x00 ∷ 0x00 ∷ 0x00 ∷ 0x00 ∷ 0x00 ∷ 0x00 ∷ 0x27 ∷ 0x10 ∷ 0x00 ∷ 0x00 ∷ 0x00 ∷ 0x01
     ∷ all32 0xbb ++ (0x01 ∷ 0x02 ∷ 0x03 ∷ 0x04 ∷ 0x05 ∷ 0x06 ∷ 0x07 ∷ 0x08 ∷ 0x00 ∷ 0x02 ∷ replicate 7 0x00 ++ (0x09 ∷ replicate 8 0x00)))))
-    ∷ (replicate 4 0x00 ++ (all32 0xee ++ all32 0x11)) ∷ []) ∷ []
-
--- The entries: 1 before 2, 2 before 3, 3 before 4; a question and a step that finish.
-abbrev pub entryCases : List (Entry Case)
-entryCases =
-    (refusedAs (replicate 65535 0x00) 65536 (plain 13 1200 1) gives (1 ∷ []) ∷ [])
-    ∷ (refusedAs (replicate 65537 0x00) 65536 (plain 13 1200 1) gives (1 ∷ []) ∷ [])
+    ∷ (replicate 4 0x00 ++ (all32 0xee ++ all32 0x11)) ∷ [])
+    ∷ (refusedAs (replicate 65535 0x00) 65536 (plain 13 1200 1) gives (1 ∷ []) ∷ [])
     ∷ (refusedAs (replicate 65536 0x00) 65535 (plain 13 1200 1) gives (2 ∷ []) ∷ [])
-    ∷ (refusedAs wholeArea 65535 (plain 13 999 1) gives (3 ∷ []) ∷ [])
-    -- a check's pairs in the command area, whose later bytes stay
-    ∷ (asked wholeArea 0 gives
-    (0 ∷ 66 ∷ []) ∷ (0x65 ∷ all32 0x11 ++ (0x65 ∷ all32 0xee ++ (0x77 ∷ 0x77 ∷ []))) ∷ [])
-    -- a scheduled tick at 1,200: last clock and last send are that, two sends are counted, 16 bytes are written
-    ∷ (stepped wholeArea (plain 13 1200 1) gives
-    (0 ∷ 0 ∷ 0 ∷ 0 ∷ 0 ∷ 0 ∷ 2 ∷ 2 ∷ 16 ∷ [])
-    ∷ withBytes (14 ∷ 0x04 ∷ 15 ∷ 0xb0 ∷ 46 ∷ 0x04 ∷ 47 ∷ 0xb0 ∷ 59 ∷ 2 ∷ 73 ∷ 2 ∷ []) (take 76 soundArea)
-    ∷ (0x03 ∷ replicate 10 0x00 ++ (0x07 ∷ 0x00 ∷ 0x00 ∷ 0x00 ∷ 0x00 ∷ 0x77 ∷ 0x77 ∷ [])) ∷ []) ∷ []
+    ∷ (refusedAs wholeArea 65535 (plain 13 999 1) gives (3 ∷ []) ∷ []) ∷ []
