@@ -19,14 +19,14 @@ pub mod WrongListLaws
 pub mod WrongViewLaws
 pub mod RefusalsKept
 pub mod WordLaws
-pub mod PairLaws
+pub mod ListLaws
+pub mod ModeLaws
 pub mod ItemLaws
 pub mod AskedLaws
 pub mod AsksKept
 pub mod BatchesKept
 pub mod AskingLaws
 pub mod CheckedLaws
-pub mod DecidedLaws
 pub mod LeftLaws
 pub mod PendingKept
 pub mod ToldKept

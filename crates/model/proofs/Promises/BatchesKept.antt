@@ -35,8 +35,8 @@ use Rattle.model.proofs.RequestedLaws.{requestedBySendings, requested-c
 use Rattle.model.proofs.StepKindLaws.{check-of-kind}
 use Rattle.model.proofs.Promises.SeenLaws.{seenAs, Finished, numbers-fit}
 use Rattle.model.proofs.Promises.CheckAsked.{fresh-performed}
-use Rattle.model.proofs.Promises.PairLaws.{Pairwise, all-of, pairwise-append, pairwise-map, pairwise-next}
-use Rattle.model.proofs.Promises.PairLaws.{OfFirst, Neighbours, next-of, next-append, next-map}
+use Rattle.model.proofs.Promises.ListLaws.{Pairwise, all-of, pairwise-append, pairwise-map, pairwise-next}
+use Rattle.model.proofs.Promises.ListLaws.{OfFirst, Neighbours, next-of, next-append, next-map}
 use Rattle.model.proofs.Promises.ItemLaws.{BatchBelow, batches-keyed, batches-rise}
 use Rattle.model.proofs.Promises.AskedLaws.{Says, continuation-says, say-to-says, enters-says, picks-say, ticks-say, unretried, acts-well}
 

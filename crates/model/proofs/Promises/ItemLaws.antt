@@ -14,7 +14,7 @@ use Rattle.fields.proofs.OrderLaws.{not-both, or-right, trichotomy}
 use Rattle.fields.proofs.AllLaws.{all-weaker}
 use Rattle.fields.proofs.SortLaws.{WeakOrder, Rising, all-sorted, sorted-rises}
 use Rattle.model.specs.Sections.{Item, itemBelow, Batch, join, adjacent, batchesOf}
-use Rattle.model.proofs.Promises.PairLaws.{Pairwise}
+use Rattle.model.proofs.Promises.ListLaws.{Pairwise}
 
 -- ---- the order
 

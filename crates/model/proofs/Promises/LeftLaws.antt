@@ -17,7 +17,7 @@ use Rattle.model.specs.Promises.Numbers
 use Rattle.model.specs.Promises.Words.{Seen, ids, Among}
 use Rattle.model.specs.Promises.Pending as pending
 use Rattle.model.specs.Promises.Pending.{Retried, TakenOut, Becomes, restartedAt}
-use Rattle.model.proofs.Promises.DecidedLaws.{Decides}
+use Rattle.model.proofs.Promises.TellsLaws.{Tells}
 use Rattle.model.proofs.Promises.VerdictLaws.{Made, made, waiting-stays, retried-stays}
 use Rattle.model.proofs.Promises.CheckedLaws.{leaves, checked}
 
@@ -53,15 +53,13 @@ module _ (s : Seen) where
     left-all n [] = nothing
     left-all n (r ∷ rs) = on r r rs rs (n r) (pending.asItWas (other r)) (left-all n rs)
 
-    pub left-kept : (taken : Request → Bool) → ((r : Request) → Decides (taken r) (TakenOut s r)) → (rs : List Request)
-        → Left rs (kept (λ (r : Request). not (taken r)) rs)
-    left-kept taken d [] = nothing
-    left-kept taken d (r ∷ rs) = go (taken r) (d r) (left-kept taken d rs)
+    pub left-tested : (stays : Request → Bool) → ((r : Request) → Tells (stays r) (TakenOut s r)) → (rs : List Request) → Left rs (kept stays rs)
+    left-tested stays t [] = nothing
+    left-tested stays t (r ∷ rs) = go (stays r) (t r) (left-tested stays t rs)
       where
-        go : (t : Bool) → Decides t (TakenOut s r) → Left rs (kept (λ (r : Request). not (taken r)) rs)
-            → Left (r ∷ rs) (consIf (not t) r (kept (λ (r : Request). not (taken r)) rs))
-        go true t l = out r rs (kept (λ (r : Request). not (taken r)) rs) t l
-        go false n l = on r r rs (kept (λ (r : Request). not (taken r)) rs) n (pending.asItWas (other r)) l
+        go : (u : Bool) → Tells u (TakenOut s r) → Left rs (kept stays rs) → Left (r ∷ rs) (consIf u r (kept stays rs))
+        go true e l = on r r rs (kept stays rs) (e .passed refl) (pending.asItWas (other r)) l
+        go false e l = out r rs (kept stays rs) (e .failed refl) l
 
   pub left-none : ((r : Request) → TakenOut s r) → (rs : List Request) → Left rs []
   left-none t [] = nothing

@@ -28,33 +28,9 @@ use Rattle.model.specs.Promises.Words.{Among, First, LeftOf}
 use Rattle.model.specs.Promises.Asked.{under, StoredAs, TypesRise, Orphans, Orphan, AsksOrphans}
 use Rattle.model.proofs.Well.{RisingIds}
 use Rattle.model.proofs.Promises.SeenLaws.{seenAs, Finished}
-use Rattle.model.proofs.Promises.WordLaws.{passes-stored, fails-stored, first-listed, left-kept-twice}
+use Rattle.model.proofs.Promises.WordLaws.{passes-stored, stored-tells, first-listed, left-kept-twice, left-within, left-only}
+use Rattle.model.proofs.Promises.TellsLaws.{tells-not}
 use Rattle.model.proofs.Promises.ByTypeLaws.{ofType, OfPeer, Known, ByType, asks, askedBy, asked-by-type, asked-by-acts}
-
--- ---- lists
-
-module _ {A : Type 0} (Out : A → Type 0) where
-  -- What is left of a list stood in it.
-  pub left-within : (x : A) (xs left : List A) → LeftOf Out xs left → Among x left → Among x xs
-  left-within x [] left e h = absurd (subst (Among x) e h)
-  left-within x (y ∷ xs) left (inl k) h = inr (left-within x xs left (k .1) h)
-  left-within x (y ∷ xs) left (inr k) h = ⊎-elim inl (λ m. inr (left-within x xs (k .1 .0) (k .1 .2) m)) (subst (Among x) (k .1 .1) h)
-
-  -- What is left is what a test keeps that says the same of the list's own elements.
-  pub left-only : (test : A → Bool) (xs left : List A) → ((x : A) → Among x xs → test x ≡ true → Out x → ⊥) → ((x : A) → test x ≡ false → Out x)
-      → LeftOf Out xs left → left ≡ kept test xs
-  left-only test [] left stays leaves e = e
-  left-only test (y ∷ xs) left stays leaves (inl k) = go (test y) refl (left-only test xs left (λ x m. stays x (inr m)) leaves (k .1))
-    where
-      go : (t : Bool) → test y ≡ t → left ≡ kept test xs → left ≡ consIf t y (kept test xs)
-      go true e rest = absurd (stays y (inl refl) e (k .0))
-      go false e rest = rest
-  left-only test (y ∷ xs) left stays leaves (inr k) =
-      k .1 .1 ∙ go (test y) refl (left-only test xs (k .1 .0) (λ x m. stays x (inr m)) leaves (k .1 .2))
-    where
-      go : (t : Bool) → test y ≡ t → k .1 .0 ≡ kept test xs → y ∷ k .1 .0 ≡ consIf t y (kept test xs)
-      go true e rest = ap (λ (l : List A). y ∷ l) rest
-      go false e rest = absurd (k .0 (leaves y e))
 
 -- ---- an id is pending once
 
@@ -178,7 +154,7 @@ module _ (lost : ℕ) where
     -- so that of an orphan only the stored pairs decide
     not-out : (typeId : ℕ) (id : Id) → Among id (idsOf (kept (isOrphan typeId) pending)) → not (isStored pairs typeId id) ≡ true → Out typeId id → ⊥
     not-out typeId id m t (inl (inl k)) = not-pending typeId id m k
-    not-out typeId id m t (inl (inr k)) = fails-stored pairs typeId id (not-true (isStored pairs typeId id) t) k
+    not-out typeId id m t (inl (inr k)) = stored-tells pairs typeId id .passed t k
     not-out typeId id m t (inr k) = not-lower typeId (k .0) id (k .1) m (k .2)
 
     under-orphans : (typeId : ℕ) → under typeId asked ≡ idsOf (kept (λ (r : Request). not (isStored pairs typeId (r .id))) (kept (isOrphan typeId) pending))
@@ -235,13 +211,10 @@ module _ (st : State) (call : Call) (o : Orphans (seenAs st call)) where
   left-orphans : (typeId : ℕ) → LeftOf (λ (r : Request). (Orphan (seenAs st call) typeId r → ⊥) ⊎ StoredAs (seenAs st call) typeId (r .id)) (st .pending)
       (kept (λ (r : Request). not (isStored (pairsIn (call .stored)) typeId (r .id))) (kept (isOrphan (call .peer) typeId) (st .pending)))
   left-orphans typeId =
-      left-kept-twice (λ (r : Request). (Orphan (seenAs st call) typeId r → ⊥) ⊎ StoredAs (seenAs st call) typeId (r .id))
+      left-kept-twice (λ (r : Request). Orphan (seenAs st call) typeId r → ⊥) (λ (r : Request). StoredAs (seenAs st call) typeId (r .id))
       (isOrphan (call .peer) typeId) (λ (r : Request). not (isStored (pairsIn (call .stored)) typeId (r .id)))
-      (λ r p n. ⊎-elim (λ k. k (orphan typeId r p))
-      (fails-stored (pairsIn (call .stored)) typeId (r .id) (not-true (isStored (pairsIn (call .stored)) typeId (r .id)) n)))
-      (λ r p. inl (λ k. not-both (isOrphan (call .peer) typeId r) (is-orphan (call .peer) typeId r (k .peer) (k .typed) (k .noTransaction)) p))
-      (λ r n. inr (passes-stored (pairsIn (call .stored)) typeId (r .id) (not-false (isStored (pairsIn (call .stored)) typeId (r .id)) n)))
-      (st .pending)
+      (λ r. tells-not (isOrphan (call .peer) typeId r) (orphan typeId r) (λ k. is-orphan (call .peer) typeId r (k .peer) (k .typed) (k .noTransaction)))
+      (λ r. stored-tells (pairsIn (call .stored)) typeId (r .id)) (st .pending)
 
 pub orphans-asked : (st : State) (call : Call) → Finished st call
     → (peer : ℕ) → call .gate ≡ 1 → Orphans (seenAs st call) → First peer (peersIn (call .peers)) → AsksOrphans (seenAs st call) peer

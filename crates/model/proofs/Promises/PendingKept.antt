@@ -41,12 +41,16 @@ use Rattle.model.proofs.Widths.{WellAct}
 use Rattle.model.proofs.PlanLaws.{plan-well}
 use Rattle.model.proofs.RequestedLaws.{requestedItem, requestedBySendings, requested-append, requested-commands, requested-retries}
 use Rattle.model.proofs.Promises.SeenLaws as kinds
-use Rattle.model.proofs.Promises.SeenLaws.{seenAs, Finished, Kind, kind-of, mode-of, numbers-fit}
-use Rattle.model.proofs.Promises.DecidedLaws.{decides-as, among-decides, eqb-decides, is-syncing, is-check, verdict-number}
-use Rattle.model.proofs.Promises.VerdictLaws.{goes-to, made-verdict, retried-stays, stamps-past}
+use Rattle.model.proofs.Promises.SeenLaws.{seenAs, Finished, Kind, kind-of, numbers-fit, is-check}
+use Rattle.model.proofs.Promises.ListLaws.{among-back, among-either, among-kept, all-among, among-map, among-sorted}
+use Rattle.model.proofs.Promises.ModeLaws.{mode-is, mode-is-not}
+use Rattle.model.proofs.Promises.TellsLaws.{tells-as, is-tells}
+use Rattle.model.proofs.Promises.WordLaws.{among-tells}
+use Rattle.model.proofs.Promises.VerdictLaws.{verdict-is, goes-to, goes-to-only, made-verdict, retried-stays, stamps-past}
 use Rattle.model.proofs.Promises.CheckedLaws.{checked-still, checked-again}
-use Rattle.model.proofs.Promises.AskingLaws.{among-back, among-either, among-kept, all-among, among-map, among-sorted, New, Grows, acts-grow}
-use Rattle.model.proofs.Promises.LeftLaws.{Left, left-of, came-from, becomes-id, left-all, left-kept, left-none, left-checked}
+use Rattle.model.proofs.Promises.AskingLaws.{New, Grows, acts-grow}
+use Rattle.model.proofs.Promises.AskedLaws.{acts-well}
+use Rattle.model.proofs.Promises.LeftLaws.{Left, left-of, came-from, becomes-id, left-all, left-tested, left-none, left-checked}
 use Rattle.model.proofs.Promises.LeftLaws.{takesOut, untaken, taken-listed, taken-lost}
 
 -- ---- the evicted list
@@ -183,8 +187,8 @@ module _ (st : State) (call : Call) (f : Finished st call) where
   left-listed : (n : ℕ) → call .kind ≡ n → eqb n Numbers.reorg ≡ false → eqb n Numbers.lostPeer ≡ false → eqb n Numbers.check ≡ false
       → ((r : Request) → Among (r .id) given → TakenOut s r) → Left s (st .pending) (kept (λ (r : Request). not (isAmong (r .id) given)) (st .pending))
   left-listed n k a b c takes =
-      left-kept s (no-check n k c) (λ (r : Request). isAmong (r .id) given)
-      (λ r. decides-as (isAmong (r .id) given) (takes r) (taken-listed s r n k a b c) (among-decides (r .id) given)) (st .pending)
+      left-tested s (no-check n k c) (λ (r : Request). not (isAmong (r .id) given))
+      (λ r. tells-as (takes r) (taken-listed s r n k a b c) (among-tells (r .id) given)) (st .pending)
 
   left-lost : call .kind ≡ Numbers.lostPeer
       → Left s (st .pending) (cond (eqb (call .peer) (st .sync .syncPeer) && isMode (st .mode) syncing) (purgePeer (call .peer) (st .pending)) (st .pending))
@@ -197,10 +201,10 @@ module _ (st : State) (call : Call) (f : Finished st call) where
       go : (t u : Bool) → eqb (call .peer) (st .sync .syncPeer) ≡ t → isMode (st .mode) syncing ≡ u
           → Left s (st .pending) (cond (t && u) (kept (λ (r : Request). not (eqb (r .peer) (call .peer))) (st .pending)) (st .pending))
       go true true e m =
-          left-kept s (no-check Numbers.lostPeer k refl) (λ (r : Request). eqb (r .peer) (call .peer))
-          (λ r. decides-as (eqb (r .peer) (call .peer)) (pending.orphaned k (is-syncing (st .mode) m) (eqb-true (call .peer) (st .sync .syncPeer) e))
-          (λ t. taken-lost s r k t .2) (eqb-decides (r .peer) (call .peer))) (st .pending)
-      go true false e m = whole (λ r t. false≢true (sym m ∙ ap (λ (mode : Mode). isMode mode syncing) (taken-lost s r k t .0)))
+          left-tested s (no-check Numbers.lostPeer k refl) (λ (r : Request). not (eqb (r .peer) (call .peer)))
+          (λ r. tells-as (pending.orphaned k (mode-is (st .mode) syncing m) (eqb-true (call .peer) (st .sync .syncPeer) e))
+          (λ t. taken-lost s r k t .2) (is-tells (r .peer) (call .peer))) (st .pending)
+      go true false e m = whole (λ r t. mode-is-not (st .mode) syncing m (taken-lost s r k t .0))
       go false u e m = whole (λ r t. eqb-false (call .peer) (st .sync .syncPeer) e (taken-lost s r k t .1))
 
   left-check : call .kind ≡ Numbers.check → Left s (st .pending) (markAllRetried retry (checkTimeouts (st .settings) (call .clock) (st .pending)))
@@ -242,10 +246,6 @@ module _ (st : State) (call : Call) (f : Finished st call) where
 
   -- ---- what it asks for
 
-  acts-well : All WellAct (plan st (argsOf call) .acts)
-  unfolding argsOf after
-  acts-well = plan-well st (argsOf call) (f .well .sync) (f .well .requests) (f .passed .clock) (f .args) (mode-of st call f) (f .passed .stalledFew) .acts
-
   abbrev askedFirst : List Requested
   askedFirst = map requestedItem (sorted itemBelow (retried st (argsOf call)))
 
@@ -261,7 +261,7 @@ module _ (st : State) (call : Call) (f : Finished st call) where
 
   grows : Grows (call .clock) (middle (stepOf call)) askedLater now
   unfolding after performed argsOf retried
-  grows = acts-grow (call .clock) (eqb (call .gate) 1) (plan st (argsOf call) .acts) (middle (stepOf call)) acts-well
+  grows = acts-grow (call .clock) (eqb (call .gate) 1) (plan st (argsOf call) .acts) (middle (stepOf call)) (acts-well st call f)
 
   -- ---- the promise
 
@@ -283,47 +283,53 @@ module _ (st : State) (call : Call) (f : Finished st call) where
             notBefore = λ old b e. ⊎-elim (λ t. t) (λ p. absurd (n .notBefore (p .0) (p .2) (becomes-id s (p .1) ∙ e))) (left-of s left old b);
           }
 
-  -- An id that a retry asks for is that of a request to be retried.
-  retry-due : call .kind ≡ Numbers.check → (i : Item) → Among i retry → (r : Request) × Among r (st .pending) × Retried s r × (r .id ≡ i .id)
-  unfolding retries retryOf judged
-  retry-due k i a = go (eqb (call .gate) 1) a
+  -- What a retry asks for is asked of the target of a request that is retried.
+  retry-due : call .kind ≡ Numbers.check → (i : Item) → Among i retry
+      → (r : Request) × Among r (st .pending) × Retried s r × (call .gate ≡ 1) × (i ≡ retryOf listed r)
+  unfolding retries judged
+  retry-due k i a = go (eqb (call .gate) 1) refl a
     where
-      verdictOf : Request → Verdict
-      verdictOf r = verdict (st .settings) (call .clock) r
-
       isDue : Request → Bool
-      isDue r = eqb (verdictNumber (verdictOf r)) (verdictNumber Delivery.retried)
+      isDue r = eqb (verdictNumber (verdict (st .settings) (call .clock) r)) (verdictNumber Delivery.retried)
 
-      go : (t : Bool) → Among i (retryIf t) → (r : Request) × Among r (st .pending) × Retried s r × (r .id ≡ i .id)
-      go true b =
+      go : (t : Bool) → eqb (call .gate) 1 ≡ t → Among i (retryIf t)
+          → (r : Request) × Among r (st .pending) × Retried s r × (call .gate ≡ 1) × (i ≡ retryOf listed r)
+      go true g b =
           let p = among-map (retryOf listed) i (judged (st .settings) (call .clock) Delivery.retried (st .pending)) b in
           let r : Request = p .0 in
           let q = among-kept isDue r (st .pending) (p .1) in
-          let e : verdictOf r ≡ Delivery.retried = verdict-number (verdictOf r) Delivery.retried (eqb-true (verdictNumber (verdictOf r)) 1 (q .1)) in
+          let e = verdict-is (verdict (st .settings) (call .clock) r) Delivery.retried (q .1) in
           let stamp : r .stamp ≤ call .clock = all-among (λ (r : Request). r .stamp ≤ call .clock) r (st .pending) (stamps-past st call f) (q .0) in
-          (r, q .0, made-verdict s k r stamp Delivery.retried e, sym (ap (λ (x : Item). x .id) (p .2)))
-      go false b = absurd b
+          (r, q .0, made-verdict s k r stamp Delivery.retried e, eqb-true (call .gate) 1 g, p .2)
+      go false g b = absurd b
 
-  retry-pending : (i : Item) → Among i (retried st (argsOf call)) → (r : Request) × Among r now × (r .id ≡ i .id)
+  -- a request that is retried and stays is one of its target
+  moved-on : {r later : Request} → Retried s r → call .gate ≡ 1 → Becomes s r later → asRequested later ≡ requestedItem (retryOf listed r)
+  unfolding retryOf
+  moved-on m g (pending.asItWas n) = absurd (n m)
+  moved-on {r} m g (pending.movedOn peer n o t) = ap (λ (p : ℕ). record { id = r .id; typeId = r .typeId; peer = p }) (goes-to-only t)
+  moved-on m g (pending.heldBack n o) = absurd (omega (arith, g, o))
+
+  retry-pending : (i : Item) → Among i (retried st (argsOf call)) → (r : Request) × Among r now × (asRequested r ≡ requestedItem i)
   unfolding retried argsOf
   retry-pending i a = go (isCheck (stepOf call)) (is-check st call f) a
     where
-      go : (t : Bool) → eqb (call .kind) Numbers.check ≡ t → Among i (cond t retry []) → (r : Request) × Among r now × (r .id ≡ i .id)
+      go : (t : Bool) → eqb (call .kind) Numbers.check ≡ t → Among i (cond t retry []) → (r : Request) × Among r now × (asRequested r ≡ requestedItem i)
       go true e b =
           let k : call .kind ≡ Numbers.check = eqb-true (call .kind) Numbers.check e in
           let p = retry-due k i b in
           let q = pending-stays (p .0) (p .1) (retried-stays s (p .0) k (p .2)) in
-          (q .0, q .2, becomes-id s (q .1) ∙ p .3)
+          (q .0, q .2, moved-on (p .2) (p .3) (q .1) ∙ ap requestedItem (sym (p .4)))
       go false e b = absurd b
 
-  pub pending-asked : (q : Requested) → Among q (requestedIn (commands st (argsOf call))) → (r : Request) × Among r now × (r .id ≡ q .id)
+  pub pending-asked : (q : Requested) → Among q (requestedIn (commands st (argsOf call))) → (r : Request) × Among r now × (asRequested r ≡ q)
   pending-asked q a = ⊎-elim first (grows .there q) (among-either q askedFirst askedLater (subst (Among q) asked-in a))
     where
-      first : Among q askedFirst → (r : Request) × Among r now × (r .id ≡ q .id)
+      first : Among q askedFirst → (r : Request) × Among r now × (asRequested r ≡ q)
       first b =
           let p = among-map requestedItem q (sorted itemBelow (retried st (argsOf call))) b in
           let r = retry-pending (p .0) (among-sorted itemBelow (p .0) (retried st (argsOf call)) (p .1)) in
-          (r .0, r .1, r .2 ∙ sym (ap (λ (x : Requested). x .id) (p .2)))
+          (r .0, r .1, r .2 ∙ sym (p .2))
 
 above-ids : (id : Id) (rs : List Request) → All (λ (other : Id). before id other ≡ true) (idsOf rs) → All (λ (r : Request). before id (r .id) ≡ true) rs
 above-ids id [] h = tt

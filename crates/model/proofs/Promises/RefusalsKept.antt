@@ -18,6 +18,7 @@ use Rattle.model.specs.Promises.Refusals
 use Rattle.model.specs.Promises.Refusals.{Unseen, FirstWrong, wrongs, allWrongs}
 use Rattle.model.proofs.StepLaws.{of-mode}
 use Rattle.model.proofs.EntryLaws.{step-refused}
+use Rattle.model.proofs.Promises.SeenLaws.{number-told}
 use Rattle.model.proofs.Promises.ReadLaws.{unseen, all-seen}
 use Rattle.model.proofs.Promises.TellsLaws.{Tells, tells-itself, le-tells, eq-tells}
 use Rattle.model.proofs.Promises.WrongCallLaws.{call-tells, fits-kind}
@@ -39,16 +40,6 @@ then-told {ok} {Wrong} {others} {first} {Wrongs} t rest = record { told = go ok 
     go : (ok : Bool) → Tells ok Wrong → (ok ≡ true → Told others (suc first) Wrongs) → FirstWrong (unless ok first others) first (Wrong ∷ Wrongs)
     go true t rest = inr (t .passed refl, rest refl .told)
     go false t rest = inl (t .failed refl, refl)
-
-module _ (state area : List ℕ) (call : Call) where
-  -- the number told is that of the refusal, 0 or not
-  number-told : step state area call .answer .number ≡ stepRefusal state area call
-  unfolding step stepAnswer
-  number-told = go (eqb (stepRefusal state area call) 0) refl
-    where
-      go : (t : Bool) → eqb (stepRefusal state area call) 0 ≡ t → step state area call .answer .number ≡ stepRefusal state area call
-      go true e = rw e (sym (eqb-true (stepRefusal state area call) 0 e))
-      go false e = rw e
 
 -- 9: its laws need that 5 was passed
 seen-tells : (s : Seen) → callFits (s .before) (s .call) ≡ true → Tells (plan (s .before) (argsOf (s .call)) .inView) (Unseen s)

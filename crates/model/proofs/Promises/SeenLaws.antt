@@ -10,7 +10,7 @@ use Rattle.fields.specs.Facts.{Bytes}
 use Rattle.fields.proofs.OrderLaws.{and-left, and-right}
 use Rattle.model.specs.State.{State}
 use Rattle.model.specs.Steps
-use Rattle.model.specs.Steps.{Step, ofMode, planOf, plan, after, commands}
+use Rattle.model.specs.Steps.{Step, ofMode, isCheck, planOf, plan, after, commands}
 use Rattle.model.specs.Image.{decode}
 use Rattle.model.specs.Lists.{idsIn}
 use Rattle.model.specs.Calls.{Call, isFlag, stepOf, argsOf, callFits, stepRefusal, step, stepAnswer}
@@ -23,7 +23,7 @@ use Rattle.model.proofs.FinishedLaws.{Passed, passed, PassedAreas, pass
 use Rattle.model.proofs.RoundLaws.{decode-encode, decode-well}
 use Rattle.model.proofs.StepLaws.{of-mode, args-well, step-well}
 use Rattle.model.proofs.EntryLaws.{step-finished, step-commands-read}
-use Rattle.model.proofs.StepKindLaws.{by-kind}
+use Rattle.model.proofs.StepKindLaws.{by-kind, check-of-kind}
 
 -- What a step of the model shows.
 abbrev pub seenAs : State → Call → Seen
@@ -38,30 +38,29 @@ pub record Finished (st : State) (call : Call) : Type 0 where
   pub args : WellArgs (argsOf call)
   pub wellAfter : Well (after st (argsOf call))
 
-number-zero : (state area : List ℕ) (call : Call) → step state area call .answer .number ≡ 0 → stepRefusal state area call ≡ 0
-unfolding step
-number-zero state area call e = go (eqb (stepRefusal state area call) 0) refl
+-- the number told is that of the refusal, 0 or not
+pub number-told : (state area : List ℕ) (call : Call) → step state area call .answer .number ≡ stepRefusal state area call
+unfolding step stepAnswer
+number-told state area call = go (eqb (stepRefusal state area call) 0) refl
   where
-    go : (t : Bool) → eqb (stepRefusal state area call) 0 ≡ t → stepRefusal state area call ≡ 0
-    go true z = eqb-true (stepRefusal state area call) 0 z
-    go false z = let n : step state area call .answer .number ≡ stepRefusal state area call = rw z in sym n ∙ e
+    go : (t : Bool) → eqb (stepRefusal state area call) 0 ≡ t → step state area call .answer .number ≡ stepRefusal state area call
+    go true e = rw e (sym (eqb-true (stepRefusal state area call) 0 e))
+    go false e = rw e
 
-module _ (state area : List ℕ) (call : Call) (bytes : Bytes state) (width : InWidth call) (e : stepRefusal state area call ≡ 0) where
-  areas : PassedAreas state area call
-  areas = passed-areas state area call e
-
-  well : Well (decode state)
-  well = decode-well state (areas .stateSize) bytes (areas .image)
-
+module _ (state area : List ℕ) (call : Call) (well : Well (decode state)) (width : InWidth call) (e : stepRefusal state area call ≡ 0) where
   pub finished : Finished (decode state) call
   finished =
+      let p : PassedAreas state area call = passed-areas state area call e in
       record {
         well = well;
         width = width;
-        passed = passed (decode state) call (areas .finished);
-        args = args-well (decode state) call width (areas .finished);
-        wellAfter = step-well (decode state) call well width (areas .finished);
+        passed = passed (decode state) call (p .finished);
+        args = args-well (decode state) call width (p .finished);
+        wellAfter = step-well (decode state) call well width (p .finished);
       }
+
+  pub state-after : decode (step state area call .state) ≡ after (decode state) (argsOf call)
+  state-after = rw (step-finished state area call e) (decode-encode (after (decode state) (argsOf call)) (finished .wellAfter))
 
   pub seen-finished : seen state area call ≡ seenAs (decode state) call
   unfolding seen
@@ -71,8 +70,10 @@ module _ (state area : List ℕ) (call : Call) (bytes : Bytes state) (width : In
 -- A promise is kept by every finished call if the model's steps keep it.
 pub promised : (P : Seen → Type 0) → ((st : State) (call : Call) → Finished st call → P (seenAs st call)) → Promised P
 promised P keeps state area call bytes width e =
-    let z : stepRefusal state area call ≡ 0 = number-zero state area call e in
-    rw (seen-finished state area call bytes width z) (keeps (decode state) call (finished state area call bytes width z))
+    let z : stepRefusal state area call ≡ 0 = sym (number-told state area call) ∙ e in
+    let p : PassedAreas state area call = passed-areas state area call z in
+    let well : Well (decode state) = decode-well state (p .stateSize) bytes (p .image) in
+    rw (seen-finished state area call well width z) (keeps (decode state) call (finished state area call well width z))
 
 -- ---- a call's kind, and the step that it is
 
@@ -182,3 +183,6 @@ module _ (st : State) (call : Call) (f : Finished st call) where
 
   pub mode-of : ofMode (st .mode) (st .sync .entrySent) (stepOf call) ≡ true
   mode-of = of-mode st call (f .passed .fits)
+
+  pub is-check : eqb (call .kind) numbers.check ≡ isCheck (stepOf call)
+  is-check = check-of-kind call (numbers-fit .kindLow) (numbers-fit .kindHigh)

@@ -1,7 +1,7 @@
 -- What a finished step tells: the promises of specs/Promises/Told are kept.
 use Prim.Native.Nat.{ℕ, suc, _+_, _-_, _≤_}
 use mathlib.Core.Path.{_≡_, refl, sym, ap, _∙_, subst}
-use mathlib.Core.Bool.{Bool, true, false, cond}
+use mathlib.Core.Bool.{Bool, true, false, not, cond}
 use mathlib.Core.Logic.{inl, inr}
 use mathlib.Core.List.{List, [], _∷_}
 use native.Mathlib.Omega.{arith}
@@ -28,24 +28,16 @@ use Rattle.model.proofs.Widths.{WellCommand}
 use Rattle.model.proofs.FinishedLaws.{Passed}
 use Rattle.model.proofs.CommandLaws.{length-command}
 use Rattle.model.proofs.BoundLaws.{commands-in-width}
-use Rattle.model.proofs.Promises.SeenLaws.{seenAs, Finished}
-use Rattle.model.proofs.Promises.DecidedLaws.{Decides, verdict-number, is-check}
-use Rattle.model.proofs.Promises.VerdictLaws.{Made, made, made-once, stamps-past}
+use Rattle.model.proofs.Promises.SeenLaws.{seenAs, Finished, is-check}
+use Rattle.model.proofs.Promises.TellsLaws.{Tells, tells-passed, tells-failed, turned-tells}
+use Rattle.model.proofs.Promises.WordLaws.{counted-kept}
+use Rattle.model.proofs.Promises.VerdictLaws.{verdict-is, Made, made, made-once, late, in-time, stamps-past}
 
 -- ---- counting
 
-module _ {A : Type 0} (Such : A → Type 0) where
-  counted-kept : (test : A → Bool) (xs : List A) → All (λ (x : A). Decides (test x) (Such x)) xs → Counted Such xs (length (kept test xs))
-  counted-kept test [] d = refl
-  counted-kept test (x ∷ xs) d = go (test x) (d .0) (counted-kept test xs (d .1))
-    where
-      go : (t : Bool) → Decides t (Such x) → Counted Such xs (length (kept test xs)) → Counted Such (x ∷ xs) (length (consIf t x (kept test xs)))
-      go true p c = inr (p, (length (kept test xs), refl, c))
-      go false p c = inl (p, c)
-
-  counted-none : ((x : A) → Such x → ⊥) → (xs : List A) → Counted Such xs 0
-  counted-none never [] = refl
-  counted-none never (x ∷ xs) = inl (never x, counted-none never xs)
+counted-none : {A : Type 0} (Such : A → Type 0) → ((x : A) → Such x → ⊥) → (xs : List A) → Counted Such xs 0
+counted-none Such never [] = refl
+counted-none Such never (x ∷ xs) = inl (never x, counted-none Such never xs)
 
 -- ---- bytes
 
@@ -59,12 +51,10 @@ bytes-counted (c ∷ cs) w =
 -- ---- verdicts
 
 -- A verdict's number says whether this is what a check makes of a request.
-made-decides : (s : Seen) (r : Request) (v what : Verdict) → Made s r v → Decides (eqb (verdictNumber v) (verdictNumber what)) (Made s r what)
-made-decides s r v what m = go (eqb (verdictNumber v) (verdictNumber what)) refl
-  where
-    go : (t : Bool) → eqb (verdictNumber v) (verdictNumber what) ≡ t → Decides t (Made s r what)
-    go true e = let x : v ≡ what = verdict-number v what (eqb-true (verdictNumber v) (verdictNumber what) e) in subst (Made s r) x m
-    go false e = λ n. eqb-false (verdictNumber v) (verdictNumber what) e (ap verdictNumber (made-once s r v what m n))
+made-tells : (s : Seen) (r : Request) (v what : Verdict) → Made s r v → Tells (not (eqb (verdictNumber v) (verdictNumber what))) (Made s r what)
+made-tells s r v what m =
+    turned-tells (eqb (verdictNumber v) (verdictNumber what)) (λ e. subst (Made s r) (verdict-is v what e) m)
+    (λ e n. eqb-false (verdictNumber v) (verdictNumber what) e (ap verdictNumber (made-once s r v what m n)))
 
 -- Every request has one verdict.
 one-verdict : (v : Verdict) (r : Request) (rs again gone lost still : List Request) → length again + length gone + length lost + length still ≡ length rs
@@ -88,20 +78,23 @@ module _ (settings : Settings) (clock : ℕ) where
       (judged settings clock Delivery.forgotten rs) (judged settings clock Delivery.waiting rs) (judged-all rs)
 
   -- it waits while it is not overdue
-  waits : (r : Request) → r .stamp ≤ clock → Decides (eqb (verdictNumber (verdict settings clock r)) 0) (r .stamp + settings .timeout ≤ clock → ⊥)
+  waits : (r : Request) → r .stamp ≤ clock
+      → Tells (not (eqb (verdictNumber (verdict settings clock r)) 0)) (r .stamp + settings .timeout ≤ clock → ⊥)
   unfolding verdict expired patience
   waits r stamp = go (leb (settings .timeout) (clock - r .stamp)) (isTransaction (r .typeId)) (givenUp settings (suc (r .checks))) refl
     where
-      late : leb (settings .timeout) (clock - r .stamp) ≡ true → r .stamp + settings .timeout ≤ clock
-      late e = let x = leb-true (settings .timeout) (clock - r .stamp) e in omega arith
+      Waits : Type 0
+      Waits = r .stamp + settings .timeout ≤ clock → ⊥
+
+      overdue : leb (settings .timeout) (clock - r .stamp) ≡ true → Waits → ⊥
+      overdue e n = n (late (settings .timeout) clock (r .stamp) stamp e)
 
       go : (t u v : Bool) → leb (settings .timeout) (clock - r .stamp) ≡ t
-          → Decides (eqb (verdictNumber (cond t (cond u Delivery.forgotten (cond v Delivery.abandoned Delivery.retried)) Delivery.waiting)) 0)
-          (r .stamp + settings .timeout ≤ clock → ⊥)
-      go true true v e = λ n. n (late e)
-      go true false true e = λ n. n (late e)
-      go true false false e = λ n. n (late e)
-      go false u v e = λ n. let x = leb-false (settings .timeout) (clock - r .stamp) e in absurd (omega arith)
+          → Tells (not (eqb (verdictNumber (cond t (cond u Delivery.forgotten (cond v Delivery.abandoned Delivery.retried)) Delivery.waiting)) 0)) Waits
+      go true true v e = tells-passed Waits (overdue e)
+      go true false true e = tells-passed Waits (overdue e)
+      go true false false e = tells-passed Waits (overdue e)
+      go false u v e = tells-failed Waits (in-time (settings .timeout) clock (r .stamp) e)
 
 -- ---- a finished call
 
@@ -147,7 +140,7 @@ module _ (st : State) (call : Call) (f : Finished st call) where
       go true e =
           let k : call .kind ≡ Numbers.check = eqb-true (call .kind) Numbers.check e in
           counted-kept (λ r. Made s r what) (isJudged what) (st .pending)
-          (all-weaker InTime (λ r. Decides (isJudged what r) (Made s r what)) (λ r h. made-decides s r (verdictOf r) what (made s k r h)) (st .pending)
+          (all-weaker InTime (λ r. Tells (not (isJudged what r)) (Made s r what)) (λ r h. made-tells s r (verdictOf r) what (made s k r h)) (st .pending)
           (stamps-past st call f))
       go false e = counted-none (λ r. Made s r what) (λ r m. eqb-false (call .kind) Numbers.check e (ofCheck r m)) (st .pending)
 
@@ -159,7 +152,7 @@ module _ (st : State) (call : Call) (f : Finished st call) where
   unfolding judged
   waiting-told =
       counted-kept (λ (r : Request). Overdue s r → ⊥) (isJudged Delivery.waiting) (st .pending)
-      (all-weaker InTime (λ r. Decides (isJudged Delivery.waiting r) (Overdue s r → ⊥)) (waits (st .settings) (call .clock)) (st .pending)
+      (all-weaker InTime (λ r. Tells (not (isJudged Delivery.waiting r)) (Overdue s r → ⊥)) (waits (st .settings) (call .clock)) (st .pending)
       (stamps-past st call f))
 
   pub counts-add : call .kind ≡ Numbers.check

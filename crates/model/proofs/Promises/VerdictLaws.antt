@@ -1,6 +1,6 @@
 -- What a check makes of a request, and where a retry goes: the rules' words against those of a user.
 use Prim.Native.Nat.{ℕ, suc, _+_, _-_, _≤_, _<_}
-use mathlib.Core.Path.{_≡_, refl, sym, ap, subst}
+use mathlib.Core.Path.{_≡_, refl, sym, ap, _∙_, subst}
 use mathlib.Core.Bool.{Bool, true, false, cond}
 use mathlib.Core.Logic.{_⊎_, inl, inr, ⊎-elim}
 use mathlib.Core.List.{List, [], _∷_, _++_}
@@ -11,7 +11,7 @@ use Rattle.fields.specs.Facts.{All}
 use Rattle.fields.proofs.AllLaws.{all-weaker}
 use Rattle.model.specs.Protocol.{isTransaction, transactionType}
 use Rattle.model.specs.Settings.{expired, givenUp, patience}
-use Rattle.model.specs.Delivery.{Request, Verdict, waiting, retried, abandoned, forgotten, verdict}
+use Rattle.model.specs.Delivery.{Request, Verdict, waiting, retried, abandoned, forgotten, verdict, verdictNumber}
 use Rattle.model.specs.State.{State}
 use Rattle.model.specs.Check.{retryTarget}
 use Rattle.model.specs.Calls.{Call}
@@ -63,6 +63,20 @@ goes-to-only {peers = peers} {failed = failed} (again all) = sym (target-again p
 
 -- ---- what a check makes of a request
 
+verdictAt : ℕ → Verdict
+verdictAt n = cond (eqb n 1) retried (cond (eqb n 2) abandoned (cond (eqb n 3) forgotten waiting))
+
+numbered : (v : Verdict) → verdictAt (verdictNumber v) ≡ v
+unfolding verdictAt
+numbered waiting = refl
+numbered retried = refl
+numbered abandoned = refl
+numbered forgotten = refl
+
+-- verdicts with one number are one
+pub verdict-is : (v w : Verdict) → eqb (verdictNumber v) (verdictNumber w) ≡ true → v ≡ w
+verdict-is v w e = sym (numbered v) ∙ ap verdictAt (eqb-true (verdictNumber v) (verdictNumber w) e) ∙ numbered w
+
 abbrev pub judgement : Seen → Request → Verdict
 judgement s r = verdict (s .before .settings) (s .call .clock) r
 
@@ -94,10 +108,10 @@ module _ (s : Seen) (r : Request) where
   made-once forgotten forgotten m n = refl
 
 -- the time since a stamp that is not after the clock
-late : (timeout clock stamp : ℕ) → stamp ≤ clock → leb timeout (clock - stamp) ≡ true → stamp + timeout ≤ clock
+pub late : (timeout clock stamp : ℕ) → stamp ≤ clock → leb timeout (clock - stamp) ≡ true → stamp + timeout ≤ clock
 late timeout clock stamp h e = let l : timeout ≤ clock - stamp = leb-true timeout (clock - stamp) e in omega arith
 
-in-time : (timeout clock stamp : ℕ) → leb timeout (clock - stamp) ≡ false → stamp + timeout ≤ clock → ⊥
+pub in-time : (timeout clock stamp : ℕ) → leb timeout (clock - stamp) ≡ false → stamp + timeout ≤ clock → ⊥
 in-time timeout clock stamp e h = let l : clock - stamp < timeout = leb-false timeout (clock - stamp) e in absurd (omega arith)
 
 -- of a check, whose clock no stamp is after

@@ -1,6 +1,6 @@
 -- The words of the promises and the model's tests say the same: who stands in a list, what is left of it, how many of it are such.
 use Prim.Native.Nat.{ℕ}
-use mathlib.Core.Path.{_≡_, refl, sym, ap}
+use mathlib.Core.Path.{_≡_, refl, sym, ap, _∙_, subst}
 use mathlib.Core.Bool.{Bool, true, false, not, _&&_, _||_, false≢true}
 use mathlib.Core.Logic.{_⊎_, inl, inr, ⊎-elim}
 use mathlib.Core.List.{List, [], _∷_}
@@ -9,6 +9,7 @@ use lib.ListN.{length}
 use lib.Dec.{eqb}
 use borrow.Author.Tests.{eqb-true, eq-eqb, not-true, not-false}
 use Rattle.fields.specs.Order.{same}
+use Rattle.fields.specs.Facts.{All}
 use Rattle.fields.specs.Filter.{consIf, kept}
 use Rattle.fields.proofs.OrderLaws.{and-left, and-right, not-both, or-left, or-right, eq-same, same-eq}
 use Rattle.fields.proofs.MarkLaws.{kept-kept}
@@ -18,6 +19,8 @@ use Rattle.model.specs.Peers.{isListed, firstOf, isSome}
 use Rattle.model.specs.Requests.{Pair, isStored, wanted}
 use Rattle.model.specs.Promises.Words.{Among, First, LeftOf, Counted}
 use Rattle.model.specs.Promises.Asked.{PendingId, Announceable}
+use Rattle.model.proofs.Promises.ListLaws.{all-of, among-map, map-among}
+use Rattle.model.proofs.Promises.TellsLaws.{Tells, turned-tells, both-tell}
 
 -- ---- tests
 
@@ -46,6 +49,9 @@ passes-among id (other ∷ others) e = go (either-true (same id other) (isAmong 
 pub fails-among : (id : Id) (ids : List Id) → isAmong id ids ≡ false → Among id ids → ⊥
 fails-among id ids e h = not-both (isAmong id ids) (among-passes id ids h) e
 
+pub among-tells : (id : Id) (ids : List Id) → Tells (not (isAmong id ids)) (Among id ids)
+among-tells id ids = turned-tells (isAmong id ids) (passes-among id ids) (fails-among id ids)
+
 -- ---- a pending id
 
 pub pending-passes : (id : Id) (pending : List Request) → PendingId pending id → isPending id pending ≡ true
@@ -56,8 +62,16 @@ pub passes-pending : (id : Id) (pending : List Request) → isPending id pending
 unfolding isPending
 passes-pending id pending e = passes-among id (idsOf pending) e
 
-pub fails-pending : (id : Id) (pending : List Request) → isPending id pending ≡ false → PendingId pending id → ⊥
-fails-pending id pending e h = not-both (isPending id pending) (pending-passes id pending h) e
+pub pending-tells : (id : Id) (pending : List Request) → Tells (not (isPending id pending)) (PendingId pending id)
+unfolding isPending
+pending-tells id pending = among-tells id (idsOf pending)
+
+-- the request that has it
+pub pending-request : (id : Id) (rs : List Request) → PendingId rs id → (r : Request) × Among r rs × (r .id ≡ id)
+pending-request id rs h = let p = among-map (λ (r : Request). r .id) id rs h in (p .0, p .1, sym (p .2))
+
+pub request-pending : (id : Id) (rs : List Request) (r : Request) → Among r rs → r .id ≡ id → PendingId rs id
+request-pending id rs r a e = subst (PendingId rs) e (map-among (λ (r : Request). r .id) r rs a)
 
 -- ---- a stored pair
 
@@ -87,8 +101,10 @@ passes-stored (p ∷ pairs) typeId id e =
         inl (rw (← t, ← i))
     go (inr s) rest = inr (rest s)
 
-pub fails-stored : (pairs : List Pair) (typeId : ℕ) (id : Id) → isStored pairs typeId id ≡ false → Among (pairOf typeId id) pairs → ⊥
-fails-stored pairs typeId id e h = not-both (isStored pairs typeId id) (stored-passes pairs typeId id h) e
+pub stored-tells : (pairs : List Pair) (typeId : ℕ) (id : Id) → Tells (not (isStored pairs typeId id)) (Among (pairOf typeId id) pairs)
+stored-tells pairs typeId id =
+    turned-tells (isStored pairs typeId id) (passes-stored pairs typeId id)
+    (λ e h. not-both (isStored pairs typeId id) (stored-passes pairs typeId id h) e)
 
 -- ---- a listed peer, and the first of a list
 
@@ -120,35 +136,31 @@ listed-first peer (other ∷ others) e = sym (Option·some-injective other peer 
 
 module _ {A : Type 0} where
   -- what is left when all that fail are left out
-  pub left-kept : (Out : A → Type 0) (test : A → Bool) → ((x : A) → test x ≡ true → Out x → ⊥) → ((x : A) → test x ≡ false → Out x)
-      → (xs : List A) → LeftOf Out xs (kept test xs)
-  left-kept Out test stays leaves [] = refl
-  left-kept Out test stays leaves (x ∷ xs) = go (test x) refl (left-kept Out test stays leaves xs)
+  pub left-kept : (Out : A → Type 0) (test : A → Bool) (xs : List A) → All (λ (x : A). Tells (test x) (Out x)) xs → LeftOf Out xs (kept test xs)
+  left-kept Out test [] p = refl
+  left-kept Out test (x ∷ xs) p = go (test x) (p .0) (left-kept Out test xs (p .1))
     where
-      go : (t : Bool) → test x ≡ t → LeftOf Out xs (kept test xs) → LeftOf Out (x ∷ xs) (consIf t x (kept test xs))
-      go true e rest = inr (stays x e, (kept test xs, refl, rest))
-      go false e rest = inl (leaves x e, rest)
+      go : (t : Bool) → Tells t (Out x) → LeftOf Out xs (kept test xs) → LeftOf Out (x ∷ xs) (consIf t x (kept test xs))
+      go true e rest = inr (e .passed refl, (kept test xs, refl, rest))
+      go false e rest = inl (e .failed refl, rest)
 
   -- the same, by one test after another
-  pub left-kept-twice : (Out : A → Type 0) (first second : A → Bool) → ((x : A) → first x ≡ true → second x ≡ true → Out x → ⊥)
-      → ((x : A) → first x ≡ false → Out x) → ((x : A) → second x ≡ false → Out x) → (xs : List A) → LeftOf Out xs (kept second (kept first xs))
-  left-kept-twice Out first second stays leaves also xs =
+  pub left-kept-twice : (Out Also : A → Type 0) (first second : A → Bool) → ((x : A) → Tells (first x) (Out x)) → ((x : A) → Tells (second x) (Also x))
+      → (xs : List A) → LeftOf (λ (x : A). Out x ⊎ Also x) xs (kept second (kept first xs))
+  left-kept-twice Out Also first second f s xs =
       rw (kept-kept second first xs)
-      (left-kept Out (λ (x : A). first x && second x)
-      (λ x e. stays x (and-left (first x) (second x) e) (and-right (first x) (second x) e)) (λ x e. go x (first x) refl e) xs)
-    where
-      go : (x : A) (t : Bool) → first x ≡ t → t && second x ≡ false → Out x
-      go x true e f = also x f
-      go x false e f = leaves x e
+      (left-kept (λ (x : A). Out x ⊎ Also x) (λ (x : A). first x && second x) xs
+      (all-of (λ (x : A). Tells (first x && second x) (Out x ⊎ Also x)) (λ x. both-tell (f x) (λ e. s x)) xs))
 
-  pub counted-kept : (Such : A → Type 0) (test : A → Bool) → ((x : A) → test x ≡ true → Such x) → ((x : A) → test x ≡ false → Such x → ⊥)
-      → (xs : List A) → Counted Such xs (length (kept test xs))
-  counted-kept Such test counts leaves [] = refl
-  counted-kept Such test counts leaves (x ∷ xs) = go (test x) refl (counted-kept Such test counts leaves xs)
+  -- how many pass
+  pub counted-kept : (Such : A → Type 0) (test : A → Bool) (xs : List A) → All (λ (x : A). Tells (not (test x)) (Such x)) xs
+      → Counted Such xs (length (kept test xs))
+  counted-kept Such test [] d = refl
+  counted-kept Such test (x ∷ xs) d = go (test x) (d .0) (counted-kept Such test xs (d .1))
     where
-      go : (t : Bool) → test x ≡ t → Counted Such xs (length (kept test xs)) → Counted Such (x ∷ xs) (length (consIf t x (kept test xs)))
-      go true e rest = inr (counts x e, (length (kept test xs), refl, rest))
-      go false e rest = inl (leaves x e, rest)
+      go : (t : Bool) → Tells (not t) (Such x) → Counted Such xs (length (kept test xs)) → Counted Such (x ∷ xs) (length (consIf t x (kept test xs)))
+      go true e c = inr (e .failed refl, (length (kept test xs), refl, c))
+      go false e c = inl (e .passed refl, c)
 
   -- Left out are the same ones, said in other words.
   pub left-same : (Out Out′ : A → Type 0) → ((x : A) → Out x → Out′ x) → ((x : A) → Out′ x → Out x) → (xs left : List A) → LeftOf Out xs left
@@ -158,6 +170,28 @@ module _ {A : Type 0} where
   left-same Out Out′ to from (x ∷ xs) left (inr h) =
       inr ((λ o. h .0 (from x o)), (h .1 .0, h .1 .1, left-same Out Out′ to from xs (h .1 .0) (h .1 .2)))
 
+  -- What is left of a list stood in it.
+  pub left-within : (Out : A → Type 0) (x : A) (xs left : List A) → LeftOf Out xs left → Among x left → Among x xs
+  left-within Out x [] left e h = absurd (subst (Among x) e h)
+  left-within Out x (y ∷ xs) left (inl k) h = inr (left-within Out x xs left (k .1) h)
+  left-within Out x (y ∷ xs) left (inr k) h = ⊎-elim inl (λ m. inr (left-within Out x xs (k .1 .0) (k .1 .2) m)) (subst (Among x) (k .1 .1) h)
+
+  -- What is left is what a test keeps that says the same of the list's own elements.
+  pub left-only : (Out : A → Type 0) (test : A → Bool) (xs left : List A) → ((x : A) → Among x xs → test x ≡ true → Out x → ⊥) → ((x : A) → test x ≡ false → Out x)
+      → LeftOf Out xs left → left ≡ kept test xs
+  left-only Out test [] left stays leaves e = e
+  left-only Out test (y ∷ xs) left stays leaves (inl k) = go (test y) refl (left-only Out test xs left (λ x m. stays x (inr m)) leaves (k .1))
+    where
+      go : (t : Bool) → test y ≡ t → left ≡ kept test xs → left ≡ consIf t y (kept test xs)
+      go true e rest = absurd (stays y (inl refl) e (k .0))
+      go false e rest = rest
+  left-only Out test (y ∷ xs) left stays leaves (inr k) =
+      k .1 .1 ∙ go (test y) refl (left-only Out test xs (k .1 .0) (λ x m. stays x (inr m)) leaves (k .1 .2))
+    where
+      go : (t : Bool) → test y ≡ t → k .1 .0 ≡ kept test xs → y ∷ k .1 .0 ≡ consIf t y (kept test xs)
+      go true e rest = ap (λ (l : List A). y ∷ l) rest
+      go false e rest = absurd (k .0 (leaves y e))
+
 -- ---- rule 3
 
 -- of a list it wants what is neither pending nor stored
@@ -165,12 +199,9 @@ pub left-wanted : (pending : List Request) (typeId : ℕ) (pairs : List Pair) (i
     → LeftOf (λ (id : Id). PendingId pending id ⊎ Among (pairOf typeId id) pairs) ids (wanted pending typeId pairs ids)
 unfolding wanted
 left-wanted pending typeId pairs ids =
-    left-kept-twice (λ (id : Id). PendingId pending id ⊎ Among (pairOf typeId id) pairs)
+    left-kept-twice (PendingId pending) (λ (id : Id). Among (pairOf typeId id) pairs)
     (λ (id : Id). not (isPending id pending)) (λ (id : Id). not (isStored pairs typeId id))
-    (λ id p s. ⊎-elim (fails-pending id pending (not-true (isPending id pending) p)) (fails-stored pairs typeId id (not-true (isStored pairs typeId id) s)))
-    (λ id p. inl (passes-pending id pending (not-false (isPending id pending) p)))
-    (λ id s. inr (passes-stored pairs typeId id (not-false (isStored pairs typeId id) s)))
-    ids
+    (λ id. pending-tells id pending) (λ id. stored-tells pairs typeId id) ids
 
 -- ---- the types that are announced
 
