@@ -2,7 +2,7 @@
 use Prim.Native.Nat.{ℕ, _+_, _≤_, min}
 use mathlib.Core.Path.{_≡_, refl, sym, ap, _∙_}
 use mathlib.Core.Bool.{Bool, true, false, cond, _&&_, false≢true}
-use mathlib.Core.List.{List, [], _∷_, _++_, map}
+use mathlib.Core.List.{List, [], _∷_, _++_, map, cons≢nil}
 use mathlib.Core.Option.{Option, none, some, Option·some-injective}
 use native.Mathlib.Omega.{arith}
 use lib.ListN.{length}
@@ -33,28 +33,19 @@ use Rattle.model.specs.Promises.Asked.{MayAsk, announced, needed, sectio
 use Rattle.model.proofs.RequestedLaws.{requested}
 use Rattle.model.proofs.Promises.SeenLaws as seen
 use Rattle.model.proofs.Promises.SeenLaws.{seenAs, Finished, Kind, kind-of}
+use Rattle.model.proofs.Promises.ModeLaws.{mode-is}
 use Rattle.model.proofs.Promises.WordLaws.{left-wanted, announceable-passes, passes-announceable}
 use Rattle.model.proofs.Promises.AskedLaws.{Says, continuation-says, say-to-says, enters-says, picks-say, ticks-say}
 use Rattle.model.proofs.Promises.AskedLaws.{askedBy, says-ask-nothing, asked-alone, asked-by, shut-asked, acts-well}
 
 -- ---- over plain variables
 
-cons-not-nil {ℓ} : {A : Type ℓ} (x : A) (xs : List A) → x ∷ xs ≡ [] → ⊥
-cons-not-nil x xs e = let n : length (x ∷ xs) ≡ 0 = ap length e in absurd (omega arith)
-
-is-syncing : (mode : Mode) → isMode mode syncing ≡ true → mode ≡ syncing
-is-syncing new e = absurd (false≢true e)
-is-syncing seeking e = absurd (false≢true e)
-is-syncing syncing e = refl
-is-syncing synced e = absurd (false≢true e)
-is-syncing ended e = absurd (false≢true e)
-
 -- With nobody listed no sections are asked for.
 unlisted-sections : (view : View) (chainHeight height : ℕ) (peers : List ℕ) → ((peers ≡ [] → ⊥) → ⊥)
     → All Says (requestNextSections view chainHeight height peers .acts)
 unfolding requestNextSections requestSectionsFrom
 unlisted-sections view chainHeight height [] h = tt
-unlisted-sections view chainHeight height (p ∷ ps) h = absurd (h (cons-not-nil p ps))
+unlisted-sections view chainHeight height (p ∷ ps) h = absurd (h cons≢nil)
 
 -- Synced is said at a tip that is not above ours.
 record AtTip (fromSyncPeer : Bool) (ours : ℕ) (known : Option ℕ) : Type 0 where
@@ -160,7 +151,7 @@ module _ (st : State) (call : Call) (f : Finished st call) where
         go : (t : Bool) → isMode (st .mode) syncing ≡ t
             → All Says (acts ++ (cond t (sectionsFrom st a (st .sync .downloaded)) (record { acts = []; inView = true })) .acts)
         go true e =
-            all-append Says acts (sectionsFrom st a (st .sync .downloaded) .acts) w (sections-say (st .sync .downloaded) (onEntry h (is-syncing (st .mode) e)))
+            all-append Says acts (sectionsFrom st a (st .sync .downloaded) .acts) w (sections-say (st .sync .downloaded) (onEntry h (mode-is (st .mode) syncing e)))
         go false e = all-append Says acts [] w tt
 
     answers-says : (peer : ℕ) (acts : List Act) (tip : ℕ) (outcome : Outcome) → All Says acts → (outcome ≡ Synced → NothingAhead (seenAs st call))
@@ -212,7 +203,7 @@ module _ (st : State) (call : Call) (f : Finished st call) where
     orphans-say : Orphans (seenAs st call) → (peers : List ℕ) → peersIn (call .peers) ≡ peers → All Says (askOrphans st a (call .peer) (firstOf peers))
     unfolding askOrphans
     orphans-say h [] e = tt
-    orphans-say h (p ∷ ps) e = absurd (barred (orphans h (λ n. cons-not-nil p ps (sym e ∙ n))))
+    orphans-say h (p ∷ ps) e = absurd (barred (orphans h (λ n. cons≢nil (sym e ∙ n))))
 
     loses-says : call .kind ≡ 8 → All Says (loses st a (call .peer) .acts)
     unfolding loses leaves continues argsOf
@@ -221,7 +212,7 @@ module _ (st : State) (call : Call) (f : Finished st call) where
         go : (t m : Bool) → eqb (call .peer) (st .sync .syncPeer) ≡ t → isMode (st .mode) syncing ≡ m
             → All Says ((cond t (leaves st a SyncPeerGone seeking (cond m (askOrphans st a (call .peer) (firstOf (a .peers))) [])) (continues st a [])) .acts)
         go true true e h =
-            orphans-say (record { kind = k; mode = is-syncing (st .mode) h; lost = eqb-true (call .peer) (st .sync .syncPeer) e }) (peersIn (call .peers)) refl
+            orphans-say (record { kind = k; mode = mode-is (st .mode) syncing h; lost = eqb-true (call .peer) (st .sync .syncPeer) e }) (peersIn (call .peers)) refl
         go true false e h = tt
         go false m e h = tt
 

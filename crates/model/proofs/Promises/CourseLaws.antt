@@ -35,36 +35,14 @@ use Rattle.model.specs.Promises.Words.{Seen, First}
 use Rattle.model.specs.Promises.SyncInfos.{Announces, continuationIds}
 use Rattle.model.proofs.Promises.SeenLaws.{Finished, seenAs, Kind, kind-of, mode-of}
 use Rattle.model.proofs.Promises.SeenLaws as kinds
+use Rattle.model.proofs.Promises.ListLaws.{all-mapped}
+use Rattle.model.proofs.Promises.ModeLaws.{mode-is, mode-is-not, is-synced, no-peer}
 use Rattle.model.proofs.Promises.WordLaws.{listed-first, first-listed}
-use Rattle.model.proofs.Promises.PartLaws.{IsAsk, all-mapped, ActParts, Parts, only-asks, commands-parts}
+use Rattle.model.proofs.Promises.PartLaws.{IsAsk, ActParts, Parts, only-asks, commands-parts}
 
 -- A number is one only.
 pub apart : {n a b : ℕ} → n ≡ a → n ≡ b → eqb a b ≡ false → ⊥
 apart {n} {a} {b} e f d = eqb-false a b d (sym e ∙ f)
-
--- ---- modes
-
-pub is-syncing : (m : Mode) → isMode m syncing ≡ true → m ≡ syncing
-is-syncing new e = absurd (false≢true e)
-is-syncing seeking e = absurd (false≢true e)
-is-syncing syncing e = refl
-is-syncing synced e = absurd (false≢true e)
-is-syncing ended e = absurd (false≢true e)
-
-pub not-syncing : (m : Mode) → isMode m syncing ≡ false → m ≡ syncing → ⊥
-not-syncing m e s = false≢true (sym e ∙ ap (λ (m : Mode). isMode m syncing) s)
-
-pub no-peer : (m : Mode) → hasSyncPeer m ≡ false → (m ≡ syncing) ⊎ (m ≡ synced) → ⊥
-no-peer m e h =
-    let with : (m ≡ syncing) ⊎ (m ≡ synced) → hasSyncPeer m ≡ true = ⊎-elim (ap hasSyncPeer) (ap hasSyncPeer) in
-    false≢true (sym e ∙ with h)
-
-pub is-synced : (m : Mode) → hasSyncPeer m ≡ true → isMode m syncing ≡ false → m ≡ synced
-is-synced new h e = absurd (false≢true h)
-is-synced seeking h e = absurd (false≢true h)
-is-synced syncing h e = absurd (false≢true (sym e))
-is-synced synced h e = refl
-is-synced ended h e = absurd (false≢true h)
 
 -- ---- what only asks
 
@@ -290,7 +268,7 @@ module _ (st : State) (call : Call) where
         lastProgress = refl;
         sendClock = refl;
         stalledPeers = refl;
-        used = λ m. absurd (not-syncing synced refl m);
+        used = λ m. absurd (mode-is-not synced syncing refl m);
         entrySent = refl;
       })
     where
@@ -451,14 +429,14 @@ module _ (st : State) (call : Call) where
   progress-says k = go (isMode (st .mode) syncing) refl (st .sync .progressUsed) refl
     where
       go : (t : Bool) → isMode (st .mode) syncing ≡ t → (used : Bool) → st .sync .progressUsed ≡ used → Says (progresses st (argsOf call) t)
-      go true m true u = ([], worksAgain k (is-syncing (st .mode) m) u)
-      go true m false u = (saidTo (isQuiet st call) (st .sync .syncPeer), worksFirst k (is-syncing (st .mode) m) u)
+      go true m true u = ([], worksAgain k (mode-is (st .mode) syncing m) u)
+      go true m false u = (saidTo (isQuiet st call) (st .sync .syncPeer), worksFirst k (mode-is (st .mode) syncing m) u)
       go false m used u =
           let silent : Silent st call (progresses st (argsOf call) false) =
           record {
             notPick = λ e. apart k e refl;
             notReply = λ e o. apart k e refl;
-            notProgress = λ e s. not-syncing (st .mode) m s;
+            notProgress = λ e s. mode-is-not (st .mode) syncing m s;
             notTick = λ e s. apart k e refl;
             nobody = λ peer e l. apart k e refl;
             usedTick = λ e. absurd (apart k e refl);
@@ -472,15 +450,15 @@ module _ (st : State) (call : Call) where
     where
       go : (t : Bool) → isMode (st .mode) syncing ≡ t → (late : Bool) (first : Option ℕ) → firstOf (peersIn (call .peers)) ≡ first
           → Says (cond t (ticksSyncing st (argsOf call) late) (ticksSynced st (argsOf call) first))
-      go true m true first l = (saidTo (isQuiet st call) (st .sync .syncPeer), stalls k (is-syncing (st .mode) m))
-      go true m false first l = (saidTo (isQuiet st call) (st .sync .syncPeer), ticks k (is-syncing (st .mode) m))
+      go true m true first l = (saidTo (isQuiet st call) (st .sync .syncPeer), stalls k (mode-is (st .mode) syncing m))
+      go true m false first l = (saidTo (isQuiet st call) (st .sync .syncPeer), ticks k (mode-is (st .mode) syncing m))
       go false m late none l =
           let silent : Silent st call (ticksSynced st (argsOf call) none) =
           record {
             notPick = λ e. apart k e refl;
             notReply = λ e o. apart k e refl;
             notProgress = λ e s. apart k e refl;
-            notTick = λ e s. not-syncing (st .mode) m s;
+            notTick = λ e s. mode-is-not (st .mode) syncing m s;
             nobody = λ peer e f. false≢true (ap isSome (sym l ∙ first-listed peer (peersIn (call .peers)) f));
             usedTick = λ e. refl;
           } in

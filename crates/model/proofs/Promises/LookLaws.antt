@@ -32,25 +32,7 @@ use Rattle.model.specs.Promises.Asked as asked
 use Rattle.model.specs.Promises.Asked.{NextSections}
 use Rattle.model.proofs.Promises.SeenLaws
 use Rattle.model.proofs.Promises.SeenLaws.{Kind}
-
--- ---- modes
-
-pub is-syncing : (m : Mode) → isMode m syncing ≡ true → m ≡ syncing
-is-syncing new e = absurd (false≢true e)
-is-syncing seeking e = absurd (false≢true e)
-is-syncing syncing e = refl
-is-syncing synced e = absurd (false≢true e)
-is-syncing ended e = absurd (false≢true e)
-
-pub is-synced : (m : Mode) → hasSyncPeer m ≡ true → isMode m syncing ≡ false → m ≡ synced
-is-synced new h e = absurd (false≢true h)
-is-synced seeking h e = absurd (false≢true h)
-is-synced syncing h e = absurd (false≢true (sym e))
-is-synced synced h e = refl
-is-synced ended h e = absurd (false≢true h)
-
-pub not-syncing : (m : Mode) → isMode m syncing ≡ false → m ≡ syncing → ⊥
-not-syncing m e f = false≢true (sym e ∙ ap (λ x. isMode x syncing) f)
+use Rattle.model.proofs.Promises.ModeLaws.{mode-is, mode-is-not, is-synced}
 
 -- ---- where a step starts from
 
@@ -239,8 +221,8 @@ module _ (s : Seen) where
     where
       go : (t : Bool) → isMode (s .before .mode) syncing ≡ t → Reading s (checks (s .before) (args s) t)
       go true m =
-          looks (here s) (inCheck k (is-syncing (s .before .mode) m)) (no-ask s numbers.check k refl) (starts-here s (λ e. omega (arith, k, e))) refl refl
-      go false m = neither (λ l. not-syncing (s .before .mode) m (look-in-check s k l)) (no-ask s numbers.check k refl) (refl, refl)
+          looks (here s) (inCheck k (mode-is (s .before .mode) syncing m)) (no-ask s numbers.check k refl) (starts-here s (λ e. omega (arith, k, e))) refl refl
+      go false m = neither (λ l. mode-is-not (s .before .mode) syncing m (look-in-check s k l)) (no-ask s numbers.check k refl) (refl, refl)
 
   tick-synced-reads : s .call .kind ≡ numbers.scheduledTick → s .before .mode ≡ synced → (listed : List ℕ) → peers s ≡ listed
       → Reading s (ticksSynced (s .before) (args s) (firstOf listed))
@@ -266,7 +248,7 @@ module _ (s : Seen) where
 
       go : (t : Bool) → isMode (st .mode) syncing ≡ t → Reading s (cond t (ticksSyncing st a late) (ticksSynced st a (firstOf (a .peers))))
       go true m =
-          neither (λ l. false≢true (sym (ap (λ x. isMode x syncing) (look-at-tick s k l .0)) ∙ m)) (no-ask s numbers.scheduledTick k refl)
+          neither (λ l. mode-is-not synced syncing refl (sym (look-at-tick s k l .0) ∙ mode-is (st .mode) syncing m)) (no-ask s numbers.scheduledTick k refl)
           (ticks-syncing-still late)
       go false m = tick-synced-reads k (is-synced (st .mode) h m) (peers s) refl
 
@@ -292,8 +274,8 @@ module _ (s : Seen) where
       here-read t = (cond t (window s (here s)) (record { acts = []; inView = true })) .inView
 
       go : (t : Bool) → isMode (s .before .mode) syncing ≡ t → Reading s (isAtTip (s .before) (args s) acts tip)
-      go true m = asks l (asked.onEntry ahead (is-syncing (s .before .mode) m)) refl (ap here-read m)
-      go false m = neither l (λ q. not-syncing (s .before .mode) m (n q)) (refl, ap here-read m)
+      go true m = asks l (asked.onEntry ahead (mode-is (s .before .mode) syncing m)) refl (ap here-read m)
+      go false m = neither l (λ q. mode-is-not (s .before .mode) syncing m (n q)) (refl, ap here-read m)
 
   ids-read : s .call .kind ≡ numbers.announcedIds → (list : List Id) → ids s ≡ list
       → Reading s (hearsAnnounced (s .before) (args s) (s .call .peer) (s .call .typeid) list)

@@ -22,9 +22,12 @@ use Rattle.model.specs.Promises.Words.{Seen, peers, Among}
 use Rattle.model.specs.Promises.Marks as promised
 use Rattle.model.specs.Promises.Marks.{Chosen, Picked, Enters, Progresses, SaysSyncInfo, SyncPeer, Emptied, allStalled, byProgress, StalledSet, Marks}
 use Rattle.model.specs.Promises.SyncInfos.{SpeaksTo, onPick, whenBehind, Due, SyncInfos}
-use Rattle.model.proofs.Promises.SeenLaws.{Finished, seenAs, mode-of}
+use Rattle.model.proofs.Promises.SeenLaws as kinds
+use Rattle.model.proofs.Promises.SeenLaws.{Finished, seenAs, step-of, mode-of}
+use Rattle.model.proofs.Promises.ListLaws.{among-back, all-among}
+use Rattle.model.proofs.Promises.ModeLaws.{mode-is-not, is-not-mode, no-peer, peerless}
 use Rattle.model.proofs.Promises.WordLaws.{listed-passes, passes-listed, fails-listed, listed-first}
-use Rattle.model.proofs.Promises.CourseLaws.{apart, is-syncing, not-syncing, no-peer, seenBy, seen-by, isQuiet, Course, told}
+use Rattle.model.proofs.Promises.CourseLaws.{apart, seenBy, seen-by, isQuiet, Course, told}
 use Rattle.model.proofs.Promises.CourseLaws as courses
 use Rattle.model.proofs.Promises.SyncInfosKept.{due, not-due, sync-infos-kept}
 
@@ -108,9 +111,15 @@ module _ (s : Seen) where
 
 -- ---- the sync peer and the stalled set
 
+-- Who the sync peer is, where there is one.
+record Accompanied (s : Seen) : Type 0 where
+  picked : Picked s → Chosen s (s .after .sync .syncPeer)
+  behind : s .answer .outcome ≡ Numbers.saysBehindPeer → s .after .sync .syncPeer ≡ s .call .peer
+  kept : (Enters s → ⊥) → (s .after .mode ≡ syncing) ⊎ (s .after .mode ≡ synced) → s .after .sync .syncPeer ≡ s .before .sync .syncPeer
+
 module _ {s : Seen} where
   peer-stays : NotPicked s → NotBehind s
-      → ((s .after .mode ≡ syncing) ⊎ (s .after .mode ≡ synced) → s .after .sync .syncPeer ≡ s .before .sync .syncPeer) → SyncPeer s
+      → ((s .after .mode ≡ syncing) ⊎ (s .after .mode ≡ synced) → s .after .sync .syncPeer ≡ s .before .sync .syncPeer) → Accompanied s
   peer-stays p b e = record { picked = λ q. absurd (p q); behind = λ o. absurd (b o); kept = λ n m. e m }
 
   set-stays : (s .call .kind ≡ Numbers.pick → ⊥) → NotProgress s → NotBehind s → (s .answer .outcome ≡ Numbers.saysStalled → ⊥)
@@ -174,10 +183,10 @@ module _ (st : State) (call : Call) where
   course-set {p = p} (courses.worksFirst k m u) sent = set-empties (byProgress (record { kind = k; mode = m })) (eqb-false 0 4 refl) refl
   course-set {p = p} (courses.worksAgain k m u) sent = set-empties (byProgress (record { kind = k; mode = m })) (eqb-false 0 4 refl) refl
 
-  course-peer : {announced said : List Sending} {p : Plan} → Course st call announced said p → (sent : List Command) → SyncPeer (seenBy st call p sent)
+  course-peer : {announced said : List Sending} {p : Plan} → Course st call announced said p → (sent : List Command) → Accompanied (seenBy st call p sent)
   unfolding argsOf picks entersSyncing answers ticksSyncing ticksSynced progresses Steps.unmarked withoutPeer
   course-peer {p = p} (courses.passes q) sent = peer-stays (λ e. q .silent .notPick (e .kind)) (q .notBehind) (q .syncPeer)
-  course-peer {p = p} (courses.nobody k e) sent = peer-stays (λ q. not-syncing seeking refl (q .mode)) (eqb-false 0 2 refl) (λ m. refl)
+  course-peer {p = p} (courses.nobody k e) sent = peer-stays (λ q. mode-is-not seeking syncing refl (q .mode)) (eqb-false 0 2 refl) (λ m. refl)
   course-peer {p = p} (courses.chooses peer k e) sent =
       record {
         picked = λ q. chosen (seenBy st call p sent) peer e;
@@ -202,8 +211,18 @@ module _ (st : State) (call : Call) where
 pub stalled-set-kept : (st : State) (call : Call) → Finished st call → StalledSet (seenAs st call)
 stalled-set-kept st call f = rw (seen-by st call) (course-set st call (told st call f .course) (commands st (argsOf call)))
 
+accompanied : (st : State) (call : Call) → Finished st call → Accompanied (seenAs st call)
+accompanied st call f = rw (seen-by st call) (course-peer st call (told st call f .course) (commands st (argsOf call)))
+
 pub sync-peer-kept : (st : State) (call : Call) → Finished st call → SyncPeer (seenAs st call)
-sync-peer-kept st call f = rw (seen-by st call) (course-peer st call (told st call f .course) (commands st (argsOf call)))
+sync-peer-kept st call f =
+    let a = accompanied st call f in
+    record {
+      picked = a .picked;
+      behind = a .behind;
+      kept = a .kept;
+      none = λ m n. f .wellAfter .sync .noPeer (peerless (after st (argsOf call) .mode) m n);
+    }
 
 -- ---- the marks
 
@@ -264,24 +283,14 @@ module _ {s : Seen} where
 
 -- ---- the entry mark says whether a sync info went out
 
-module _ {A : Type 0} where
-  among-last : (xs : List A) (x : A) → Among x (xs ++ (x ∷ []))
-  among-last [] x = inl refl
-  among-last (y ∷ xs) x = inr (among-last xs x)
-
-  among-all : (P : A → Type 0) (x : A) (xs : List A) → All P xs → Among x xs → P x
-  among-all P x [] w h = absurd h
-  among-all P x (y ∷ xs) w (inl e) = subst P (sym e) (w .0)
-  among-all P x (y ∷ xs) w (inr h) = among-all P x xs (w .1) h
-
 module _ (s : Seen) (infos : SyncInfos s) where
   one-said : (c : Command) → infos .said ≡ c ∷ [] → c .kind ≡ Numbers.aSyncInfo → SaysSyncInfo s
   one-said c e k =
-      promised.said c (subst (Among c) (sym (infos .parts ∙ ap (λ (cs : List Command). infos .others ++ cs) e)) (among-last (infos .others) c)) k
+      promised.said c (subst (Among c) (sym (infos .parts ∙ ap (λ (cs : List Command). infos .others ++ cs) e)) (among-back c (infos .others) (c ∷ []) (inl refl))) k
 
   none-said : infos .said ≡ [] → SaysSyncInfo s → ⊥
   none-said e (promised.said c h k) =
-      among-all (λ (c : Command). c .kind ≡ Numbers.aSyncInfo → ⊥) c (infos .others) (infos .noneBefore)
+      all-among (λ (c : Command). c .kind ≡ Numbers.aSyncInfo → ⊥) c (infos .others) (infos .noneBefore)
       (subst (Among c) (infos .parts ∙ (ap (λ (cs : List Command). infos .others ++ cs) e ∙ append-nil (infos .others))) h) k
 
   entry-mark : (peer : ℕ) → SpeaksTo s peer → Enters s → (quiet : Bool) → s .after .sync .entrySent ≡ not quiet → (quiet ≡ false → Due s)
@@ -311,7 +320,7 @@ module _ (st : State) (call : Call) (past : st .sync .sendClock .lastSend ≤ ca
       stays-marked (λ e. q .silent .notPick (e .kind)) (q .notBehind) (λ e. q .silent .notProgress (e .kind) (e .mode)) (q .lastProgress)
       (q .entrySent) (q .silent .usedTick) (λ t m. q .used m)
   course-marks {p = p} (courses.nobody k e) sent infos elsewhere =
-      stays-marked (λ q. not-syncing seeking refl (q .mode)) (eqb-false 0 2 refl) (λ q. apart k (q .kind) refl) refl refl
+      stays-marked (λ q. mode-is-not seeking syncing refl (q .mode)) (eqb-false 0 2 refl) (λ q. apart k (q .kind) refl) refl refl
       (λ t. absurd (apart k t refl)) (λ t m. refl)
   course-marks {p = p} (courses.chooses peer k e) sent infos elsewhere =
       let s : Seen = seenBy st call p sent in
@@ -330,31 +339,20 @@ module _ (st : State) (call : Call) (past : st .sync .sendClock .lastSend ≤ ca
       stays-marked (λ q. apart k (q .kind) refl) (eqb-false 0 2 refl) (λ q. apart k (q .kind) refl) refl refl (λ t. refl) (λ t m. absurd (t k))
   course-marks {p = p} (courses.visits peer k m l) sent infos elsewhere =
       stays-marked (λ q. apart k (q .kind) refl) (eqb-false 0 2 refl) (λ q. apart k (q .kind) refl) refl refl
-      (λ t. elsewhere (not-syncing (st .mode) (ap (λ (mode : Mode). isMode mode syncing) m))) (λ t m. absurd (t k))
+      (λ t. elsewhere (mode-is-not (st .mode) syncing (ap (λ (mode : Mode). isMode mode syncing) m))) (λ t m. absurd (t k))
   course-marks {p = p} (courses.worksFirst k m u) sent infos elsewhere =
       progress-marked (record { kind = k; mode = m }) (eqb-false 0 2 refl) refl refl refl
   course-marks {p = p} (courses.worksAgain k m u) sent infos elsewhere =
       progress-marked (record { kind = k; mode = m }) (eqb-false 0 2 refl) refl refl refl
 
 -- a send failure is taken only after an entry that sent
-failure-step : (call : Call) → call .kind ≡ Numbers.sendFailure → stepOf call ≡ Steps.sendFailure
-unfolding stepOf
-failure-step call e = rw e
-
 failure-marked : (mode : Mode) (entrySent : Bool) (step : Step) → step ≡ Steps.sendFailure → ofMode mode entrySent step ≡ true → entrySent ≡ true
 unfolding ofMode
 failure-marked mode entrySent step e m = and-right (isMode mode syncing) entrySent (rw e at m)
 
-is-elsewhere : (m : Mode) → (m ≡ syncing → ⊥) → isMode m syncing ≡ false
-is-elsewhere m n = go (isMode m syncing) refl
-  where
-    go : (t : Bool) → isMode m syncing ≡ t → isMode m syncing ≡ false
-    go true e = absurd (n (is-syncing m e))
-    go false e = e
-
 module _ (st : State) (call : Call) (f : Finished st call) where
   allowed-elsewhere : (after st (argsOf call) .mode ≡ syncing → ⊥) → after st (argsOf call) .sync .progressUsed ≡ false
-  allowed-elsewhere n = f .wellAfter .sync .progressUsed (is-elsewhere (after st (argsOf call) .mode) n)
+  allowed-elsewhere n = f .wellAfter .sync .progressUsed (is-not-mode (after st (argsOf call) .mode) syncing n)
 
   marked : Marked (seenAs st call)
   unfolding after plan argsOf
@@ -373,7 +371,7 @@ module _ (st : State) (call : Call) (f : Finished st call) where
         progressSet = marked .progressSet;
         progressKept = marked .progressKept;
         entryMark = marked .entryMark;
-        sendFailure = λ k. failure-marked (st .mode) (st .sync .entrySent) (stepOf call) (failure-step call k) (mode-of st call f);
+        sendFailure = λ k. failure-marked (st .mode) (st .sync .entrySent) (stepOf call) (step-of call (kinds.sendFailure k)) (mode-of st call f);
         usedByProgress = marked .usedByProgress;
         allowedAgain = marked .allowedAgain;
         allowedElsewhere = allowed-elsewhere;

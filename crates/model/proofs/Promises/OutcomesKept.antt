@@ -24,29 +24,8 @@ use Rattle.model.specs.Promises.Numbers as numbers
 use Rattle.model.specs.Promises.Words.{Seen}
 use Rattle.model.specs.Promises.Outcomes.{Heard, NothingAhead, noHeaders, tipReached, FarAhead, tipAhead, PeerGone, lost, sendFailed, nobodyListed, NoProgress, Outcomes, Taken, Modes}
 use Rattle.model.proofs.Promises.SeenLaws as seen
+use Rattle.model.proofs.Promises.ModeLaws.{mode-is, is-not-mode, is-synced}
 use Rattle.model.proofs.Promises.SeenLaws.{seenAs, Finished, Kind, plan-of, kind-of, mode-of}
-
--- ---- modes
-
-mode-numbered : (mode : Mode) → modeOf (modeNumber mode) ≡ mode
-unfolding modeOf
-mode-numbered new = refl
-mode-numbered seeking = refl
-mode-numbered syncing = refl
-mode-numbered synced = refl
-mode-numbered ended = refl
-
--- modes with one number are one
-pub mode-is : (mode other : Mode) → isMode mode other ≡ true → mode ≡ other
-mode-is mode other e = sym (mode-numbered mode) ∙ ap modeOf (eqb-true (modeNumber mode) (modeNumber other) e) ∙ mode-numbered other
-
--- of the modes with a sync peer, the one that is not syncing
-pub is-synced : (mode : Mode) → hasSyncPeer mode ≡ true → isMode mode syncing ≡ false → mode ≡ synced
-is-synced new h e = absurd (false≢true h)
-is-synced seeking h e = absurd (false≢true h)
-is-synced syncing h e = absurd (false≢true (sym e))
-is-synced synced h e = refl
-is-synced ended h e = absurd (false≢true h)
 
 -- ---- why an outcome is given
 
@@ -407,11 +386,7 @@ ended-from : (mode : Mode) → mode ≡ seeking → cond (isMode mode seeking) e
 ended-from mode e = rw e
 
 stops-from : (mode : Mode) → (mode ≡ seeking → ⊥) → cond (isMode mode seeking) ended seeking ≡ seeking
-stops-from new n = refl
-stops-from seeking n = absurd (n refl)
-stops-from syncing n = refl
-stops-from synced n = refl
-stops-from ended n = refl
+stops-from mode n = rw (is-not-mode mode seeking n)
 
 module _ (st : State) (call : Call) (f : Finished st call) where
   abbrev given : Args

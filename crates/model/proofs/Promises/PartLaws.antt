@@ -13,12 +13,7 @@ use Rattle.model.specs.Requests.{Act, ask, send, wanted, requestOf, perf
 use Rattle.model.specs.Sections.{Item, Batch, batchesOf}
 use Rattle.model.specs.Check.{retrySendings}
 use Rattle.model.specs.Promises.Numbers as numbers
-
--- ---- of any list
-
-pub all-mapped : {A B : Type 0} (P : B → Type 0) (f : A → B) → ((x : A) → P (f x)) → (xs : List A) → All P (map f xs)
-all-mapped P f p [] = tt
-all-mapped P f p (x ∷ xs) = (p x, all-mapped P f p xs)
+use Rattle.model.proofs.Promises.ListLaws.{all-mapped}
 
 -- ---- acts that ask send requests only
 

@@ -23,8 +23,9 @@ use Rattle.model.specs.Promises.Marks.{Picked}
 use Rattle.model.specs.Promises.SyncInfos.{SpeaksTo, onPick, whenBehind, inReply, onProgress, onTick, onSyncedTick}
 use Rattle.model.specs.Promises.SyncInfos.{Due, SyncInfos, Announcements, continuationIds}
 use Rattle.model.proofs.Promises.SeenLaws.{Finished, seenAs}
+use Rattle.model.proofs.Promises.ModeLaws.{mode-is-not}
 use Rattle.model.proofs.Promises.PartLaws.{OfKind, Parts}
-use Rattle.model.proofs.Promises.CourseLaws.{apart, not-syncing, seenBy, seen-by, saidTo, isQuiet}
+use Rattle.model.proofs.Promises.CourseLaws.{apart, seenBy, seen-by, saidTo, isQuiet}
 use Rattle.model.proofs.Promises.CourseLaws.{Passes, Course, Front, keepsStill, announces, told, told-parts}
 use Rattle.model.proofs.Promises.CourseLaws as courses
 
@@ -109,7 +110,7 @@ announcements-kept st call f =
 -- ---- who is spoken to
 
 synced-not-syncing : {m : Mode} → m ≡ synced → m ≡ syncing → ⊥
-synced-not-syncing e f = eqb-false 3 2 refl (ap modeNumber (sym e ∙ f))
+synced-not-syncing e f = mode-is-not synced syncing refl (sym e ∙ f)
 
 abbrev NotBehind : Seen → Type 0
 NotBehind s = s .answer .outcome ≡ Numbers.saysBehindPeer → ⊥
@@ -277,7 +278,7 @@ module _ (st : State) (call : Call) (past : st .sync .sendClock .lastSend ≤ ca
   course-infos {p = p} (courses.passes q) sent others none batch parts =
       nothing-said others none parts (passes-nobody p sent q) (q .sendClock)
   course-infos {p = p} (courses.nobody k e) sent others none batch parts =
-      nothing-said others none parts (λ other t. to-nobody other k (not-syncing seeking refl) (eqb-false 0 2 refl) t) refl
+      nothing-said others none parts (λ other t. to-nobody other k (mode-is-not seeking syncing refl) (eqb-false 0 2 refl) t) refl
   course-infos {p = p} (courses.chooses peer k e) sent others none batch parts =
       said-to others none peer batch (isQuiet st call) (resetSends (st .sync .sendClock)) (onPick (record { kind = k; mode = refl }))
       (λ other t. to-picked k (eqb-false 0 2 refl) t)
