@@ -4,7 +4,6 @@ pub mod OrphansAsked
 pub mod SectionsAsked
 pub mod SeenLaws
 pub mod OutcomesKept
-pub mod SaidLaws
 pub mod CountLaws
 pub mod RunsKept
 pub mod VerdictLaws

@@ -29,7 +29,7 @@ use Rattle.model.proofs.Promises.ModeLaws.{mode-is-not, is-not-mode, no
 use Rattle.model.proofs.Promises.WordLaws.{listed-passes, passes-listed, fails-listed, listed-first}
 use Rattle.model.proofs.Promises.CourseLaws.{apart, seenBy, seen-by, isQuiet, Course, told}
 use Rattle.model.proofs.Promises.CourseLaws as courses
-use Rattle.model.proofs.Promises.SyncInfosKept.{due, not-due, sync-infos-kept}
+use Rattle.model.proofs.Promises.SyncInfosKept.{due, not-due, last-send-past, sync-infos-kept, none-said}
 
 -- ---- rule 1
 
@@ -111,16 +111,11 @@ module _ (s : Seen) where
 
 -- ---- the sync peer and the stalled set
 
--- Who the sync peer is, where there is one.
-record Accompanied (s : Seen) : Type 0 where
-  picked : Picked s → Chosen s (s .after .sync .syncPeer)
-  behind : s .answer .outcome ≡ Numbers.saysBehindPeer → s .after .sync .syncPeer ≡ s .call .peer
-  kept : (Enters s → ⊥) → (s .after .mode ≡ syncing) ⊎ (s .after .mode ≡ synced) → s .after .sync .syncPeer ≡ s .before .sync .syncPeer
-
 module _ {s : Seen} where
   peer-stays : NotPicked s → NotBehind s
-      → ((s .after .mode ≡ syncing) ⊎ (s .after .mode ≡ synced) → s .after .sync .syncPeer ≡ s .before .sync .syncPeer) → Accompanied s
-  peer-stays p b e = record { picked = λ q. absurd (p q); behind = λ o. absurd (b o); kept = λ n m. e m }
+      → ((s .after .mode ≡ syncing) ⊎ (s .after .mode ≡ synced) → s .after .sync .syncPeer ≡ s .before .sync .syncPeer)
+      → ((s .after .mode ≡ syncing → ⊥) → (s .after .mode ≡ synced → ⊥) → s .after .sync .syncPeer ≡ 0) → SyncPeer s
+  peer-stays p b e alone = record { picked = λ q. absurd (p q); behind = λ o. absurd (b o); kept = λ n m. e m; none = alone }
 
   set-stays : (s .call .kind ≡ Numbers.pick → ⊥) → NotProgress s → NotBehind s → (s .answer .outcome ≡ Numbers.saysStalled → ⊥)
       → s .after .sync .stalledPeers ≡ s .before .sync .stalledPeers → StalledSet s
@@ -183,46 +178,44 @@ module _ (st : State) (call : Call) where
   course-set {p = p} (courses.worksFirst k m u) sent = set-empties (byProgress (record { kind = k; mode = m })) (eqb-false 0 4 refl) refl
   course-set {p = p} (courses.worksAgain k m u) sent = set-empties (byProgress (record { kind = k; mode = m })) (eqb-false 0 4 refl) refl
 
-  course-peer : {announced said : List Sending} {p : Plan} → Course st call announced said p → (sent : List Command) → Accompanied (seenBy st call p sent)
+  abbrev Peerless : Plan → Type 0
+  Peerless p = (p .mode ≡ syncing → ⊥) → (p .mode ≡ synced → ⊥) → p .sync .syncPeer ≡ 0
+
+  course-peer : {announced said : List Sending} {p : Plan} → Course st call announced said p → (sent : List Command) → Peerless p → SyncPeer (seenBy st call p sent)
   unfolding argsOf picks entersSyncing answers ticksSyncing ticksSynced progresses Steps.unmarked withoutPeer
-  course-peer {p = p} (courses.passes q) sent = peer-stays (λ e. q .silent .notPick (e .kind)) (q .notBehind) (q .syncPeer)
-  course-peer {p = p} (courses.nobody k e) sent = peer-stays (λ q. mode-is-not seeking syncing refl (q .mode)) (eqb-false 0 2 refl) (λ m. refl)
-  course-peer {p = p} (courses.chooses peer k e) sent =
+  course-peer {p = p} (courses.passes q) sent alone = peer-stays (λ e. q .silent .notPick (e .kind)) (q .notBehind) (q .syncPeer) alone
+  course-peer {p = p} (courses.nobody k e) sent alone = peer-stays (λ q. mode-is-not seeking syncing refl (q .mode)) (eqb-false 0 2 refl) (λ m. refl) alone
+  course-peer {p = p} (courses.chooses peer k e) sent alone =
       record {
         picked = λ q. chosen (seenBy st call p sent) peer e;
         behind = λ o. absurd (eqb-false 0 2 refl o);
         kept = λ n m. absurd (n (inl (record { kind = k; mode = refl })));
+        none = alone;
       }
-  course-peer {p = p} (courses.ahead announced tip k) sent =
-      record { picked = λ q. absurd (apart k (q .kind) refl); behind = λ o. refl; kept = λ n m. absurd (n (inr refl)) }
-  course-peer {p = p} (courses.replies announced tip k) sent =
-      peer-stays (λ q. apart k (q .kind) refl) (eqb-false 0 2 refl) (λ m. refl)
-  course-peer {p = p} (courses.stalls k m) sent =
-      peer-stays (λ q. apart k (q .kind) refl) (eqb-false 4 2 refl) (λ m. absurd (no-peer seeking refl m))
-  course-peer {p = p} (courses.ticks k m) sent =
-      peer-stays (λ q. apart k (q .kind) refl) (eqb-false 0 2 refl) (λ m. refl)
-  course-peer {p = p} (courses.visits peer k m l) sent =
-      peer-stays (λ q. apart k (q .kind) refl) (eqb-false 0 2 refl) (λ m. refl)
-  course-peer {p = p} (courses.worksFirst k m u) sent =
-      peer-stays (λ q. apart k (q .kind) refl) (eqb-false 0 2 refl) (λ m. refl)
-  course-peer {p = p} (courses.worksAgain k m u) sent =
-      peer-stays (λ q. apart k (q .kind) refl) (eqb-false 0 2 refl) (λ m. refl)
+  course-peer {p = p} (courses.ahead announced tip k) sent alone =
+      record { picked = λ q. absurd (apart k (q .kind) refl); behind = λ o. refl; kept = λ n m. absurd (n (inr refl)); none = alone }
+  course-peer {p = p} (courses.replies announced tip k) sent alone =
+      peer-stays (λ q. apart k (q .kind) refl) (eqb-false 0 2 refl) (λ m. refl) alone
+  course-peer {p = p} (courses.stalls k m) sent alone =
+      peer-stays (λ q. apart k (q .kind) refl) (eqb-false 4 2 refl) (λ m. absurd (no-peer seeking refl m)) alone
+  course-peer {p = p} (courses.ticks k m) sent alone =
+      peer-stays (λ q. apart k (q .kind) refl) (eqb-false 0 2 refl) (λ m. refl) alone
+  course-peer {p = p} (courses.visits peer k m l) sent alone =
+      peer-stays (λ q. apart k (q .kind) refl) (eqb-false 0 2 refl) (λ m. refl) alone
+  course-peer {p = p} (courses.worksFirst k m u) sent alone =
+      peer-stays (λ q. apart k (q .kind) refl) (eqb-false 0 2 refl) (λ m. refl) alone
+  course-peer {p = p} (courses.worksAgain k m u) sent alone =
+      peer-stays (λ q. apart k (q .kind) refl) (eqb-false 0 2 refl) (λ m. refl) alone
 
 pub stalled-set-kept : (st : State) (call : Call) → Finished st call → StalledSet (seenAs st call)
 stalled-set-kept st call f = rw (seen-by st call) (course-set st call (told st call f .course) (commands st (argsOf call)))
 
-accompanied : (st : State) (call : Call) → Finished st call → Accompanied (seenAs st call)
-accompanied st call f = rw (seen-by st call) (course-peer st call (told st call f .course) (commands st (argsOf call)))
-
 pub sync-peer-kept : (st : State) (call : Call) → Finished st call → SyncPeer (seenAs st call)
+unfolding after plan argsOf
 sync-peer-kept st call f =
-    let a = accompanied st call f in
-    record {
-      picked = a .picked;
-      behind = a .behind;
-      kept = a .kept;
-      none = λ m n. f .wellAfter .sync .noPeer (peerless (after st (argsOf call) .mode) m n);
-    }
+    rw (seen-by st call)
+    (course-peer st call (told st call f .course) (commands st (argsOf call))
+    (λ m n. f .wellAfter .sync .noPeer (peerless (after st (argsOf call) .mode) m n)))
 
 -- ---- the marks
 
@@ -288,15 +281,10 @@ module _ (s : Seen) (infos : SyncInfos s) where
   one-said c e k =
       promised.said c (subst (Among c) (sym (infos .parts ∙ ap (λ (cs : List Command). infos .others ++ cs) e)) (among-back c (infos .others) (c ∷ []) (inl refl))) k
 
-  none-said : infos .said ≡ [] → SaysSyncInfo s → ⊥
-  none-said e (promised.said c h k) =
-      all-among (λ (c : Command). c .kind ≡ Numbers.aSyncInfo → ⊥) c (infos .others) (infos .noneBefore)
-      (subst (Among c) (infos .parts ∙ (ap (λ (cs : List Command). infos .others ++ cs) e ∙ append-nil (infos .others))) h) k
-
   entry-mark : (peer : ℕ) → SpeaksTo s peer → Enters s → (quiet : Bool) → s .after .sync .entrySent ≡ not quiet → (quiet ≡ false → Due s)
       → (quiet ≡ true → Due s → ⊥) → (s .after .sync .entrySent ≡ true) ↔ (Enters s × SaysSyncInfo s)
   entry-mark peer to enters true e due held =
-      ((λ t. absurd (false≢true (sym e ∙ t))), (λ q. absurd (none-said (infos .heldBack (held refl)) (q .1))))
+      ((λ t. absurd (false≢true (sym e ∙ t))), (λ q. absurd (none-said s infos (infos .heldBack (held refl)) (q .1))))
   entry-mark peer to enters false e due held =
       let out = infos .goesOut peer to (due refl) in
       ((λ t. (enters, one-said (out .0) (out .1) (out .2 .0))), (λ q. e))
@@ -357,9 +345,8 @@ module _ (st : State) (call : Call) (f : Finished st call) where
   marked : Marked (seenAs st call)
   unfolding after plan argsOf
   marked =
-      let past : st .sync .sendClock .lastSend ≤ call .clock = le-trans (f .well .sync .lastSend) (f .passed .clock) in
       rw (seen-by st call)
-      (course-marks st call past (told st call f .course) (commands st (argsOf call))
+      (course-marks st call (last-send-past st call f) (told st call f .course) (commands st (argsOf call))
       (subst SyncInfos (seen-by st call) (sync-infos-kept st call f)) allowed-elsewhere)
 
   pub marks-kept : Marks (seenAs st call)

@@ -28,7 +28,7 @@ use Rattle.model.proofs.EntryLaws.{step-finished, step-commands-read}
 use Rattle.model.proofs.AgreementLaws.{Agreement}
 use Rattle.model.proofs.Demand3.{InService, called-refused, fresh-in-service, called-in-service}
 use Rattle.model.proofs.Promises.SeenLaws.{Finished, seenAs, number-told, finished, state-after, seen-finished, numbers-fit}
-use Rattle.model.proofs.Promises.SaidLaws.{last-send-stays, last-send-passed, says-due}
+use Rattle.model.proofs.Promises.SyncInfosKept.{last-send-past, sync-infos-kept, said-due, last-send-rises}
 use Rattle.model.proofs.Promises.CountLaws.{told-abandoned, told-forgotten, told-retried}
 
 -- ---- a run, by the finished steps of the model
@@ -133,23 +133,24 @@ unfolding after argsOf
 sent-keeps o st finished call f h =
     let last : ℕ = st .sync .sendClock .lastSend in
     let next : ℕ = after st (argsOf call) .sync .sendClock .lastSend in
-    let rises : last ≤ next = last-send-stays st (argsOf call) (last-send-passed st call f) in
+    let due = said-due (seenAs st call) (sync-infos-kept st call f) in
+    let rises : last ≤ next = last-send-rises (seenAs st call) (sync-infos-kept st call f) (last-send-past st call f) in
     let interval : st .settings .minSendInterval ≡ o .settings .minSendInterval = ap (λ s. s .minSendInterval) (h .settings) in
     record {
       settings = h .settings;
       since = omega (arith, h .since, rises);
       earlier = (
-        λ says. omega (arith, says-due st call f says .1),
+        λ says. omega (arith, due says .1),
         all-weaker (λ (s : Seen). SaysSyncInfo s → s .call .clock ≤ last) (λ (s : Seen). SaysSyncInfo s → s .call .clock ≤ next)
             (λ s early says. omega (arith, early says, rises)) finished (h .earlier),
       );
       spaced = (
         λ says.
-            let due = says-due st call f says .0 in (
-              omega (arith, h .since, due, interval),
+            let past = due says .0 in (
+              omega (arith, h .since, past, interval),
               all-weaker (λ (s : Seen). SaysSyncInfo s → s .call .clock ≤ last)
                   (λ (s : Seen). SaysSyncInfo s → s .call .clock + o .settings .minSendInterval ≤ call .clock)
-                  (λ s early says. omega (arith, early says, due, interval)) finished (h .earlier),
+                  (λ s early says. omega (arith, early says, past, interval)) finished (h .earlier),
             ),
         h .spaced,
       );

@@ -1,13 +1,13 @@
 -- Sync infos and announcements go out as specs/Promises/SyncInfos says.
 use Prim.Native.Nat.{ℕ, _+_, _-_, _≤_, _%_, _^_}
-use mathlib.Core.Path.{_≡_, refl, sym, ap, _∙_}
+use mathlib.Core.Path.{_≡_, refl, sym, ap, _∙_, subst}
 use mathlib.Core.Bool.{Bool, true, false, cond, false≢true}
 use mathlib.Core.Logic.{_⊎_, inl, inr}
-use mathlib.Core.List.{List, [], _∷_, _++_, append-assoc, cons≢nil}
+use mathlib.Core.List.{List, [], _∷_, _++_, append-assoc, append-nil, cons≢nil}
 use native.Mathlib.Nat.{lt-irrefl, le-trans}
 use native.Mathlib.Omega.{arith}
-use lib.Dec.{eqb}
-use borrow.Author.Tests.{eqb-false, ltb-true, ltb-false}
+use lib.Dec.{eqb, leb}
+use borrow.Author.Tests.{eqb-false, leb-true, leb-false, ltb-true, ltb-false}
 use Rattle.fields.specs.Facts.{All}
 use Rattle.fields.proofs.AllLaws.{all-append, all-weaker}
 use Rattle.model.specs.Settings.{Settings, throttled}
@@ -18,11 +18,13 @@ use Rattle.model.specs.Steps
 use Rattle.model.specs.Steps.{entersSyncing, picks, answers, ticksSyncing, ticksSynced, progresses, unmarked, withoutPeer, Plan, planOf, after, commands}
 use Rattle.model.specs.Calls.{Call, argsOf, stepOf}
 use Rattle.model.specs.Promises.Numbers
-use Rattle.model.specs.Promises.Words.{Seen, peers, First}
-use Rattle.model.specs.Promises.Marks.{Picked}
+use Rattle.model.specs.Promises.Words.{Seen, peers, Among, First}
+use Rattle.model.specs.Promises.Marks as marks
+use Rattle.model.specs.Promises.Marks.{Picked, SaysSyncInfo}
 use Rattle.model.specs.Promises.SyncInfos.{SpeaksTo, onPick, whenBehind, inReply, onProgress, onTick, onSyncedTick}
 use Rattle.model.specs.Promises.SyncInfos.{Due, SyncInfos, Announcements, continuationIds}
 use Rattle.model.proofs.Promises.SeenLaws.{Finished, seenAs}
+use Rattle.model.proofs.Promises.ListLaws.{all-among}
 use Rattle.model.proofs.Promises.ModeLaws.{mode-is-not}
 use Rattle.model.proofs.Promises.PartLaws.{OfKind, Parts}
 use Rattle.model.proofs.Promises.CourseLaws.{apart, seenBy, seen-by, saidTo, isQuiet}
@@ -182,6 +184,10 @@ module _ (settings : Settings) (clock lastSend : ℕ) (past : lastSend ≤ clock
   unfolding throttled
   not-due e h = let l = ltb-true (clock - lastSend) (settings .minSendInterval) e in lt-irrefl 0 (omega arith)
 
+-- the last send is not after the clock
+pub last-send-past : (st : State) (call : Call) → Finished st call → st .sync .sendClock .lastSend ≤ call .clock
+last-send-past st call f = le-trans (f .well .sync .lastSend) (f .passed .clock)
+
 -- ---- what is said, and the send clock
 
 abbrev sentAt : ℕ → SendClock → SendClock
@@ -317,7 +323,33 @@ sync-infos-kept st call f =
     all-append (NotOfKind Numbers.aSyncInfo) front (parts .requests)
     (none-of Numbers.anAnnouncement Numbers.aSyncInfo refl front (front-kind (seenBy st call p sent) (t .announced) (t .front p sent)))
     (none-of Numbers.aRequest Numbers.aSyncInfo refl (parts .requests) (parts .areRequests)) in
-    let past : st .sync .sendClock .lastSend ≤ call .clock = le-trans (f .well .sync .lastSend) (f .passed .clock) in
     rw (seen-by st call)
-    (course-infos st call past (t .course) sent others none (parts .batch)
+    (course-infos st call (last-send-past st call f) (t .course) sent others none (parts .batch)
     (parts .parts ∙ sym (append-assoc front (parts .requests) (commandsFrom (parts .batch) (t .said)))))
+
+-- ---- what follows from the promise
+
+module _ (s : Seen) (infos : SyncInfos s) where
+  pub none-said : infos .said ≡ [] → SaysSyncInfo s → ⊥
+  none-said e (marks.said c h k) =
+      all-among (NotOfKind Numbers.aSyncInfo) c (infos .others) (infos .noneBefore)
+      (subst (Among c) (infos .parts ∙ (ap (λ (cs : List Command). infos .others ++ cs) e ∙ append-nil (infos .others))) h) k
+
+  -- A sync info goes out only when the interval is over, and is noted.
+  pub said-due : SaysSyncInfo s → Due s × (s .after .sync .sendClock .lastSend ≡ s .call .clock)
+  said-due says = (go (leb next (s .call .clock)) refl, infos .lastSend (λ e. none-said e says))
+    where
+      next : ℕ
+      next = s .before .sync .sendClock .lastSend + s .before .settings .minSendInterval
+
+      go : (t : Bool) → leb next (s .call .clock) ≡ t → Due s
+      go true e = leb-true next (s .call .clock) e
+      go false e = absurd (none-said (infos .heldBack (λ d. let l = leb-false next (s .call .clock) e in lt-irrefl 0 (omega arith))) says)
+
+  -- The send clock never falls.
+  pub last-send-rises : s .before .sync .sendClock .lastSend ≤ s .call .clock → s .before .sync .sendClock .lastSend ≤ s .after .sync .sendClock .lastSend
+  last-send-rises past = go (infos .said) refl
+    where
+      go : (cs : List Command) → infos .said ≡ cs → s .before .sync .sendClock .lastSend ≤ s .after .sync .sendClock .lastSend
+      go [] e = omega (arith, infos .lastSendKept e)
+      go (c ∷ cs) e = omega (arith, infos .lastSend (λ z. cons≢nil (sym e ∙ z)))
