@@ -5,6 +5,7 @@ use mathlib.Core.Bool.{Bool, true, false, cond, _&&_}
 use mathlib.Core.Logic.{inl, inr}
 use mathlib.Core.List.{List, [], _∷_, _++_, map, append-assoc}
 use mathlib.Core.Option.{Option, none, some}
+use native.Mathlib.Nat.{lt-irrefl}
 use native.Mathlib.Omega.{arith}
 use lib.ListN.{length, take, drop, length-take, length-drop}
 use lib.Dec.{eqb}
@@ -33,11 +34,12 @@ use Rattle.model.specs.Promises.Batches.{Alike, Follows, EachNext, Start
 use Rattle.model.proofs.Widths.{WellAct}
 use Rattle.model.proofs.RequestedLaws.{requestedBySendings, requested-commands}
 use Rattle.model.proofs.StepKindLaws.{check-of-kind}
-use Rattle.model.proofs.Promises.SeenLaws.{seenAs, Finished, numbers-fit}
+use Rattle.model.proofs.Promises.SeenLaws.{seenAs, Finished, is-check}
 use Rattle.model.proofs.Promises.CheckAsked.{fresh-performed}
-use Rattle.model.proofs.Promises.ListLaws.{Pairwise, all-of, pairwise-append, pairwise-map, pairwise-next}
+use Rattle.model.proofs.Promises.ListLaws.{all-of, all-mapped, Pairwise, pairwise-append, pairwise-map, pairwise-next}
 use Rattle.model.proofs.Promises.ListLaws.{OfFirst, Neighbours, next-of, next-append, next-map}
-use Rattle.model.proofs.Promises.ItemLaws.{BatchBelow, batches-keyed, batches-rise}
+use Rattle.model.proofs.Promises.ItemLaws.{batches-each, BatchBelow, batches-rise, LowerType, batches-types}
+use Rattle.model.proofs.Promises.PartLaws.{performed-each, batchAfter, commands-append}
 use Rattle.model.proofs.Promises.AskedLaws.{Says, continuation-says, say-to-says, enters-says, picks-say, ticks-say, unretried, acts-well}
 
 -- ---- a sending as a header and its runs
@@ -129,25 +131,11 @@ first-command P batch (request typeId peer (id ∷ ids)) others h f = f (take re
 first-command P batch (announcement peer ids) others h f = f ids
 first-command P batch (syncInfo peer) others h f = f []
 
-join-not-empty : (i : Item) (bs : List Batch) → All (λ (b : Batch). NotEmpty (b .ids)) bs → All (λ (b : Batch). NotEmpty (b .ids)) (join i bs)
-join-not-empty i [] h = (tt, tt)
-join-not-empty i (b ∷ bs) h = go (eqb (i .typeId) (b .typeId) && eqb (i .peer) (b .peer))
-  where
-    go : (t : Bool) → All (λ (b : Batch). NotEmpty (b .ids))
-        (cond t (record { typeId = b .typeId; peer = b .peer; ids = i .id ∷ b .ids } ∷ bs)
-        (record { typeId = i .typeId; peer = i .peer; ids = i .id ∷ [] } ∷ (b ∷ bs)))
-    go true = (tt, h .1)
-    go false = (tt, h)
-
-adjacent-not-empty : (items : List Item) → All (λ (b : Batch). NotEmpty (b .ids)) (adjacent items)
-adjacent-not-empty [] = tt
-adjacent-not-empty (i ∷ items) = join-not-empty i (adjacent items) (adjacent-not-empty items)
-
 retries-send : (items : List Item) → All Sends (retrySendings items)
-unfolding retrySendings batchesOf
+unfolding retrySendings
 retries-send items =
-    all-map (λ (b : Batch). NotEmpty (b .ids)) Sends (λ (b : Batch). request (b .typeId) (b .peer) (b .ids)) (λ b h. h)
-    (adjacent (sorted itemBelow items)) (adjacent-not-empty (sorted itemBelow items))
+    all-map (λ (b : Batch). NotEmpty (b .ids)) Sends (λ (b : Batch). request (b .typeId) (b .peer) (b .ids)) (λ b h. h) (batchesOf items)
+    (batches-each (λ (b : Batch). NotEmpty (b .ids)) (λ i b h. tt) items (all-of (λ (i : Item). Unit {0}) (λ i. tt) items))
 
 -- ---- what acts send
 
@@ -159,14 +147,6 @@ Differs (send s) act = Unit {0}
 
 abbrev Apart : Sending → Sending → Type 0
 Apart s t = kindOf s ≡ 1 → kindOf t ≡ 1 → typeOf s ≡ typeOf t → peerOf s ≡ peerOf t → ⊥
-
-module _ (gate : Bool) (clock : ℕ) where
-  performed-each : (P : Act → Type 0) (Q : Sending → Type 0) → ((act : Act) (rs : List Request) → P act → All Q (perform gate clock act rs .sendings))
-      → (acts : List Act) (rs : List Request) → All P acts → All Q (performAll gate clock acts rs .sendings)
-  performed-each P Q f [] rs h = tt
-  performed-each P Q f (act ∷ acts) rs h =
-      all-append Q (perform gate clock act rs .sendings) (performAll gate clock acts (perform gate clock act rs .pending) .sendings)
-      (f act rs (h .0)) (performed-each P Q f acts (perform gate clock act rs .pending) (h .1))
 
 request-sends : (typeId peer : ℕ) (ids : List Id) → All Sends (requestOf typeId peer ids)
 request-sends typeId peer [] = tt
@@ -253,16 +233,6 @@ sections-differ view chainHeight height (peer ∷ peers) =
     (batchesOf (windowWithin (min (height + windowSize) chainHeight - height) view peer height .items))
     (batches-rise (windowWithin (min (height + windowSize) chainHeight - height) view peer height .items))
 
--- of one peer, no two are of one type
-one-peer-differ : (peer : ℕ) (bs : List Batch) → All (λ (b : Batch). b .peer ≡ peer) bs → Pairwise BatchBelow bs
-    → Pairwise (λ (b c : Batch). b .typeId ≡ c .typeId → ⊥) bs
-one-peer-differ peer [] p r = tt
-one-peer-differ peer (b ∷ bs) p r = (go bs (p .1) (r .0), one-peer-differ peer bs (p .1) (r .1))
-  where
-    go : (cs : List Batch) → All (λ (c : Batch). c .peer ≡ peer) cs → All (BatchBelow b) cs → All (λ (c : Batch). b .typeId ≡ c .typeId → ⊥) cs
-    go [] q l = tt
-    go (c ∷ cs) q l = ((λ t. below-differ b c (l .0) t (p .0 ∙ sym (q .0))), go cs (q .1) (l .1))
-
 module _ (st : State) (a : Args) where
   sections-from-differ : (height : ℕ) → Pairwise Differs (Steps.sectionsFrom st a height .acts)
   unfolding Steps.sectionsFrom
@@ -274,13 +244,8 @@ module _ (st : State) (a : Args) where
   orphans-differ lost (some peer) =
       let orphan : Request → Item = λ (r : Request). record { id = r .id; typeId = r .typeId; peer = peer } in
       let items : List Item = map orphan (orphansOf lost (st .pending)) in
-      let one : All (λ (b : Batch). b .peer ≡ peer) (batchesOf items) =
-      batches-keyed (λ (p t : ℕ). p ≡ peer) items
-      (all-map (λ (r : Request). Unit {0}) (λ (i : Item). i .peer ≡ peer) orphan (λ r u. refl) (orphansOf lost (st .pending))
-      (all-of (λ (r : Request). Unit {0}) (λ r. tt) (orphansOf lost (st .pending))))
-      in
-      pairwise-map (λ (b : Batch). ask (b .typeId) peer (a .stored) (b .ids)) (λ (b c : Batch). b .typeId ≡ c .typeId → ⊥) Differs
-      (λ b c n t p. n t) (batchesOf items) (one-peer-differ peer (batchesOf items) one (batches-rise items))
+      pairwise-map (λ (b : Batch). ask (b .typeId) peer (a .stored) (b .ids)) LowerType Differs (λ b c l t p. lt-irrefl (b .typeId) (omega arith))
+      (batchesOf items) (batches-types peer items (all-mapped (λ (i : Item). i .peer ≡ peer) orphan (λ r. refl) (orphansOf lost (st .pending))))
 
   at-tip-differ : (acts : List Act) (tip : ℕ) → All Says acts → Pairwise Differs (Steps.isAtTip st a acts tip .acts)
   unfolding Steps.isAtTip
@@ -401,8 +366,8 @@ module _ (P : Command → Command → Type 0) (Q : Sending → Sending → Type 
       (next-append P (map (headed batch s) (runsOf s)) (commandsFrom (suc batch) ss)
       (next-map (headed batch s) (λ (run next : List Id). (kindOf s ≡ 1) × (length run ≡ 400)) P (within batch s) (runsOf s) (sending-full s))
       (commands-next (suc batch) ss (q .1) (h .1))
-      (all-map (λ (run : List Id). Unit {0}) (λ (c : Command). OfFirst (P c) (commandsFrom (suc batch) ss)) (headed batch s)
-      (λ run u. next-sending batch s ss run (q .0) (h .1)) (runsOf s) (all-of (λ (run : List Id). Unit {0}) (λ run. tt) (runsOf s))))
+      (all-mapped (λ (c : Command). OfFirst (P c) (commandsFrom (suc batch) ss)) (headed batch s)
+      (λ run. next-sending batch s ss run (q .0) (h .1)) (runsOf s)))
 
 -- ---- a finished call
 
@@ -452,14 +417,6 @@ module _ (st : State) (call : Call) (f : Finished st call) where
 
 -- ---- what is sent again, and what is asked for anew
 
-commands-append : (batch : ℕ) (ss ts : List Sending) → (behind : ℕ) × (commandsFrom batch (ss ++ ts) ≡ commandsFrom batch ss ++ commandsFrom behind ts)
-commands-append batch [] ts = (batch, refl)
-commands-append batch (s ∷ ss) ts =
-    let (behind, e) = commands-append (suc batch) ss ts in (
-      behind,
-      ap (λ (l : List Command). commandsOf batch s ++ l) e ∙ sym (append-assoc (commandsOf batch s) (commandsFrom (suc batch) ss) (commandsFrom behind ts)),
-    )
-
 retries-next : (items : List Item) → Neighbours Apart (retrySendings items)
 unfolding retrySendings
 retries-next items =
@@ -471,8 +428,7 @@ retries-next items =
 none-again : (st : State) (call : Call) → Finished st call → (call .kind ≡ Numbers.check → ⊥) → commandsFrom 0 (retrySendings (retried st (argsOf call))) ≡ []
 unfolding argsOf retrySendings batchesOf
 none-again st call f n =
-    let fit = numbers-fit st call f in
-    let e : isCheck (stepOf call) ≡ false = sym (check-of-kind call (fit .kindLow) (fit .kindHigh)) ∙ ne-eqb (call .kind) Numbers.check n in
+    let e : isCheck (stepOf call) ≡ false = sym (is-check st call f) ∙ ne-eqb (call .kind) Numbers.check n in
     ap (λ (items : List Item). commandsFrom 0 (retrySendings items)) (unretried st (argsOf call) e)
 
 uncut : (st : State) (call : Call) → Finished st call → Uncut (seenAs st call)
@@ -480,11 +436,11 @@ unfolding commands
 uncut st call f =
     let again : List Sending = retrySendings (retried st (argsOf call)) in
     let anew : List Sending = performed st (argsOf call) .sendings in
-    let (behind, e) = commands-append 0 again anew in
+    let behind : ℕ = batchAfter 0 again in
     record {
       again = commandsFrom 0 again;
       anew = commandsFrom behind anew;
-      parts = e;
+      parts = commands-append 0 again anew;
       oneAgain =
           each-next OneBatch (commandsFrom 0 again)
           (commands-together 0 again (retries-next (retried st (argsOf call))) (retries-send (retried st (argsOf call))));

@@ -17,19 +17,7 @@ use Rattle.model.specs.Check.{retryTarget, retryOf, markAllRetried}
 use Rattle.model.proofs.Well.{RisingIds}
 use Rattle.model.proofs.IdLaws.{not-among-kept}
 use Rattle.model.proofs.EnteringLaws.{itemIds}
-
--- ---- ids that are not there
-
-first-once : (id : Id) (ids : List Id) → All (λ (other : Id). before id other ≡ true) ids → isAmong id ids ≡ false
-unfolding isAmong
-first-once id [] h = refl
-first-once id (other ∷ ids) h = go (same id other) refl (first-once id ids (h .1))
-  where
-    go : (t : Bool) → same id other ≡ t → isAmong id ids ≡ false → t || isAmong id ids ≡ false
-    go true e rest =
-        let x : id ≡ other = same-eq id other e in
-        absurd (false≢true (sym (before-irreflexive id) ∙ ap (before id) x ∙ h .0))
-    go false e rest = rest
+use Rattle.model.proofs.Promises.WordLaws.{not-among, not-again}
 
 -- ---- marks on other ids
 
@@ -107,7 +95,7 @@ module _ (settings : Settings) (clock : ℕ) where
     unfolding judged restarted retryOf
     checked-again [] h = refl
     checked-again (r ∷ rs) h =
-        let n : isAmong (r .id) (idsOf rs) ≡ false = first-once (r .id) (idsOf rs) (h .0) in
+        let n : isAmong (r .id) (idsOf rs) ≡ false = not-among (r .id) (idsOf rs) (not-again (r .id) (idsOf rs) (h .0)) in
         go (verdict settings clock r) (not-among-again (r .id) rs n) (not-among-checked (r .id) rs n) (checked-again rs (h .1))
       where
         left : List Request

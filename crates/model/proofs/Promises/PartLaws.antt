@@ -15,6 +15,17 @@ use Rattle.model.specs.Check.{retrySendings}
 use Rattle.model.specs.Promises.Numbers as numbers
 use Rattle.model.proofs.Promises.ListLaws.{all-mapped}
 
+-- ---- what acts send
+
+-- what holds of all that each act sends
+module _ (gate : Bool) (clock : ℕ) where
+  pub performed-each : (P : Act → Type 0) (Q : Sending → Type 0) → ((act : Act) (rs : List Request) → P act → All Q (perform gate clock act rs .sendings))
+      → (acts : List Act) (rs : List Request) → All P acts → All Q (performAll gate clock acts rs .sendings)
+  performed-each P Q f [] rs h = tt
+  performed-each P Q f (act ∷ acts) rs h =
+      all-append Q (perform gate clock act rs .sendings) (performAll gate clock acts (perform gate clock act rs .pending) .sendings)
+      (f act rs (h .0)) (performed-each P Q f acts (perform gate clock act rs .pending) (h .1))
+
 -- ---- acts that ask send requests only
 
 abbrev pub IsAsk : Act → Type 0
@@ -36,11 +47,7 @@ ask-requests false clock (ask typeId peer pairs ids) rs w = tt
 ask-requests gate clock (send s) rs w = absurd w
 
 pub asks-request : (gate : Bool) (clock : ℕ) (acts : List Act) (rs : List Request) → All IsAsk acts → All IsRequest (performAll gate clock acts rs .sendings)
-asks-request gate clock [] rs w = tt
-asks-request gate clock (act ∷ acts) rs w =
-    let one = perform gate clock act rs in
-    all-append IsRequest (one .sendings) (performAll gate clock acts (one .pending) .sendings) (ask-requests gate clock act rs (w .0))
-    (asks-request gate clock acts (one .pending) (w .1))
+asks-request gate clock acts rs w = performed-each gate clock IsAsk IsRequest (ask-requests gate clock) acts rs w
 
 pub retries-request : (items : List Item) → All IsRequest (retrySendings items)
 unfolding retrySendings

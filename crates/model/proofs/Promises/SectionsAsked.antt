@@ -32,10 +32,12 @@ use Rattle.model.specs.Promises.Words.{First, LeftOf}
 use Rattle.model.specs.Promises.Outcomes.{noHeaders, tipReached}
 use Rattle.model.specs.Promises.Asked.{NextSections, inReorg, onProgress, atSectionTick, onEntry, Present, notStored, offered}
 use Rattle.model.specs.Promises.Asked.{under, PendingId, PendingThen, TypesRise, AsksWindow}
-use Rattle.model.proofs.Promises.SeenLaws.{seenAs, Finished}
+use Rattle.model.proofs.Promises.SeenLaws as kinds
+use Rattle.model.proofs.Promises.SeenLaws.{seenAs, Finished, step-of}
 use Rattle.model.proofs.Promises.WordLaws.{first-listed, left-same}
-use Rattle.model.proofs.Promises.ByTypeLaws.{ofType, OfPeer, batches-stepwise, AskedLower, Known, ByType, asks, own-peers, asked-by-type}
-use Rattle.model.proofs.Promises.ByTypeLaws.{askedBy, Quiet, quiet-front, quiet-back, asked-by-acts}
+use Rattle.model.proofs.Promises.ItemLaws.{OfPeer, batches-peer}
+use Rattle.model.proofs.Promises.AskedLaws.{Says, say-to-says, continuation-says, askedBy, says-front, says-back, asked-by}
+use Rattle.model.proofs.Promises.ByTypeLaws.{ofType, AskedLower, Known, ByType, asks, own-peers, asked-by-type}
 
 -- ---- the window's items
 
@@ -138,7 +140,7 @@ module _ (view : View) (chainHeight height peer clock : ℕ) (pending : List Req
       let r : Reached n view peer height = reached n view peer height e in
       let most = r .within in
       let b : ByType peer [] items pending asked = asked-by-type clock peer [] items pending (window-peer n view peer height) in
-      rw (own-peers peer [] (batchesOf items) (batches-stepwise peer items (window-peer n view peer height)))
+      rw (own-peers peer [] (batchesOf items) (batches-peer peer items (window-peer n view peer height)))
       (record {
         heights = r .heights;
         few = omega arith;
@@ -168,28 +170,14 @@ module _ (view : View) (chainHeight height peer clock : ℕ) (pending : List Req
 
 -- ---- plans that run rule 4
 
-say-quiet : (st : State) (a : Args) (peer : ℕ) → All Quiet (sayTo st a peer)
-unfolding sayTo syncInfoTo
-say-quiet st a peer =
-    either (All Quiet) (throttled (st .settings) (a .clock) (st .sync .sendClock .lastSend)) [] (send (Requests.syncInfo peer) ∷ []) tt (tt, tt)
-
-announce-quiet : (peer : ℕ) (ids : List Id) → All Quiet (announce peer ids)
-announce-quiet peer [] = tt
-announce-quiet peer (id ∷ ids) = (tt, tt)
-
-continuation-quiet : (parsed : Bool) (ours : ℕ) (tip : Option ℕ) (peer : ℕ) (ids : List Id) → All Quiet (continuation parsed ours tip peer ids)
-unfolding continuation
-continuation-quiet parsed ours tip peer ids =
-    either (All Quiet) (parsed && (ltb 0 ours && notAbove ours tip)) (announce peer ids) [] (announce-quiet peer ids) tt
-
 module _ (st : State) (a : Args) where
   -- It asks from the height that is downloaded behind the step, and its other acts ask for nothing.
   record RunsRule4 (p : Plan) : Type 0 where
     front : List Act
     back : List Act
     acts : p .acts ≡ front ++ (sectionsFrom st a (p .sync .downloaded) .acts ++ back)
-    quietFront : All Quiet front
-    quietBack : All Quiet back
+    saysFront : All Says front
+    saysBack : All Says back
     inView : p .inView ≡ true → sectionsFrom st a (p .sync .downloaded) .inView ≡ true
 
   advance-runs : (height : ℕ) → RunsRule4 (advancesAndRequests st a height)
@@ -200,8 +188,8 @@ module _ (st : State) (a : Args) where
         front = [];
         back = [];
         acts = sym (append-nil (sectionsFrom st a (reached .height) .acts));
-        quietFront = tt;
-        quietBack = tt;
+        saysFront = tt;
+        saysBack = tt;
         inView = and-right (reached .inView) (sectionsFrom st a (reached .height) .inView);
       }
 
@@ -212,8 +200,8 @@ module _ (st : State) (a : Args) where
         front = [];
         back = [];
         acts = sym (append-nil (sectionsFrom st a (st .sync .downloaded) .acts));
-        quietFront = tt;
-        quietBack = tt;
+        saysFront = tt;
+        saysBack = tt;
         inView = λ e. e;
       }
   progress-runs true =
@@ -221,21 +209,21 @@ module _ (st : State) (a : Args) where
         front = [];
         back = cond (st .sync .progressUsed) [] (sayTo st a (st .sync .syncPeer));
         acts = refl;
-        quietFront = tt;
-        quietBack = either (All Quiet) (st .sync .progressUsed) [] (sayTo st a (st .sync .syncPeer)) tt (say-quiet st a (st .sync .syncPeer));
+        saysFront = tt;
+        saysBack = either (All Says) (st .sync .progressUsed) [] (sayTo st a (st .sync .syncPeer)) tt (say-to-says st a (st .sync .syncPeer));
         inView = λ e. e;
       }
 
   -- entry to synced
-  tip-runs : (before : List Act) (tip : ℕ) → All Quiet before → isMode (st .mode) syncing ≡ true → RunsRule4 (isAtTip st a before tip)
+  tip-runs : (before : List Act) (tip : ℕ) → All Says before → isMode (st .mode) syncing ≡ true → RunsRule4 (isAtTip st a before tip)
   unfolding isAtTip
   tip-runs before tip q m =
       record {
         front = before;
         back = [];
         acts = rw (m, append-nil (sectionsFrom st a (st .sync .downloaded) .acts));
-        quietFront = q;
-        quietBack = tt;
+        saysFront = q;
+        saysBack = tt;
         inView = λ e. rw m at e;
       }
 
@@ -245,7 +233,7 @@ module _ (st : State) (a : Args) where
   heard-runs peer tip ids p l m =
       rw (eq-eqb peer (st .sync .syncPeer) p, le-leb tip (a .chainHeight) l)
       (tip-runs (continuation true (a .chainHeight) (some tip) peer ids) (raisedTip (st .sync .knownTip) (some tip))
-      (continuation-quiet true (a .chainHeight) (some tip) peer ids) m)
+      (continuation-says true (a .chainHeight) (some tip) peer ids) m)
 
   -- "An empty header list"
   told-runs : (peer : ℕ) → isMode (st .mode) syncing ≡ true → RunsRule4 (hearsAnnounced st a peer headerType [])
@@ -307,38 +295,22 @@ module _ (st : State) (call : Call) where
 
   -- ---- which step it is
 
-  reorg-step : call .kind ≡ numbers.reorg → stepOf call ≡ Steps.reorg (call .fork)
-  unfolding stepOf
-  reorg-step e = rw e
-
-  progress-step : call .kind ≡ numbers.progress → stepOf call ≡ Steps.progress
-  unfolding stepOf
-  progress-step e = rw e
-
-  tick-step : call .kind ≡ numbers.sectionTick → stepOf call ≡ Steps.sectionTick
-  unfolding stepOf
-  tick-step e = rw e
-
   told-step : call .kind ≡ numbers.announcedIds → call .typeid ≡ headerType → idsIn (call .ids) ≡ [] → stepOf call ≡ Steps.announced (call .peer) headerType []
-  unfolding stepOf
   told-step e t i =
-      let known : stepOf call ≡ Steps.announced (call .peer) (call .typeid) (idsIn (call .ids)) = rw e in
-      known ∙ ap (λ (ids : List Id). Steps.announced (call .peer) (call .typeid) ids) i ∙ ap (λ (typeId : ℕ). Steps.announced (call .peer) typeId []) t
+      step-of call (kinds.announcedIds e) ∙ ap (λ (ids : List Id). Steps.announced (call .peer) (call .typeid) ids) i ∙ ap (λ (typeId : ℕ). Steps.announced (call .peer) typeId []) t
 
   heard-step : call .kind ≡ numbers.syncInfo → call .parsed ≡ 1 → call .hastip ≡ 1
       → stepOf call ≡ Steps.syncInfo (call .peer) true (some (call .tip)) (idsIn (call .continuation))
-  unfolding stepOf
   heard-step e p h =
       let ids : List Id = idsIn (call .continuation) in
-      let known : stepOf call ≡ Steps.syncInfo (call .peer) (eqb (call .parsed) 1) (cond (eqb (call .hastip) 1) (some (call .tip)) none) ids = rw e in
-      known
+      step-of call (kinds.syncInfo e)
       ∙ ap (λ (t : Bool). Steps.syncInfo (call .peer) t (cond (eqb (call .hastip) 1) (some (call .tip)) none) ids) (eq-eqb (call .parsed) 1 p)
       ∙ ap (λ (t : Bool). Steps.syncInfo (call .peer) true (cond t (some (call .tip)) none) ids) (eq-eqb (call .hastip) 1 h)
 
   asks-next : NextSections (seenAs st call) → AsksNext (stepOf call)
-  asks-next (inReorg e) = subst AsksNext (sym (reorg-step e)) (reorg-asks e)
-  asks-next (onProgress e) = subst AsksNext (sym (progress-step e)) (progress-asks e)
-  asks-next (atSectionTick e) = subst AsksNext (sym (tick-step e)) (tick-asks e)
+  asks-next (inReorg e) = subst AsksNext (sym (step-of call (kinds.reorg e))) (reorg-asks e)
+  asks-next (onProgress e) = subst AsksNext (sym (step-of call (kinds.progress e))) (progress-asks e)
+  asks-next (atSectionTick e) = subst AsksNext (sym (step-of call (kinds.sectionTick e))) (tick-asks e)
   asks-next (onEntry (noHeaders e t i) m) = subst AsksNext (sym (told-step e t i)) (told-asks e m)
   asks-next (onEntry (tipReached tip h p l) m) =
       subst AsksNext (sym (heard-step (h .kind) (h .parsed) (h .named))) (heard-asks (h .kind) p (subst (λ (n : ℕ). n ≤ call .height) (sym (h .names)) l) m)
@@ -365,11 +337,11 @@ module _ (st : State) (call : Call) where
         let clock : ℕ = call .clock in
         let r = n .runs in
         let all : List Act = sectionsFrom st (argsOf call) from .acts in
-        asked-by-acts st (argsOf call) (n .noCheck)
+        asked-by st (argsOf call) (stepOf call) refl (n .noCheck)
         ∙ ap (λ (gate : Bool). askedBy gate clock (plan st (argsOf call) .acts) start) (eq-eqb (call .gate) 1 g)
         ∙ ap (λ (acts : List Act). askedBy true clock acts start) (r .acts)
-        ∙ quiet-front true clock (r .front) (all ++ r .back) start (r .quietFront)
-        ∙ quiet-back true clock all (r .back) start (r .quietBack)
+        ∙ says-front true clock (r .front) (all ++ r .back) start (r .saysFront)
+        ∙ says-back true clock all (r .back) start (r .saysBack)
         ∙ ap (λ (s : Sections). askedBy true clock (s .acts) start) listed
 
     next-in-view : plan st (argsOf call) .inView ≡ true → sections .inView ≡ true

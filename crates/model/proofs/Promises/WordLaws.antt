@@ -8,10 +8,10 @@ use mathlib.Core.Option.{some, Option·some-injective}
 use lib.ListN.{length}
 use lib.Dec.{eqb}
 use borrow.Author.Tests.{eqb-true, eq-eqb, not-true, not-false}
-use Rattle.fields.specs.Order.{same}
+use Rattle.fields.specs.Order.{same, before}
 use Rattle.fields.specs.Facts.{All}
 use Rattle.fields.specs.Filter.{consIf, kept}
-use Rattle.fields.proofs.OrderLaws.{and-left, and-right, not-both, or-left, or-right, eq-same, same-eq}
+use Rattle.fields.proofs.OrderLaws.{and-left, and-right, not-both, or-left, or-right, eq-same, same-eq, before-irreflexive}
 use Rattle.fields.proofs.MarkLaws.{kept-kept}
 use Rattle.model.specs.Protocol.{Id, isAmong, isAnnounceable}
 use Rattle.model.specs.Delivery.{Request, idsOf, isPending}
@@ -19,7 +19,8 @@ use Rattle.model.specs.Peers.{isListed, firstOf, isSome}
 use Rattle.model.specs.Requests.{Pair, isStored, wanted}
 use Rattle.model.specs.Promises.Words.{Among, First, LeftOf, Counted}
 use Rattle.model.specs.Promises.Asked.{PendingId, Announceable}
-use Rattle.model.proofs.Promises.ListLaws.{all-of, among-map, map-among}
+use Rattle.model.proofs.Well.{RisingIds}
+use Rattle.model.proofs.Promises.ListLaws.{all-of, all-among, among-map, map-among}
 use Rattle.model.proofs.Promises.TellsLaws.{Tells, turned-tells, both-tell}
 
 -- ---- tests
@@ -49,8 +50,19 @@ passes-among id (other ∷ others) e = go (either-true (same id other) (isAmong 
 pub fails-among : (id : Id) (ids : List Id) → isAmong id ids ≡ false → Among id ids → ⊥
 fails-among id ids e h = not-both (isAmong id ids) (among-passes id ids h) e
 
+pub not-among : (id : Id) (ids : List Id) → (Among id ids → ⊥) → isAmong id ids ≡ false
+not-among id ids n = go (isAmong id ids) refl
+  where
+    go : (t : Bool) → isAmong id ids ≡ t → isAmong id ids ≡ false
+    go true e = absurd (n (passes-among id ids e))
+    go false e = e
+
 pub among-tells : (id : Id) (ids : List Id) → Tells (not (isAmong id ids)) (Among id ids)
 among-tells id ids = turned-tells (isAmong id ids) (passes-among id ids) (fails-among id ids)
+
+-- one that comes before all of a list is not among it
+pub not-again : (id : Id) (ids : List Id) → All (λ (other : Id). before id other ≡ true) ids → Among id ids → ⊥
+not-again id ids h a = not-both (before id id) (all-among (λ (other : Id). before id other ≡ true) id ids h a) (before-irreflexive id)
 
 -- ---- a pending id
 
@@ -72,6 +84,15 @@ pending-request id rs h = let p = among-map (λ (r : Request). r .id) id rs h in
 
 pub request-pending : (id : Id) (rs : List Request) (r : Request) → Among r rs → r .id ≡ id → PendingId rs id
 request-pending id rs r a e = subst (PendingId rs) e (map-among (λ (r : Request). r .id) r rs a)
+
+-- no two have one id
+pub one-request : (rs : List Request) → RisingIds (idsOf rs) → (q r : Request) → Among q rs → Among r rs → q .id ≡ r .id → q ≡ r
+one-request (s ∷ rs) d q r (inl e) (inl f) i = e ∙ sym f
+one-request (s ∷ rs) d q r (inl e) (inr b) i =
+    absurd (not-again (s .id) (idsOf rs) (d .0) (request-pending (s .id) rs r b (sym i ∙ ap (λ (x : Request). x .id) e)))
+one-request (s ∷ rs) d q r (inr a) (inl f) i =
+    absurd (not-again (s .id) (idsOf rs) (d .0) (request-pending (s .id) rs q a (i ∙ ap (λ (x : Request). x .id) f)))
+one-request (s ∷ rs) d q r (inr a) (inr b) i = one-request rs (d .1) q r a b i
 
 -- ---- a stored pair
 
