@@ -5,12 +5,12 @@ use mathlib.Core.Bool.{Bool, true, false, not, cond}
 use mathlib.Core.Logic.{_⊎_, inl, inr, ⊎-elim}
 use mathlib.Core.List.{List, [], _∷_, _++_, map}
 use Rattle.fields.specs.Facts.{All}
-use Rattle.fields.specs.Filter.{consIf, kept}
-use Rattle.fields.specs.Sort.{inserted, sorted}
+use Rattle.fields.specs.Filter.{kept}
+use Rattle.fields.specs.Sort.{inserted}
 use Rattle.fields.proofs.AllLaws.{all-kept, all-pass, all-weaker}
 use Rattle.fields.proofs.OrderLaws.{not-both}
 use Rattle.model.specs.Protocol.{Id}
-use Rattle.model.specs.Delivery.{Request, idsOf, isPending, idBefore, markRequested}
+use Rattle.model.specs.Delivery.{Request, isPending, idBefore, markRequested}
 use Rattle.model.specs.Requests.{Pair, isStored, Act, ask, send, wanted, Done, perform, performAll}
 use Rattle.model.specs.Requests
 use Rattle.model.specs.Book.{Requested}

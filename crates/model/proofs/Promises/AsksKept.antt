@@ -5,7 +5,6 @@ use mathlib.Core.Bool.{Bool, true, false, cond, _&&_, false≢true}
 use mathlib.Core.List.{List, [], _∷_, _++_, map, cons≢nil}
 use mathlib.Core.Option.{Option, none, some, Option·some-injective}
 use native.Mathlib.Omega.{arith}
-use lib.ListN.{length}
 use lib.Dec.{eqb, leb, ltb}
 use borrow.Author.Tests.{eqb-true, leb-true}
 use Rattle.fields.specs.Facts.{All}
@@ -14,7 +13,7 @@ use Rattle.fields.proofs.AllLaws.{all-append, either}
 use Rattle.model.specs.Protocol.{Id, headerType, isAnnounceable}
 use Rattle.model.specs.Settings as settings
 use Rattle.model.specs.Delivery.{Request}
-use Rattle.model.specs.State.{State, Mode, new, seeking, syncing, synced, ended, isMode, withKnownTip, withStalledPeers}
+use Rattle.model.specs.State.{State, seeking, syncing, isMode, withKnownTip, withStalledPeers}
 use Rattle.model.specs.Peers.{firstOf, isSome, selectPeer}
 use Rattle.model.specs.Requests.{Act, ask, wanted}
 use Rattle.model.specs.Sections.{View, requestSectionsFrom, requestNextSections}
@@ -32,7 +31,7 @@ use Rattle.model.specs.Promises.Asked.{AsksFor, Announceable, NextSectio
 use Rattle.model.specs.Promises.Asked.{MayAsk, announced, needed, sections, orphans, checks}
 use Rattle.model.proofs.RequestedLaws.{requested}
 use Rattle.model.proofs.Promises.SeenLaws as seen
-use Rattle.model.proofs.Promises.SeenLaws.{seenAs, Finished, Kind, kind-of}
+use Rattle.model.proofs.Promises.SeenLaws.{seenAs, Finished, Kind, step-of, kind-of}
 use Rattle.model.proofs.Promises.ModeLaws.{mode-is}
 use Rattle.model.proofs.Promises.WordLaws.{left-wanted, announceable-passes, passes-announceable}
 use Rattle.model.proofs.Promises.AskedLaws.{Says, continuation-says, say-to-says, enters-says, picks-say, ticks-say}
@@ -88,14 +87,6 @@ module _ (st : State) (call : Call) (f : Finished st call) where
 
   -- ---- announced ids and needed modifiers
 
-  needed-step : call .kind ≡ 3 → stepOf call ≡ Steps.neededModifier (call .typeid) (idsIn (call .ids))
-  unfolding stepOf
-  needed-step e = rw e
-
-  announced-step : call .kind ≡ 5 → stepOf call ≡ Steps.announced (call .peer) (call .typeid) (idsIn (call .ids))
-  unfolding stepOf
-  announced-step e = rw e
-
   pub needed-asked : call .gate ≡ 1 → call .kind ≡ 3 → AsksFor (seenAs st call) (call .typeid) (st .sync .syncPeer) (idsIn (call .ids))
   unfolding argsOf planOf continues remaining
   needed-asked open' k =
@@ -103,7 +94,7 @@ module _ (st : State) (call : Call) (f : Finished st call) where
         left = wanted (st .pending) (call .typeid) (pairsIn (call .stored)) (idsIn (call .ids));
         unknown = left-wanted (st .pending) (call .typeid) (pairsIn (call .stored)) (idsIn (call .ids));
         requested =
-            asked-by st (argsOf call) (Steps.neededModifier (call .typeid) (idsIn (call .ids))) (needed-step k) refl
+            asked-by st (argsOf call) (Steps.neededModifier (call .typeid) (idsIn (call .ids))) (step-of call (seen.neededModifier k)) refl
             ∙ asked-alone (eqb (call .gate) 1) (call .clock) (call .typeid) (st .sync .syncPeer) (pairsIn (call .stored)) (idsIn (call .ids)) (st .pending)
             (ap (λ (gate : ℕ). eqb gate 1) open');
       }
@@ -127,7 +118,7 @@ module _ (st : State) (call : Call) (f : Finished st call) where
   unfolding argsOf planOf plan stepAnswer remaining
   announced-asked open' k o known =
       let step : Step = Steps.announced (call .peer) (call .typeid) (idsIn (call .ids)) in
-      let e : stepOf call ≡ step = announced-step k in
+      let e : stepOf call ≡ step = step-of call (seen.announcedIds k) in
       record {
         left = wanted (st .pending) (call .typeid) (pairsIn (call .stored)) (idsIn (call .ids));
         unknown = left-wanted (st .pending) (call .typeid) (pairsIn (call .stored)) (idsIn (call .ids));

@@ -1,9 +1,9 @@
 -- Batches and runs, kept: requests of 1 to 400 ids, batches numbered from 0 without a gap, no list in two batches.
 use Prim.Native.Nat.{ℕ, zero, suc, _+_, _-_, _≤_, min}
 use mathlib.Core.Path.{_≡_, refl, sym, ap, _∙_, subst}
-use mathlib.Core.Bool.{Bool, true, false, cond, _&&_}
+use mathlib.Core.Bool.{Bool, true, false, cond}
 use mathlib.Core.Logic.{inl, inr}
-use mathlib.Core.List.{List, [], _∷_, _++_, map, append-assoc}
+use mathlib.Core.List.{List, [], _∷_, _++_, map}
 use mathlib.Core.Option.{Option, none, some}
 use native.Mathlib.Nat.{lt-irrefl}
 use native.Mathlib.Omega.{arith}
@@ -11,7 +11,6 @@ use lib.ListN.{length, take, drop, length-take, length-drop}
 use lib.Dec.{eqb}
 use borrow.Author.Tests.{ne-eqb}
 use Rattle.fields.specs.Facts.{All}
-use Rattle.fields.specs.Sort.{sorted}
 use Rattle.fields.proofs.AllLaws.{all-append, all-map, all-both, either}
 use Rattle.model.specs.Protocol.{Id, headerType, requestSize, isAnnounceable, windowSize}
 use Rattle.model.specs.Settings as settings
@@ -20,20 +19,18 @@ use Rattle.model.specs.State.{State, seeking, syncing, isMode, Sync, wit
 use Rattle.model.specs.Peers.{firstOf, selectPeer}
 use Rattle.model.specs.Requests.{Sending, request, announcement, syncInfo, Command, runsWithin, runs, commandsOf, commandsFrom}
 use Rattle.model.specs.Requests.{Pair, Act, ask, send, wanted, requestOf, perform, performAll}
-use Rattle.model.specs.Sections.{View, Item, itemBelow, Batch, join, adjacent, batchesOf, windowWithin, requestSectionsFrom, requestNextSections}
+use Rattle.model.specs.Sections.{View, Item, Batch, batchesOf, windowWithin, requestSectionsFrom, requestNextSections}
 use Rattle.model.specs.Check.{retrySendings, markAllRetried, askFresh}
 use Rattle.model.specs.Events.{Outcome, Continue, Synced, BehindPeer, SyncPeerGone, Stalled, EndOfStream, tipOutcome, raisedTip, continuation}
 use Rattle.model.specs.Steps
 use Rattle.model.specs.Steps.{Step, Args, isCheck, planOf, plan, remaining, retried, performed, commands}
 use Rattle.model.specs.Calls.{Call, stepOf, argsOf}
-use Rattle.model.specs.Book.{requestedIn}
 use Rattle.model.specs.Promises.Numbers
 use Rattle.model.specs.Promises.Words.{peers}
 use Rattle.model.specs.Promises.Asked.{AsksFresh}
 use Rattle.model.specs.Promises.Batches.{Alike, Follows, EachNext, StartsAt, OneBatch, Uncut, Batches}
 use Rattle.model.proofs.Widths.{WellAct}
-use Rattle.model.proofs.RequestedLaws.{requestedBySendings, requested-commands}
-use Rattle.model.proofs.StepKindLaws.{check-of-kind}
+use Rattle.model.proofs.RequestedLaws.{requested-commands}
 use Rattle.model.proofs.Promises.SeenLaws.{seenAs, Finished, is-check}
 use Rattle.model.proofs.Promises.CheckAsked.{fresh-performed}
 use Rattle.model.proofs.Promises.ListLaws.{all-of, all-mapped, Pairwise, pairwise-append, pairwise-map, pairwise-next}

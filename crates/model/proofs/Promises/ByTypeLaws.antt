@@ -6,28 +6,24 @@ use mathlib.Core.Logic.{_⊎_, inl, inr, ⊎-elim}
 use mathlib.Core.List.{List, [], _∷_, _++_, map, append-nil}
 use native.Mathlib.Nat.{lt-irrefl}
 use native.Mathlib.Omega.{arith}
-use lib.Dec.{eqb, ltb}
-use borrow.Author.Tests.{eqb-true, eqb-false, eq-eqb, ne-eqb, ltb-true, ltb-false, le-ltb}
+use lib.Dec.{eqb}
+use borrow.Author.Tests.{eqb-true, eqb-false, eq-eqb, ne-eqb}
 use Rattle.fields.specs.Facts.{All}
 use Rattle.fields.specs.Order.{same}
 use Rattle.fields.specs.Filter.{consIf, kept}
 use Rattle.fields.specs.Sort.{inserted, sorted}
 use Rattle.fields.proofs.AllLaws.{all-append, all-weaker}
 use Rattle.fields.proofs.OrderLaws.{trichotomy, or-left, or-right, same-eq, same-refl}
-use Rattle.fields.proofs.SortLaws.{all-inserted, all-sorted}
+use Rattle.fields.proofs.SortLaws.{all-sorted}
 use Rattle.model.specs.Protocol.{Id, isAmong}
 use Rattle.model.specs.Delivery.{Request, idsOf, isPending, idBefore, markRequested}
-use Rattle.model.specs.State.{State}
-use Rattle.model.specs.Requests
-use Rattle.model.specs.Requests.{Pair, Act, ask, send, Done, wanted, perform, performAll}
+use Rattle.model.specs.Requests.{Pair, Act, ask, Done, wanted, perform, performAll}
 use Rattle.model.specs.Sections.{Item, itemBelow, Batch, join, adjacent, batchesOf}
-use Rattle.model.specs.Check.{retrySendings}
-use Rattle.model.specs.Steps.{Args, isCheck, plan, remaining, retried, performed, commands}
-use Rattle.model.specs.Book.{Requested, requestedIn}
+use Rattle.model.specs.Book.{Requested}
 use Rattle.model.specs.Promises.Words.{Among, LeftOf}
 use Rattle.model.specs.Promises.Asked.{under, PendingId, TypesRise}
 use Rattle.model.proofs.IdLaws.{among-inserted}
-use Rattle.model.proofs.RequestedLaws.{requested, requestedBySendings, requested-append, requested-commands}
+use Rattle.model.proofs.RequestedLaws.{requested, requested-append}
 use Rattle.model.proofs.EnteringLaws.{requested-list}
 use Rattle.model.proofs.Promises.ListLaws.{among-back, among-either, all-mapped, kept-sorted, Pairwise}
 use Rattle.model.proofs.Promises.ItemLaws.{together, alone, isOf, of-alike, OfPeer, LowerType, batches-types}

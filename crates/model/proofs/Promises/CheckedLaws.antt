@@ -1,13 +1,12 @@
 -- What a check leaves of the pending requests, request by request: its retries mark each restarted request with its own target.
 use Prim.Native.Nat.{ℕ}
-use mathlib.Core.Path.{_≡_, refl, sym, ap, _∙_}
-use mathlib.Core.Bool.{Bool, true, false, _||_, false≢true}
+use mathlib.Core.Path.{_≡_, refl, ap, _∙_}
+use mathlib.Core.Bool.{Bool, false}
 use mathlib.Core.List.{List, [], _∷_, map, map-map}
 use lib.Dec.{eqb}
-use Rattle.fields.specs.Facts.{All}
-use Rattle.fields.specs.Order.{before, same}
+use Rattle.fields.specs.Order.{same}
 use Rattle.fields.specs.Filter.{consIf}
-use Rattle.fields.proofs.OrderLaws.{neither, same-eq, same-refl, same-sym, before-irreflexive}
+use Rattle.fields.proofs.OrderLaws.{neither, same-refl, same-sym}
 use Rattle.model.specs.Protocol.{Id, isAmong}
 use Rattle.model.specs.Settings.{Settings}
 use Rattle.model.specs.Delivery

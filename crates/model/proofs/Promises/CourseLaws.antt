@@ -2,7 +2,7 @@
 use Prim.Native.Nat.{ℕ, _+_, _-_, _≤_, min}
 use mathlib.Core.Path.{_≡_, refl, sym, ap, _∙_, subst}
 use mathlib.Core.Bool.{Bool, true, false, not, cond, _&&_, _||_, false≢true}
-use mathlib.Core.Logic.{_⊎_, inl, inr, ⊎-elim}
+use mathlib.Core.Logic.{_⊎_, inl, inr}
 use mathlib.Core.List.{List, [], _∷_, _++_, map, append-nil, cons≢nil}
 use mathlib.Core.Option.{Option, none, some}
 use native.Mathlib.Omega.{arith}
@@ -15,7 +15,7 @@ use Rattle.model.specs.Protocol.{Id, headerType, isAnnounceable, windowS
 use Rattle.model.specs.Settings as settings
 use Rattle.model.specs.Settings.{throttled}
 use Rattle.model.specs.Delivery.{Request, orphansOf}
-use Rattle.model.specs.State.{Mode, new, seeking, syncing, synced, ended, isMode, hasSyncPeer, SendClock, Sync, State}
+use Rattle.model.specs.State.{Mode, seeking, syncing, synced, ended, isMode, hasSyncPeer, SendClock, Sync, State}
 use Rattle.model.specs.State.{withDownloaded, withKnownTip, withEvicted}
 use Rattle.model.specs.Peers.{firstOf, orElse, firstUnstalled, selectPeer, resetSends, isSome}
 use Rattle.model.specs.Requests.{Sending, announcement, Command, Act, ask, send, syncInfoTo}

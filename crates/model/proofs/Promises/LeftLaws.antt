@@ -1,9 +1,9 @@
 -- What a step leaves of the pending requests before it asks for any: each is taken out, or stays and becomes what is promised.
 use Prim.Native.Nat.{ℕ, _≤_}
 use mathlib.Core.Path.{_≡_, refl, sym, ap, _∙_, subst}
-use mathlib.Core.Bool.{Bool, true, false, not, _||_}
+use mathlib.Core.Bool.{Bool, true, false, _||_}
 use mathlib.Core.Logic.{_⊎_, inl, inr, ⊎-elim}
-use mathlib.Core.List.{List, [], _∷_}
+use mathlib.Core.List.{List, [], _∷_, map}
 use native.Mathlib.Omega.{arith}
 use lib.Dec.{eqb}
 use borrow.Author.Tests.{eqb-false}
@@ -11,15 +11,19 @@ use Rattle.fields.specs.Facts.{All}
 use Rattle.fields.specs.Filter.{consIf, kept}
 use Rattle.fields.proofs.OrderLaws.{not-both}
 use Rattle.model.specs.Delivery
-use Rattle.model.specs.Delivery.{Request, Verdict, verdict, restarted}
-use Rattle.model.specs.State.{syncing}
+use Rattle.model.specs.Delivery.{Request, Verdict, verdict, restarted, checkTimeouts, judged}
+use Rattle.model.specs.State.{State, syncing}
+use Rattle.model.specs.Check.{retryTarget, retryOf, markAllRetried}
+use Rattle.model.specs.Lists.{peersIn}
+use Rattle.model.specs.Calls.{Call}
 use Rattle.model.specs.Promises.Numbers
 use Rattle.model.specs.Promises.Words.{Seen, ids, Among}
 use Rattle.model.specs.Promises.Pending as pending
 use Rattle.model.specs.Promises.Pending.{Retried, TakenOut, Becomes, restartedAt}
 use Rattle.model.proofs.Promises.TellsLaws.{Tells}
-use Rattle.model.proofs.Promises.VerdictLaws.{Made, made, waiting-stays, retried-stays}
-use Rattle.model.proofs.Promises.CheckedLaws.{leaves, checked}
+use Rattle.model.proofs.Promises.VerdictLaws.{goes-to, Made, made, waiting-stays, retried-stays, stamps-past}
+use Rattle.model.proofs.Promises.SeenLaws.{seenAs, Finished}
+use Rattle.model.proofs.Promises.CheckedLaws.{leaves, checked, checked-still, checked-again}
 
 module _ (s : Seen) where
   pub data Left : List Request → List Request → Type 0 where
@@ -82,6 +86,28 @@ module _ (s : Seen) where
         go Delivery.retried m l = on r (restartedAt s r (target (r .peer))) rs (still rs) (retried-stays s r check m) (moves r m) l
         go Delivery.abandoned m l = out r rs (still rs) (pending.abandoned m) l
         go Delivery.forgotten m l = out r rs (still rs) (pending.forgotten m) l
+
+module _ (st : State) (call : Call) (f : Finished st call) (check : call .kind ≡ Numbers.check) where
+  abbrev listed : List ℕ
+  listed = peersIn (call .peers)
+
+  abbrev due : List Request
+  due = judged (st .settings) (call .clock) Delivery.retried (st .pending)
+
+  abbrev timed : List Request
+  timed = checkTimeouts (st .settings) (call .clock) (st .pending)
+
+  -- gate open, with retries; gate shut, without
+  pub left-again : call .gate ≡ 1 → Left (seenAs st call) (st .pending) (markAllRetried (map (retryOf listed) due) timed)
+  left-again opened =
+      subst (Left (seenAs st call) (st .pending)) (sym (checked-again (st .settings) (call .clock) listed (st .pending) (f .well .rising)))
+      (left-checked (seenAs st call) check (retryTarget listed)
+      (λ r m. pending.movedOn (retryTarget listed (r .peer)) m opened (goes-to listed (r .peer))) (st .pending) (stamps-past st call f))
+
+  pub left-still : call .gate ≡ 0 → Left (seenAs st call) (st .pending) timed
+  left-still shut =
+      subst (Left (seenAs st call) (st .pending)) (sym (checked-still (st .settings) (call .clock) (st .pending)))
+      (left-checked (seenAs st call) check (λ peer. peer) (λ r m. pending.heldBack m shut) (st .pending) (stamps-past st call f))
 
 -- ---- what each kind takes out
 

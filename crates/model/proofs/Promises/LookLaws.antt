@@ -13,7 +13,7 @@ use Rattle.fields.proofs.OrderLaws.{and-left, and-right, trichotomy}
 use Rattle.fields.proofs.AllLaws.{either}
 use Rattle.model.specs.Protocol.{Id, headerType, isAnnounceable}
 use Rattle.model.specs.Settings as settings
-use Rattle.model.specs.State.{Mode, new, seeking, syncing, synced, ended, isMode, hasSyncPeer, State}
+use Rattle.model.specs.State.{Mode, seeking, syncing, synced, ended, isMode, hasSyncPeer, State}
 use Rattle.model.specs.Peers.{firstOf, selectPeer}
 use Rattle.model.specs.Requests.{Act, ask}
 use Rattle.model.specs.Sections.{Advance, Sections, advanceDownloadedHeight, requestNextSections}

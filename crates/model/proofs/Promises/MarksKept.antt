@@ -3,9 +3,8 @@ use Prim.Native.Nat.{ℕ, _≤_}
 use mathlib.Core.Path.{_≡_, refl, sym, ap, _∙_, subst}
 use mathlib.Core.Bool.{Bool, true, false, not, cond, false≢true}
 use mathlib.Core.Logic.{_⊎_, _↔_, inl, inr, ⊎-elim}
-use mathlib.Core.List.{List, [], _∷_, _++_, append-nil}
+use mathlib.Core.List.{List, [], _∷_, _++_}
 use mathlib.Core.Option.{Option, none, some, Option·some-injective}
-use native.Mathlib.Nat.{le-trans}
 use borrow.Author.Tests.{eqb-false}
 use Rattle.fields.specs.Facts.{All}
 use Rattle.fields.specs.Filter.{consIf, kept}
@@ -24,7 +23,7 @@ use Rattle.model.specs.Promises.Marks.{Chosen, Picked, Enters, Progresse
 use Rattle.model.specs.Promises.SyncInfos.{SpeaksTo, onPick, whenBehind, Due, SyncInfos}
 use Rattle.model.proofs.Promises.SeenLaws as kinds
 use Rattle.model.proofs.Promises.SeenLaws.{Finished, seenAs, step-of, mode-of}
-use Rattle.model.proofs.Promises.ListLaws.{among-back, all-among}
+use Rattle.model.proofs.Promises.ListLaws.{among-back}
 use Rattle.model.proofs.Promises.ModeLaws.{mode-is-not, is-not-mode, no-peer, peerless}
 use Rattle.model.proofs.Promises.WordLaws.{listed-passes, passes-listed, fails-listed, listed-first}
 use Rattle.model.proofs.Promises.CourseLaws.{apart, seenBy, seen-by, isQuiet, Course, told}

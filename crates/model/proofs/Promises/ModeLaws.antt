@@ -4,7 +4,7 @@ use mathlib.Core.Bool.{Bool, true, false, _||_}
 use mathlib.Core.Logic.{_⊎_, ⊎-elim}
 use borrow.Author.Tests.{eqb-true, eq-eqb, ne-eqb}
 use Rattle.fields.proofs.OrderLaws.{not-both}
-use Rattle.model.specs.State.{Mode, new, seeking, syncing, synced, ended, modeNumber, isMode, hasSyncPeer}
+use Rattle.model.specs.State.{Mode, syncing, synced, modeNumber, isMode, hasSyncPeer}
 use Rattle.model.specs.Image.{modeOf}
 use Rattle.model.proofs.HeaderLaws.{mode-of-number}
 

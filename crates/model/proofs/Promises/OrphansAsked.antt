@@ -1,17 +1,16 @@
 -- A lost sync peer's ids: each that is no transaction and not stored is asked of the first listed peer, by type.
 use Prim.Native.Nat.{ℕ, _<_}
 use mathlib.Core.Path.{_≡_, refl, sym, ap, _∙_, subst}
-use mathlib.Core.Bool.{Bool, true, false, not, cond, _&&_}
-use mathlib.Core.Logic.{_⊎_, inl, inr, ⊎-elim}
-use mathlib.Core.List.{List, [], _∷_, map, map-map}
+use mathlib.Core.Bool.{Bool, true, not, _&&_}
+use mathlib.Core.Logic.{_⊎_, inl, inr}
+use mathlib.Core.List.{List, map, map-map}
 use native.Mathlib.Nat.{lt-irrefl}
 use native.Mathlib.Omega.{arith}
 use lib.Dec.{eqb}
 use borrow.Author.Tests.{eqb-true, eqb-false, eq-eqb, ne-eqb, not-true, not-false}
 use Rattle.fields.specs.Facts.{All}
-use Rattle.fields.specs.Order.{before}
-use Rattle.fields.specs.Filter.{consIf, kept}
-use Rattle.fields.proofs.OrderLaws.{and-left, and-right, not-both, before-irreflexive}
+use Rattle.fields.specs.Filter.{kept}
+use Rattle.fields.proofs.OrderLaws.{and-left, and-right}
 use Rattle.fields.proofs.MarkLaws.{kept-kept, kept-map}
 use Rattle.model.specs.Protocol.{Id, isTransaction}
 use Rattle.model.specs.Delivery.{Request, idsOf, orphansOf, purgePeer}
@@ -20,8 +19,8 @@ use Rattle.model.specs.Requests.{Pair, isStored, Act}
 use Rattle.model.specs.Sections.{Item, batchesOf}
 use Rattle.model.specs.Lists.{peersIn, pairsIn}
 use Rattle.model.specs.Steps
-use Rattle.model.specs.Steps.{Step, isCheck, commands, plan, planOf, remaining, loses, leaves, askOrphans}
-use Rattle.model.specs.Calls.{Call, stepOf, argsOf}
+use Rattle.model.specs.Steps.{Step, commands, plan, planOf, remaining, loses, leaves, askOrphans}
+use Rattle.model.specs.Calls.{Call, argsOf}
 use Rattle.model.specs.Book.{Requested, requestedIn}
 use Rattle.model.specs.Promises.Numbers as numbers
 use Rattle.model.specs.Promises.Words.{Among, First, LeftOf}

@@ -11,14 +11,13 @@ use borrow.Author.Tests.{eqb-true, leb-true, ltb-true, eq-eqb, le-leb, lt-leb, l
 use Rattle.fields.proofs.OrderLaws.{and-left}
 use Rattle.model.specs.Protocol.{Id, headerType}
 use Rattle.model.specs.Settings as settings
-use Rattle.model.specs.State.{Mode, new, seeking, syncing, synced, ended, modeNumber, isMode, hasSyncPeer, State}
+use Rattle.model.specs.State.{Mode, new, seeking, syncing, synced, ended, isMode, hasSyncPeer, State}
 use Rattle.model.specs.Peers.{firstOf, orElse, firstUnstalled, selectPeer}
 use Rattle.model.specs.Requests.{Act}
 use Rattle.model.specs.Lists.{idsIn, peersIn}
 use Rattle.model.specs.Events.{Outcome, Continue, Synced, BehindPeer, SyncPeerGone, Stalled, EndOfStream, outcomeNumber, tipOutcome, raisedTip, continuation}
 use Rattle.model.specs.Steps
 use Rattle.model.specs.Steps.{Step, Args, Plan, ofMode, planOf, plan, after}
-use Rattle.model.specs.Image.{modeOf}
 use Rattle.model.specs.Calls.{Call, argsOf, stepAnswer}
 use Rattle.model.specs.Promises.Numbers as numbers
 use Rattle.model.specs.Promises.Words.{Seen}

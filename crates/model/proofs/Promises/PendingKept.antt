@@ -1,7 +1,7 @@
 -- Pending and evicted requests: the promises of specs/Promises/Pending are kept.
 use Prim.Native.Nat.{ℕ, _≤_}
 use mathlib.Core.Path.{_≡_, refl, sym, ap, _∙_, subst}
-use mathlib.Core.Bool.{Bool, true, false, not, cond, _&&_, false≢true}
+use mathlib.Core.Bool.{Bool, true, false, not, cond, _&&_}
 use mathlib.Core.Logic.{_⊎_, inl, inr, ⊎-elim}
 use mathlib.Core.List.{List, [], _∷_, _++_, map}
 use mathlib.Core.Option.{Option, none, some}
@@ -19,16 +19,16 @@ use Rattle.model.proofs.Well.{RisingIds}
 use Rattle.model.specs.Protocol.{Id, headerType, isAmong}
 use Rattle.model.specs.Settings as settings
 use Rattle.model.specs.Delivery
-use Rattle.model.specs.Delivery.{idsOf, Request, Verdict, verdict, verdictNumber, checkTimeouts, judged}
+use Rattle.model.specs.Delivery.{idsOf, Request, verdict, verdictNumber, checkTimeouts, judged}
 use Rattle.model.specs.Delivery.{markReceived, pendingAfterEviction, evictedAfterEviction, purgePeer, purgeAll}
-use Rattle.model.specs.State.{State, Mode, syncing, seeking, isMode}
+use Rattle.model.specs.State.{State, syncing, seeking, isMode}
 use Rattle.model.specs.Peers.{firstOf, selectPeer}
 use Rattle.model.specs.Requests.{Act}
 use Rattle.model.specs.Events.{Outcome, Continue, Synced, BehindPeer, SyncPeerGone, Stalled, EndOfStream}
 use Rattle.model.specs.Steps.{Step, Args, isCheck, Plan, planOf, plan, remaining, retried, performed, after, commands}
 use Rattle.model.specs.Steps.{unmarked, withoutPeer, continues, leaves, advances, advancesAndRequests, entersSyncing, picks, isAtTip, answers}
 use Rattle.model.specs.Steps.{hearsSyncInfo, hearsAnnounced, askOrphans, loses, ticksSyncing, ticksSynced, progresses, checks, evicts}
-use Rattle.model.specs.Check.{retryTarget, retryOf, retries, markAllRetried, retrySendings}
+use Rattle.model.specs.Check.{retryOf, retries, markAllRetried}
 use Rattle.model.specs.Sections.{Item, itemBelow}
 use Rattle.model.specs.Book.{Requested, requestedIn}
 use Rattle.model.specs.Lists.{idsIn, peersIn}
@@ -37,20 +37,17 @@ use Rattle.model.specs.Promises.Numbers
 use Rattle.model.specs.Promises.Words.{Seen, Among}
 use Rattle.model.specs.Promises.Pending as pending
 use Rattle.model.specs.Promises.Pending.{Retried, TakenOut, Becomes, asRequested, Entered, Stayed, IdsRise, Pending, Evicted}
-use Rattle.model.proofs.Widths.{WellAct}
-use Rattle.model.proofs.PlanLaws.{plan-well}
-use Rattle.model.proofs.RequestedLaws.{requestedItem, requestedBySendings, requested-append, requested-commands, requested-retries}
+use Rattle.model.proofs.RequestedLaws.{requestedItem, requestedBySendings}
 use Rattle.model.proofs.Promises.SeenLaws as kinds
 use Rattle.model.proofs.Promises.SeenLaws.{seenAs, Finished, Kind, kind-of, numbers-fit, is-check}
 use Rattle.model.proofs.Promises.ListLaws.{among-back, among-either, among-kept, all-among, among-map, among-sorted}
 use Rattle.model.proofs.Promises.ModeLaws.{mode-is, mode-is-not}
 use Rattle.model.proofs.Promises.TellsLaws.{tells-as, is-tells}
 use Rattle.model.proofs.Promises.WordLaws.{among-tells}
-use Rattle.model.proofs.Promises.VerdictLaws.{verdict-is, goes-to, goes-to-only, made-verdict, retried-stays, stamps-past}
-use Rattle.model.proofs.Promises.CheckedLaws.{checked-still, checked-again}
+use Rattle.model.proofs.Promises.VerdictLaws.{verdict-is, goes-to-only, made-verdict, retried-stays, stamps-past}
 use Rattle.model.proofs.Promises.AskingLaws.{New, Grows, acts-grow}
-use Rattle.model.proofs.Promises.AskedLaws.{acts-well}
-use Rattle.model.proofs.Promises.LeftLaws.{Left, left-of, came-from, becomes-id, left-all, left-tested, left-none, left-checked}
+use Rattle.model.proofs.Promises.AskedLaws.{asked-parts, acts-well}
+use Rattle.model.proofs.Promises.LeftLaws.{Left, left-of, came-from, becomes-id, left-all, left-tested, left-none, left-again, left-still}
 use Rattle.model.proofs.Promises.LeftLaws.{takesOut, untaken, taken-listed, taken-lost}
 
 -- ---- the evicted list
@@ -212,15 +209,8 @@ module _ (st : State) (call : Call) (f : Finished st call) where
   left-check k = go (eqb (call .gate) 1) refl
     where
       go : (t : Bool) → eqb (call .gate) 1 ≡ t → Left s (st .pending) (markAllRetried (retryIf t) (checkTimeouts (st .settings) (call .clock) (st .pending)))
-      go true e =
-          let opened : call .gate ≡ 1 = eqb-true (call .gate) 1 e in
-          subst (Left s (st .pending)) (sym (checked-again (st .settings) (call .clock) listed (st .pending) (f .well .rising)))
-          (left-checked s k (retryTarget listed) (λ r m. pending.movedOn (retryTarget listed (r .peer)) m opened (goes-to listed (r .peer)))
-          (st .pending) (stamps-past st call f))
-      go false e =
-          let shut : call .gate ≡ 0 = flag-down (call .gate) (numbers-fit st call f .gate) (eqb-false (call .gate) 1 e) in
-          subst (Left s (st .pending)) (sym (checked-still (st .settings) (call .clock) (st .pending)))
-          (left-checked s k (λ peer. peer) (λ r m. pending.heldBack m shut) (st .pending) (stamps-past st call f))
+      go true e = left-again st call f k (eqb-true (call .gate) 1 e)
+      go false e = left-still st call f k (flag-down (call .gate) (numbers-fit st call f .gate) (eqb-false (call .gate) 1 e))
 
   left-by : (step : Step) → Kind call step → Left s (st .pending) (middle step)
   unfolding remaining argsOf purgeAll markReceived pendingAfterEviction
@@ -252,13 +242,6 @@ module _ (st : State) (call : Call) (f : Finished st call) where
   abbrev askedLater : List Requested
   askedLater = requestedBySendings (performed st (argsOf call) .sendings)
 
-  asked-in : requestedIn (commands st (argsOf call)) ≡ askedFirst ++ askedLater
-  unfolding commands
-  asked-in =
-      requested-commands 0 (retrySendings (retried st (argsOf call)) ++ performed st (argsOf call) .sendings)
-      ∙ requested-append (retrySendings (retried st (argsOf call))) (performed st (argsOf call) .sendings)
-      ∙ ap (λ (l : List Requested). l ++ askedLater) (requested-retries (retried st (argsOf call)))
-
   grows : Grows (call .clock) (middle (stepOf call)) askedLater now
   unfolding after performed argsOf retried
   grows = acts-grow (call .clock) (eqb (call .gate) 1) (plan st (argsOf call) .acts) (middle (stepOf call)) (acts-well st call f)
@@ -277,7 +260,7 @@ module _ (st : State) (call : Call) (f : Finished st call) where
       entered : New (call .clock) (middle (stepOf call)) askedLater r → Entered s r
       entered n =
           record {
-            requested = subst (Among (asRequested r)) (sym asked-in) (among-back (asRequested r) askedFirst askedLater (n .requested));
+            requested = subst (Among (asRequested r)) (sym (asked-parts st (argsOf call))) (among-back (asRequested r) askedFirst askedLater (n .requested));
             stamp = n .stamp;
             checks = n .checks;
             notBefore = λ old b e. ⊎-elim (λ t. t) (λ p. absurd (n .notBefore (p .0) (p .2) (becomes-id s (p .1) ∙ e))) (left-of s left old b);
@@ -323,7 +306,7 @@ module _ (st : State) (call : Call) (f : Finished st call) where
       go false e b = absurd b
 
   pub pending-asked : (q : Requested) → Among q (requestedIn (commands st (argsOf call))) → (r : Request) × Among r now × (asRequested r ≡ q)
-  pending-asked q a = ⊎-elim first (grows .there q) (among-either q askedFirst askedLater (subst (Among q) asked-in a))
+  pending-asked q a = ⊎-elim first (grows .there q) (among-either q askedFirst askedLater (subst (Among q) (asked-parts st (argsOf call)) a))
     where
       first : Among q askedFirst → (r : Request) × Among r now × (asRequested r ≡ q)
       first b =

@@ -6,13 +6,11 @@ use mathlib.Core.Logic.{inl, inr}
 use mathlib.Core.List.{List, [], _∷_}
 use native.Mathlib.Omega.{arith}
 use lib.ListN.{length}
-use lib.Dec.{eqb}
-use borrow.Author.Tests.{eqb-true}
 use Rattle.model.specs.Layout.{areaSize}
 use Rattle.model.specs.Protocol.{trackedLimit, stalledLimit}
 use Rattle.model.specs.Steps.{plan, after}
 use Rattle.model.specs.Image.{wellFormed}
-use Rattle.model.specs.Calls.{Call, unless, argsOf, callFits, resultRefusal, callRefusal, stepRefusal, step, stepAnswer}
+use Rattle.model.specs.Calls.{Call, unless, argsOf, callFits, resultRefusal, callRefusal, stepRefusal, step}
 use Rattle.model.specs.Promises.Words.{Seen, seen}
 use Rattle.model.specs.Promises.Refusals
 use Rattle.model.specs.Promises.Refusals.{Unseen, FirstWrong, wrongs, allWrongs}

@@ -21,10 +21,8 @@ use Rattle.model.specs.Promises.Words.{Seen, seen}
 use Rattle.model.specs.Promises.Marks.{SaysSyncInfo}
 use Rattle.model.specs.Promises.Runs.{history, Spaced, ToldInAll, AnyRun}
 use Rattle.model.proofs.Well.{Well}
-use Rattle.model.proofs.FinishedLaws.{PassedAreas, passed, passed-areas}
 use Rattle.model.proofs.RoundLaws.{decode-encode}
-use Rattle.model.proofs.StepLaws.{opened-well, args-well, step-well}
-use Rattle.model.proofs.EntryLaws.{step-finished, step-commands-read}
+use Rattle.model.proofs.StepLaws.{opened-well}
 use Rattle.model.proofs.AgreementLaws.{Agreement}
 use Rattle.model.proofs.Demand3.{InService, called-refused, fresh-in-service, called-in-service}
 use Rattle.model.proofs.Promises.SeenLaws.{Finished, seenAs, number-told, finished, state-after, seen-finished, numbers-fit}

@@ -6,21 +6,19 @@ use mathlib.Core.Logic.{_⊎_, inl, inr, ⊎-elim}
 use mathlib.Core.List.{List, [], _∷_, _++_, append-nil}
 use mathlib.Core.Option.{Option, none, some}
 use native.Mathlib.Omega.{arith}
-use lib.Dec.{eqb, leb, ltb}
+use lib.Dec.{eqb, leb}
 use borrow.Author.Tests.{eq-eqb, le-leb, leb-true, leb-false}
 use Rattle.fields.specs.Facts.{All}
 use Rattle.fields.specs.Filter.{consIf}
 use Rattle.fields.proofs.AllLaws.{all-append, either}
 use Rattle.fields.proofs.OrderLaws.{and-right}
 use Rattle.model.specs.Protocol.{Id, headerType, windowSize}
-use Rattle.model.specs.Settings.{throttled}
 use Rattle.model.specs.Delivery.{Request, purgeAll}
 use Rattle.model.specs.State.{Mode, syncing, isMode, State}
-use Rattle.model.specs.Requests
-use Rattle.model.specs.Requests.{Act, send, syncInfoTo}
+use Rattle.model.specs.Requests.{Act}
 use Rattle.model.specs.Sections.{Section, Header, absent, present, View, Item, batchesOf, Window, missing, widen, windowWithin}
 use Rattle.model.specs.Sections.{Sections, requestSectionsFrom, requestNextSections}
-use Rattle.model.specs.Events.{announce, notAbove, continuation, tipOutcome, raisedTip}
+use Rattle.model.specs.Events.{continuation, tipOutcome, raisedTip}
 use Rattle.model.specs.Lists.{idsIn, peersIn, viewOf}
 use Rattle.model.specs.Steps
 use Rattle.model.specs.Steps.{Step, Args, Plan, isCheck, planOf, plan, remaining, after, commands, unmarked, advanceFrom}

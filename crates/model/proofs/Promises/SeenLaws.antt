@@ -6,7 +6,6 @@ use mathlib.Core.List.{List}
 use mathlib.Core.Option.{none, some}
 use lib.Dec.{eqb, leb}
 use borrow.Author.Tests.{leb-true, eqb-true}
-use Rattle.fields.specs.Facts.{Bytes}
 use Rattle.fields.proofs.OrderLaws.{and-left, and-right}
 use Rattle.model.specs.State.{State}
 use Rattle.model.specs.Steps

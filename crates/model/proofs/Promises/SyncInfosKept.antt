@@ -11,7 +11,7 @@ use borrow.Author.Tests.{eqb-false, leb-true, leb-false, ltb-true, ltb-false}
 use Rattle.fields.specs.Facts.{All}
 use Rattle.fields.proofs.AllLaws.{all-append, all-weaker}
 use Rattle.model.specs.Settings.{Settings, throttled}
-use Rattle.model.specs.State.{Mode, seeking, syncing, synced, modeNumber, SendClock, State}
+use Rattle.model.specs.State.{Mode, seeking, syncing, synced, SendClock, State}
 use Rattle.model.specs.Peers.{sendSyncInfo, resetSends}
 use Rattle.model.specs.Requests.{Sending, announcement, syncInfo, Command, commandsFrom}
 use Rattle.model.specs.Steps

@@ -2,14 +2,14 @@
 use Prim.Native.Nat.{ℕ, suc, _+_, _-_, _≤_}
 use mathlib.Core.Path.{_≡_, refl, sym, ap, _∙_, subst}
 use mathlib.Core.Bool.{Bool, true, false, not, cond}
-use mathlib.Core.Logic.{inl, inr}
+use mathlib.Core.Logic.{inl}
 use mathlib.Core.List.{List, [], _∷_}
 use native.Mathlib.Omega.{arith}
 use lib.Dec.{eqb, leb}
 use lib.ListN.{length, length-append}
-use borrow.Author.Tests.{leb-true, leb-false, le-leb, eqb-true, eqb-false, eq-eqb, ne-eqb}
+use borrow.Author.Tests.{le-leb, eqb-true, eqb-false, eq-eqb, ne-eqb}
 use Rattle.fields.specs.Facts.{All}
-use Rattle.fields.specs.Filter.{consIf, kept}
+use Rattle.fields.specs.Filter.{consIf}
 use Rattle.fields.proofs.AllLaws.{all-weaker}
 use Rattle.model.specs.Protocol.{isTransaction, trackedLimit, stalledLimit}
 use Rattle.model.specs.Settings.{Settings, expired, patience, givenUp}

@@ -7,7 +7,7 @@ use mathlib.Core.List.{List, [], _∷_}
 use mathlib.Core.Option.{some, Option·some-injective}
 use lib.ListN.{length}
 use lib.Dec.{eqb}
-use borrow.Author.Tests.{eqb-true, eq-eqb, not-true, not-false}
+use borrow.Author.Tests.{eqb-true, eq-eqb}
 use Rattle.fields.specs.Order.{same, before}
 use Rattle.fields.specs.Facts.{All}
 use Rattle.fields.specs.Filter.{consIf, kept}
