@@ -1,20 +1,19 @@
 -- Who is asked for what, kept: nothing behind a shut gate, nothing by steps that may not ask, announced ids and needed modifiers.
-use Prim.Native.Nat.{ℕ, _+_, _≤_, min}
-use mathlib.Core.Path.{_≡_, refl, sym, ap, _∙_}
-use mathlib.Core.Bool.{Bool, true, false, cond, _&&_, false≢true}
+use Prim.Native.Nat.{ℕ, min}
+use mathlib.Core.Path.{_≡_, refl, sym, ap, _∙_, subst}
+use mathlib.Core.Bool.{Bool, true, false, cond}
 use mathlib.Core.List.{List, [], _∷_, _++_, map, cons≢nil}
-use mathlib.Core.Option.{Option, none, some, Option·some-injective}
+use mathlib.Core.Option.{Option, none, some}
 use native.Mathlib.Omega.{arith}
-use lib.Dec.{eqb, leb, ltb}
-use borrow.Author.Tests.{eqb-true, leb-true}
+use lib.Dec.{eqb}
+use borrow.Author.Tests.{eqb-true}
 use Rattle.fields.specs.Facts.{All}
-use Rattle.fields.proofs.OrderLaws.{and-left, and-right}
 use Rattle.fields.proofs.AllLaws.{all-append, either}
 use Rattle.model.specs.Protocol.{Id, headerType, isAnnounceable}
 use Rattle.model.specs.Settings as settings
 use Rattle.model.specs.Delivery.{Request}
 use Rattle.model.specs.State.{State, seeking, syncing, isMode, withKnownTip, withStalledPeers}
-use Rattle.model.specs.Peers.{firstOf, isSome, selectPeer}
+use Rattle.model.specs.Peers.{firstOf, selectPeer}
 use Rattle.model.specs.Requests.{Act, ask, wanted}
 use Rattle.model.specs.Sections.{View, requestSectionsFrom, requestNextSections}
 use Rattle.model.specs.Events.{Outcome, Continue, Synced, BehindPeer, SyncPeerGone, Stalled, EndOfStream, outcomeNumber}
@@ -26,12 +25,13 @@ use Rattle.model.specs.Steps.{planOf, plan, remaining, commands}
 use Rattle.model.specs.Lists.{idsIn, peersIn, pairsIn, viewOf}
 use Rattle.model.specs.Calls.{Call, stepOf, argsOf, stepAnswer}
 use Rattle.model.specs.Book.{requestedIn}
-use Rattle.model.specs.Promises.Outcomes.{NothingAhead, noHeaders, tipReached}
+use Rattle.model.specs.Promises.Outcomes.{NothingAhead, noHeaders}
 use Rattle.model.specs.Promises.Asked.{AsksFor, Announceable, NextSections, inReorg, onProgress, atSectionTick, onEntry, Orphans}
 use Rattle.model.specs.Promises.Asked.{MayAsk, announced, needed, sections, orphans, checks}
 use Rattle.model.proofs.RequestedLaws.{requested}
 use Rattle.model.proofs.Promises.SeenLaws as seen
-use Rattle.model.proofs.Promises.SeenLaws.{seenAs, Finished, Kind, step-of, kind-of}
+use Rattle.model.proofs.Promises.SeenLaws.{seenAs, Finished, Kind, heardTip, step-of, kind-of}
+use Rattle.model.proofs.Promises.OutcomesKept.{Why, why-info}
 use Rattle.model.proofs.Promises.ModeLaws.{mode-is}
 use Rattle.model.proofs.Promises.WordLaws.{left-wanted, announceable-passes, passes-announceable}
 use Rattle.model.proofs.Promises.AskedLaws.{Says, continuation-says, say-to-says, enters-says, picks-say, ticks-say}
@@ -45,35 +45,6 @@ unlisted-sections : (view : View) (chainHeight height : ℕ) (peers : List ℕ) 
 unfolding requestNextSections requestSectionsFrom
 unlisted-sections view chainHeight height [] h = tt
 unlisted-sections view chainHeight height (p ∷ ps) h = absurd (h cons≢nil)
-
--- Synced is said at a tip that is not above ours.
-record AtTip (fromSyncPeer : Bool) (ours : ℕ) (known : Option ℕ) : Type 0 where
-  tip : ℕ
-  names : known ≡ some tip
-  ofSyncPeer : fromSyncPeer ≡ true
-  reached : tip ≤ ours
-
-at-tip : (fromSyncPeer : Bool) (ours : ℕ) (known : Option ℕ) → tipOutcome fromSyncPeer ours known ≡ Synced → AtTip fromSyncPeer ours known
-unfolding tipOutcome
-at-tip fromSyncPeer ours none e = let n : outcomeNumber Continue ≡ outcomeNumber Synced = ap outcomeNumber e in absurd (omega arith)
-at-tip fromSyncPeer ours (some tip) e = go (fromSyncPeer && leb tip ours) (ltb (ours + 1) tip) refl e
-  where
-    go : (s b : Bool) → fromSyncPeer && leb tip ours ≡ s → cond s Synced (cond b BehindPeer Continue) ≡ Synced → AtTip fromSyncPeer ours (some tip)
-    go true b t e =
-        record {
-          tip = tip;
-          names = refl;
-          ofSyncPeer = and-left fromSyncPeer (leb tip ours) t;
-          reached = leb-true tip ours (and-right fromSyncPeer (leb tip ours) t);
-        }
-    go false true t e = let n : outcomeNumber BehindPeer ≡ outcomeNumber Synced = ap outcomeNumber e in absurd (omega arith)
-    go false false t e = let n : outcomeNumber Continue ≡ outcomeNumber Synced = ap outcomeNumber e in absurd (omega arith)
-
--- a tip is known if parsing worked and it is there
-tip-named : (parsed named : Bool) (n tip : ℕ) → cond parsed (cond named (some n) none) none ≡ some tip → (parsed ≡ true) × (named ≡ true) × (n ≡ tip)
-tip-named true true n tip e = (refl, refl, Option·some-injective n tip e)
-tip-named true false n tip e = absurd (false≢true (ap isSome e))
-tip-named false named n tip e = absurd (false≢true (ap isSome e))
 
 -- ---- a finished call
 
@@ -155,26 +126,16 @@ module _ (st : State) (call : Call) (f : Finished st call) where
     answers-says peer acts tip Stalled w h = tt
     answers-says peer acts tip EndOfStream w h = tt
 
-    -- the tip that a sync info's call names
-    abbrev known : Option ℕ
-    known = cond (eqb (call .parsed) 1) (cond (eqb (call .hastip) 1) (some (call .tip)) none) none
-
-    synced-ahead : call .kind ≡ 6 → tipOutcome (eqb (call .peer) (st .sync .syncPeer)) (call .height) known ≡ Synced → NothingAhead (seenAs st call)
-    synced-ahead k e =
-        let t = at-tip (eqb (call .peer) (st .sync .syncPeer)) (call .height) known e in
-        let n = tip-named (eqb (call .parsed) 1) (eqb (call .hastip) 1) (call .tip) (t .tip) (t .names) in
-        tipReached (t .tip)
-        (record { kind = k; parsed = eqb-true (call .parsed) 1 (n .0); named = eqb-true (call .hastip) 1 (n .1); names = n .2 })
-        (eqb-true (call .peer) (st .sync .syncPeer) (t .ofSyncPeer)) (t .reached)
-
     sync-info-heard-says : call .kind ≡ 6
         → All Says
         (hearsSyncInfo st a (call .peer) (eqb (call .parsed) 1) (cond (eqb (call .hastip) 1) (some (call .tip)) none) (idsIn (call .continuation)) .acts)
     unfolding hearsSyncInfo argsOf
     sync-info-heard-says k =
+        let known : Option ℕ = heardTip call in
         answers-says (call .peer) (continuation (eqb (call .parsed) 1) (call .height) known (call .peer) (idsIn (call .continuation)))
         (raisedTip (st .sync .knownTip) known) (tipOutcome (eqb (call .peer) (st .sync .syncPeer)) (call .height) known)
-        (continuation-says (eqb (call .parsed) 1) (call .height) known (call .peer) (idsIn (call .continuation))) (synced-ahead k)
+        (continuation-says (eqb (call .parsed) 1) (call .height) known (call .peer) (idsIn (call .continuation)))
+        (λ e. subst (Why (seenAs st call)) e (why-info st call k))
 
     announced-says : call .kind ≡ 5 → (ids : List Id) → idsIn (call .ids) ≡ ids
         → (outcomeNumber (hearsAnnounced st a (call .peer) (call .typeid) ids .outcome) ≡ 0 → stepAnswer st (argsOf call) .outcome ≡ 0)

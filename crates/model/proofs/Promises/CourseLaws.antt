@@ -32,17 +32,14 @@ use Rattle.model.specs.Lists.{idsIn, peersIn}
 use Rattle.model.specs.Calls.{Call, Answer, argsOf, stepOf, stepAnswer}
 use Rattle.model.specs.Promises.Numbers as numbers
 use Rattle.model.specs.Promises.Words.{Seen, First}
+use Rattle.model.specs.Promises.Outcomes.{Heard}
 use Rattle.model.specs.Promises.SyncInfos.{Announces, continuationIds}
-use Rattle.model.proofs.Promises.SeenLaws.{Finished, seenAs, Kind, kind-of, mode-of}
+use Rattle.model.proofs.Promises.SeenLaws.{Finished, seenAs, syncInfoOf, Kind, apart, heardTip, Hears, is-heard, kind-of, mode-of}
 use Rattle.model.proofs.Promises.SeenLaws as kinds
 use Rattle.model.proofs.Promises.ListLaws.{all-mapped}
 use Rattle.model.proofs.Promises.ModeLaws.{mode-is, mode-is-not, is-synced, no-peer}
 use Rattle.model.proofs.Promises.WordLaws.{listed-first, first-listed}
 use Rattle.model.proofs.Promises.PartLaws.{IsAsk, ActParts, Parts, only-asks, commands-parts}
-
--- A number is one only.
-pub apart : {n a b : ℕ} → n ≡ a → n ≡ b → eqb a b ≡ false → ⊥
-apart {n} {a} {b} e f d = eqb-false a b d (sym e ∙ f)
 
 -- ---- what only asks
 
@@ -301,56 +298,44 @@ continuation-sends parsed ours tip peer ids = go (parsed && (ltb 0 ours && notAb
     go true (id ∷ ids) = refl
     go false ids = refl
 
--- the tip that is read
-abbrev knownOf : Bool → Bool → ℕ → Option ℕ
-knownOf parsed named tip = cond parsed (cond named (some tip) none) none
-
-above-none : (ours tip : ℕ) (parsed named : Bool) → notAbove ours (knownOf parsed named tip) ≡ true → parsed ≡ true → named ≡ true → tip ≤ ours
-above-none ours tip true true e p n = leb-true tip ours e
-above-none ours tip true false e p n = absurd (false≢true n)
-above-none ours tip false named e p n = absurd (false≢true p)
-
-none-above : (ours tip : ℕ) (parsed named : Bool) → (parsed ≡ true → named ≡ true → tip ≤ ours) → notAbove ours (knownOf parsed named tip) ≡ true
-none-above ours tip true true h = le-leb tip ours (h refl refl)
-none-above ours tip true false h = refl
-none-above ours tip false named h = refl
-
 module _ (s : Seen) where
+  -- no tip that was heard is above our height
+  abbrev NoneAbove : Type 0
+  NoneAbove = (tip : ℕ) → Heard s tip → tip ≤ s .call .height
+
+  none-above : s .call .kind ≡ numbers.syncInfo → notAbove (s .call .height) (heardTip (s .call)) ≡ true → NoneAbove
+  none-above k e = go (heardTip (s .call)) (is-heard s k) e
+    where
+      go : (heard : Option ℕ) → Hears s heard → notAbove (s .call .height) heard ≡ true → NoneAbove
+      go heard (kinds.aTip h) e tip g = let l = leb-true (s .call .tip) (s .call .height) e in let n = g .names in omega (arith, l, n)
+      go heard (kinds.noTip n) e tip g = absurd (n tip g)
+
+  above-none : s .call .kind ≡ numbers.syncInfo → NoneAbove → notAbove (s .call .height) (heardTip (s .call)) ≡ true
+  above-none k h = go (heardTip (s .call)) (is-heard s k)
+    where
+      go : (heard : Option ℕ) → Hears s heard → notAbove (s .call .height) heard ≡ true
+      go heard (kinds.aTip g) = le-leb (s .call .tip) (s .call .height) (h (s .call .tip) g)
+      go heard (kinds.noTip n) = refl
+
   abbrev isOpen : Bool
-  isOpen =
-      eqb (s .call .parsed) 1
-      && (ltb 0 (s .call .height) && notAbove (s .call .height) (knownOf (eqb (s .call .parsed) 1) (eqb (s .call .hastip) 1) (s .call .tip)))
+  isOpen = eqb (s .call .parsed) 1 && (ltb 0 (s .call .height) && notAbove (s .call .height) (heardTip (s .call)))
 
   open-announces : isOpen ≡ true → s .call .kind ≡ numbers.syncInfo → (continuationIds s ≡ [] → ⊥) → Announces s
   open-announces e k listed =
       let parsed = eqb (s .call .parsed) 1 in
-      let named = eqb (s .call .hastip) 1 in
       let low = ltb 0 (s .call .height) in
-      let none = notAbove (s .call .height) (knownOf parsed named (s .call .tip)) in
+      let none = notAbove (s .call .height) (heardTip (s .call)) in
       record {
         kind = k;
         parsed = eqb-true (s .call .parsed) 1 (and-left parsed (low && none) e);
         ours = ltb-true 0 (s .call .height) (and-left low none (and-right parsed (low && none) e));
-        noneAbove =
-            λ tip h.
-            let l : s .call .tip ≤ s .call .height =
-            above-none (s .call .height) (s .call .tip) parsed named (and-right low none (and-right parsed (low && none) e))
-            (eq-eqb (s .call .parsed) 1 (h .parsed)) (eq-eqb (s .call .hastip) 1 (h .named)) in
-            let n = h .names in
-            omega (arith, l, n);
+        noneAbove = none-above k (and-right low none (and-right parsed (low && none) e));
         any = listed;
       }
 
   announces-open : Announces s → isOpen ≡ true
   announces-open n =
-      let parsed = eqb (s .call .parsed) 1 in
-      let named = eqb (s .call .hastip) 1 in
-      let p : eqb (s .call .parsed) 1 ≡ true = eq-eqb (s .call .parsed) 1 (n .parsed) in
-      let l : ltb 0 (s .call .height) ≡ true = lt-ltb 0 (s .call .height) (n .ours) in
-      let t : notAbove (s .call .height) (knownOf parsed named (s .call .tip)) ≡ true =
-      none-above (s .call .height) (s .call .tip) parsed named
-      (λ e f. n .noneAbove (s .call .tip) (record { kind = n .kind; parsed = n .parsed; named = eqb-true (s .call .hastip) 1 f; names = refl })) in
-      both p (both l t)
+      both (eq-eqb (s .call .parsed) 1 (n .parsed)) (both (lt-ltb 0 (s .call .height) (n .ours)) (above-none (n .kind) (n .noneAbove)))
     where
       both : {a b : Bool} → a ≡ true → b ≡ true → a && b ≡ true
       both p q = rw (p, q)
@@ -486,13 +471,10 @@ module _ (st : State) (call : Call) where
   answers-says announced tip Stalled t k = absurd t
   answers-says announced tip EndOfStream t k = absurd t
 
-  abbrev syncInfoStep : Step
-  syncInfoStep = Steps.syncInfo (call .peer) (eqb (call .parsed) 1) (cond (eqb (call .hastip) 1) (some (call .tip)) none) (idsIn (call .continuation))
-
-  hears : call .kind ≡ numbers.syncInfo → Told syncInfoStep
+  hears : call .kind ≡ numbers.syncInfo → Told (syncInfoOf call)
   unfolding planOf hearsSyncInfo argsOf
   hears k =
-      let known : Option ℕ = knownOf (eqb (call .parsed) 1) (eqb (call .hastip) 1) (call .tip) in
+      let known : Option ℕ = heardTip call in
       let isOpen : Bool = eqb (call .parsed) 1 && (ltb 0 (call .height) && notAbove (call .height) known) in
       let announced : List Sending = cond isOpen (announcedTo (call .peer) (idsIn (call .continuation))) [] in
       let tip : ℕ = raisedTip (st .sync .knownTip) known in

@@ -7,7 +7,7 @@ use mathlib.Core.List.{List, [], _∷_}
 use mathlib.Core.Option.{Option, none, some}
 use native.Mathlib.Omega.{arith}
 use lib.Dec.{eqb, leb, ltb}
-use borrow.Author.Tests.{eqb-true, eqb-false}
+use borrow.Author.Tests.{eqb-false}
 use Rattle.fields.proofs.OrderLaws.{trichotomy}
 use Rattle.fields.proofs.AllLaws.{either}
 use Rattle.model.specs.Protocol.{Id, headerType, isAnnounceable}
@@ -26,7 +26,7 @@ use Rattle.model.specs.Promises.Words.{Seen, ids, view}
 use Rattle.model.specs.Promises.Outcomes.{Heard}
 use Rattle.model.specs.Promises.Heights.{LooksOn, inReorg, StartsFrom, Downloaded, KnownTip}
 use Rattle.model.proofs.Promises.SeenLaws
-use Rattle.model.proofs.Promises.SeenLaws.{Finished, seenAs, Kind, kind-of, mode-of}
+use Rattle.model.proofs.Promises.SeenLaws.{Finished, seenAs, Kind, heardTip, Hears, is-heard, kind-of, mode-of}
 use Rattle.model.proofs.Promises.ViewLaws.{raised-reaches}
 use Rattle.model.proofs.Promises.LookLaws.{here, starts-here, args, risen, Reading, looks, looksAndAsks, asks, neither, plan-reads}
 
@@ -183,16 +183,13 @@ module _ (s : Seen) where
   unheard : (kind : ℕ) → s .call .kind ≡ kind → eqb kind numbers.syncInfo ≡ false → (tip : ℕ) → Heard s tip → ⊥
   unheard kind k other tip h = eqb-false kind numbers.syncInfo other (sym k ∙ h .kind)
 
-  info-tips : s .call .kind ≡ numbers.syncInfo
-      → Tip s (raisedTip (s .before .sync .knownTip) (cond (eqb (s .call .parsed) 1) (cond (eqb (s .call .hastip) 1) (some (s .call .tip)) none) none))
+  info-tips : s .call .kind ≡ numbers.syncInfo → Tip s (raisedTip (s .before .sync .knownTip) (heardTip (s .call)))
   unfolding raisedTip
-  info-tips k = go (eqb (s .call .parsed) 1) (eqb (s .call .hastip) 1) refl refl
+  info-tips k = go (heardTip (s .call)) (is-heard s k)
     where
-      go : (parsed named : Bool) → eqb (s .call .parsed) 1 ≡ parsed → eqb (s .call .hastip) 1 ≡ named
-          → Tip s (raisedTip (s .before .sync .knownTip) (cond parsed (cond named (some (s .call .tip)) none) none))
-      go true true p n = hears (record { kind = k; parsed = eqb-true (s .call .parsed) 1 p; named = eqb-true (s .call .hastip) 1 n; names = refl }) refl
-      go true false p n = stays (λ tip h. eqb-false (s .call .hastip) 1 n (h .named)) refl
-      go false named p n = stays (λ tip h. eqb-false (s .call .parsed) 1 p (h .parsed)) refl
+      go : (tip : Option ℕ) → Hears s tip → Tip s (raisedTip (s .before .sync .knownTip) tip)
+      go tip (SeenLaws.aTip h) = hears h refl
+      go tip (SeenLaws.noTip n) = stays n refl
 
   step-tips : {step : Step} → Kind (s .call) step → Tip s (planOf (s .before) (args s) step .sync .knownTip)
   unfolding planOf

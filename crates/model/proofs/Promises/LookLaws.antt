@@ -31,7 +31,7 @@ use Rattle.model.specs.Promises.Heights.{LooksOn, atStart, inReorg, onRe
 use Rattle.model.specs.Promises.Asked as asked
 use Rattle.model.specs.Promises.Asked.{NextSections}
 use Rattle.model.proofs.Promises.SeenLaws
-use Rattle.model.proofs.Promises.SeenLaws.{Kind}
+use Rattle.model.proofs.Promises.SeenLaws.{Kind, syncInfoOf, heardTip, Hears, is-heard}
 use Rattle.model.proofs.Promises.ModeLaws.{mode-is, mode-is-not, is-synced}
 
 -- ---- where a step starts from
@@ -342,29 +342,18 @@ module _ (s : Seen) where
           false≢true (sym e ∙ rw (eq-eqb (s .call .peer) (st .sync .syncPeer) (h .1), le-leb (s .call .tip) (s .call .height) (h .2))))
           (answers-still (s .call .peer) tip acts ahead)
 
-  info-reads : s .call .kind ≡ numbers.syncInfo → (said : List Id)
-      → Reading s
-      (hearsSyncInfo (s .before) (args s) (s .call .peer) (eqb (s .call .parsed) 1) (cond (eqb (s .call .hastip) 1) (some (s .call .tip)) none) said)
-  unfolding hearsSyncInfo tipOutcome argsOf
-  info-reads k said = go (eqb (s .call .parsed) 1) (eqb (s .call .hastip) 1) refl refl
+  info-reads : s .call .kind ≡ numbers.syncInfo → Reading s (planOf (s .before) (args s) (syncInfoOf (s .call)))
+  unfolding planOf hearsSyncInfo tipOutcome argsOf
+  info-reads k = go (heardTip (s .call)) (is-heard s k)
     where
-      st : State
-      st = s .before
+      acts : Option ℕ → List Act
+      acts tip = continuation (eqb (s .call .parsed) 1) (s .call .height) tip (s .call .peer) (idsIn (s .call .continuation))
 
-      a : Args
-      a = args s
-
-      go : (parsed named : Bool) → eqb (s .call .parsed) 1 ≡ parsed → eqb (s .call .hastip) 1 ≡ named
-          → Reading s (hearsSyncInfo st a (s .call .peer) parsed (cond named (some (s .call .tip)) none) said)
-      go true true p n =
-          heard-reads (continuation true (s .call .height) (some (s .call .tip)) (s .call .peer) said) (raisedTip (st .sync .knownTip) (some (s .call .tip)))
-          (record { kind = k; parsed = eqb-true (s .call .parsed) 1 p; named = eqb-true (s .call .hastip) 1 n; names = refl })
-      go true false p n =
-          unheard-reads (s .call .peer) (raisedTip (st .sync .knownTip) none) (continuation true (s .call .height) none (s .call .peer) said) k
-          (λ h. eqb-false (s .call .hastip) 1 n (h .named))
-      go false named p n =
-          unheard-reads (s .call .peer) (raisedTip (st .sync .knownTip) none) (continuation false (s .call .height) none (s .call .peer) said) k
-          (λ h. eqb-false (s .call .parsed) 1 p (h .parsed))
+      go : (tip : Option ℕ) → Hears s tip
+          → Reading s (answers (s .before) (args s) (s .call .peer) (acts tip) (raisedTip (s .before .sync .knownTip) tip)
+          (tipOutcome (eqb (s .call .peer) (s .before .sync .syncPeer)) (s .call .height) tip))
+      go tip (SeenLaws.aTip h) = heard-reads (acts tip) (raisedTip (s .before .sync .knownTip) tip) h
+      go tip (SeenLaws.noTip n) = unheard-reads (s .call .peer) (raisedTip (s .before .sync .knownTip) tip) (acts tip) k (n (s .call .tip))
 
   -- ---- every step
 
@@ -380,7 +369,7 @@ module _ (s : Seen) where
       quiet numbers.neededModifier k refl refl (continues (s .before) (args s) acts) (continues-still acts)
   step-reads (SeenLaws.reorg k) mode = both-read (min (here s) (s .call .fork)) (inReorg k) (asked.inReorg k) (starts-lower s k)
   step-reads (SeenLaws.announcedIds k) mode = ids-read k (ids s) refl
-  step-reads (SeenLaws.syncInfo k) mode = info-reads k (idsIn (s .call .continuation))
+  step-reads (SeenLaws.syncInfo k) mode = info-reads k
   step-reads (SeenLaws.otherMessage k) mode = quiet numbers.otherMessage k refl refl (continues (s .before) (args s) []) (continues-still [])
   step-reads (SeenLaws.lostPeer k) mode = quiet numbers.lostPeer k refl refl (loses (s .before) (args s) (s .call .peer)) (loses-still (s .call .peer))
   step-reads (SeenLaws.receivedIds k) mode =

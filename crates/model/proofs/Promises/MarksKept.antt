@@ -22,11 +22,11 @@ use Rattle.model.specs.Promises.Marks as promised
 use Rattle.model.specs.Promises.Marks.{Chosen, Picked, Enters, Progresses, SaysSyncInfo, SyncPeer, Emptied, allStalled, byProgress, StalledSet, Marks}
 use Rattle.model.specs.Promises.SyncInfos.{SpeaksTo, onPick, whenBehind, Due, SyncInfos}
 use Rattle.model.proofs.Promises.SeenLaws as kinds
-use Rattle.model.proofs.Promises.SeenLaws.{Finished, seenAs, step-of, mode-of}
+use Rattle.model.proofs.Promises.SeenLaws.{Finished, seenAs, apart, step-of, mode-of}
 use Rattle.model.proofs.Promises.ListLaws.{among-back}
 use Rattle.model.proofs.Promises.ModeLaws.{mode-is-not, is-not-mode, no-peer, peerless}
 use Rattle.model.proofs.Promises.WordLaws.{listed-passes, passes-listed, fails-listed, listed-first}
-use Rattle.model.proofs.Promises.CourseLaws.{apart, seenBy, seen-by, isQuiet, Course, told}
+use Rattle.model.proofs.Promises.CourseLaws.{seenBy, seen-by, isQuiet, Course, told}
 use Rattle.model.proofs.Promises.CourseLaws as courses
 use Rattle.model.proofs.Promises.SyncInfosKept.{due, not-due, last-send-past, sync-infos-kept, none-said}
 

@@ -24,12 +24,12 @@ use Rattle.model.specs.Promises.Words.{Seen}
 use Rattle.model.specs.Promises.Outcomes.{Heard, NothingAhead, noHeaders, tipReached, FarAhead, tipAhead, PeerGone, lost, sendFailed, nobodyListed, NoProgress, Outcomes, Taken, Modes}
 use Rattle.model.proofs.Promises.SeenLaws as seen
 use Rattle.model.proofs.Promises.ModeLaws.{mode-is, is-not-mode, is-synced}
-use Rattle.model.proofs.Promises.SeenLaws.{seenAs, Finished, Kind, plan-of, kind-of, mode-of}
+use Rattle.model.proofs.Promises.SeenLaws.{seenAs, Finished, Kind, syncInfoOf, heardTip, Hears, is-heard, plan-of, kind-of, mode-of}
 
 -- ---- why an outcome is given
 
 -- what is promised of a call that has this outcome
-abbrev Why : Seen → Outcome → Type 0
+abbrev pub Why : Seen → Outcome → Type 0
 Why s Continue = Unit {0}
 Why s Synced = NothingAhead s
 Why s BehindPeer = FarAhead s
@@ -60,17 +60,10 @@ module _ (st : State) (call : Call) where
   abbrev fromSyncPeer : Bool
   fromSyncPeer = eqb (call .peer) (st .sync .syncPeer)
 
-  -- the tip that a sync info names, if it was understood
-  abbrev known : Option ℕ
-  known = cond (eqb (call .parsed) 1) (cond (eqb (call .hastip) 1) (some (call .tip)) none) none
-
-  why-tip : call .kind ≡ numbers.syncInfo → call .parsed ≡ 1 → call .hastip ≡ 1 → Why s (tipOutcome fromSyncPeer (call .height) (some (call .tip)))
+  why-tip : Heard s (call .tip) → Why s (tipOutcome fromSyncPeer (call .height) (some (call .tip)))
   unfolding tipOutcome
-  why-tip k p h = go fromSyncPeer (leb (call .tip) (call .height)) (ltb (call .height + 1) (call .tip)) refl refl refl
+  why-tip said = go fromSyncPeer (leb (call .tip) (call .height)) (ltb (call .height + 1) (call .tip)) refl refl refl
     where
-      said : Heard s (call .tip)
-      said = record { kind = k; parsed = p; named = h; names = refl }
-
       go : (b t u : Bool) → fromSyncPeer ≡ b → leb (call .tip) (call .height) ≡ t → ltb (call .height + 1) (call .tip) ≡ u
           → Why s (cond (b && t) Synced (cond u BehindPeer Continue))
       go true true u f e g = tipReached (call .tip) said (eqb-true (call .peer) (st .sync .syncPeer) f) (leb-true (call .tip) (call .height) e)
@@ -79,15 +72,13 @@ module _ (st : State) (call : Call) where
       go false t true f e g = tipAhead (call .tip) said (ltb-true (call .height + 1) (call .tip) g)
       go false t false f e g = tt
 
-  why-info : call .kind ≡ numbers.syncInfo → Why s (tipOutcome fromSyncPeer (call .height) known)
+  pub why-info : call .kind ≡ numbers.syncInfo → Why s (tipOutcome fromSyncPeer (call .height) (heardTip call))
   unfolding tipOutcome
-  why-info k = go (eqb (call .parsed) 1) (eqb (call .hastip) 1) refl refl
+  why-info k = go (heardTip call) (is-heard s k)
     where
-      go : (t u : Bool) → eqb (call .parsed) 1 ≡ t → eqb (call .hastip) 1 ≡ u
-          → Why s (tipOutcome fromSyncPeer (call .height) (cond t (cond u (some (call .tip)) none) none))
-      go true true p h = why-tip k (eqb-true (call .parsed) 1 p) (eqb-true (call .hastip) 1 h)
-      go true false p h = tt
-      go false u p h = tt
+      go : (tip : Option ℕ) → Hears s tip → Why s (tipOutcome fromSyncPeer (call .height) tip)
+      go tip (seen.aTip h) = why-tip h
+      go tip (seen.noTip n) = tt
 
   why-announced : call .kind ≡ numbers.announcedIds → (ids : List Id) → idsIn (call .ids) ≡ ids
       → Why s (Steps.hearsAnnounced st a (call .peer) (call .typeid) ids .outcome)
@@ -123,14 +114,11 @@ module _ (st : State) (call : Call) where
       go false m late l [] e = nobodyListed k (is-synced (st .mode) h m) e
       go false m late l (p ∷ peers) e = tt
 
-  abbrev info : Step
-  info = Steps.syncInfo (call .peer) (eqb (call .parsed) 1) (cond (eqb (call .hastip) 1) (some (call .tip)) none) (idsIn (call .continuation))
-
-  info-outcome : planOf st a info .outcome ≡ tipOutcome fromSyncPeer (call .height) known
+  info-outcome : planOf st a (syncInfoOf call) .outcome ≡ tipOutcome fromSyncPeer (call .height) (heardTip call)
   unfolding planOf Steps.hearsSyncInfo argsOf
   info-outcome =
-      answers-outcome st a (call .peer) (continuation (eqb (call .parsed) 1) (call .height) known (call .peer) (idsIn (call .continuation)))
-      (raisedTip (st .sync .knownTip) known) fromSyncPeer (call .height) known
+      answers-outcome st a (call .peer) (continuation (eqb (call .parsed) 1) (call .height) (heardTip call) (call .peer) (idsIn (call .continuation)))
+      (raisedTip (st .sync .knownTip) (heardTip call)) fromSyncPeer (call .height) (heardTip call)
 
   -- Every outcome has its reason.
   why : {step : Step} → Kind call step → ofMode (st .mode) (st .sync .entrySent) step ≡ true → Why s (planOf st a step .outcome)
@@ -166,7 +154,7 @@ module _ (st : State) (call : Call) where
   outcome-of k o e = ap (λ (p : Plan). p .outcome) (plan-of st call k) ∙ e
 
   -- a tip that was heard is known
-  known-tip : (tip : ℕ) → Heard s tip → known ≡ some tip
+  known-tip : (tip : ℕ) → Heard s tip → heardTip call ≡ some tip
   known-tip tip h = rw (eq-eqb (call .parsed) 1 (h .parsed), eq-eqb (call .hastip) 1 (h .named)) (ap some (h .names))
 
   hears : (tip : ℕ) → Heard s tip → plan st a .outcome ≡ tipOutcome fromSyncPeer (call .height) (some tip)
@@ -346,7 +334,7 @@ module _ (st : State) (call : Call) where
   leads (seen.reorg k) = λ n m. refl
   leads (seen.announcedIds k) = leads-announced (call .peer) (call .typeid) (idsIn (call .ids))
   leads (seen.syncInfo k) =
-      let heard = known st call in
+      let heard = heardTip call in
       leads-answers (call .peer) (continuation (eqb (call .parsed) 1) (arguments .chainHeight) heard (call .peer) (idsIn (call .continuation)))
       (raisedTip (st .sync .knownTip) heard) (tipOutcome (eqb (call .peer) (st .sync .syncPeer)) (arguments .chainHeight) heard)
   leads (seen.otherMessage k) = λ n m. refl

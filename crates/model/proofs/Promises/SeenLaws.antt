@@ -3,9 +3,9 @@ use Prim.Native.Nat.{ℕ, _≤_}
 use mathlib.Core.Path.{_≡_, refl, sym, ap, _∙_, subst}
 use mathlib.Core.Bool.{Bool, true, false, cond, _&&_}
 use mathlib.Core.List.{List}
-use mathlib.Core.Option.{none, some}
+use mathlib.Core.Option.{Option, none, some}
 use lib.Dec.{eqb, leb}
-use borrow.Author.Tests.{leb-true, eqb-true}
+use borrow.Author.Tests.{leb-true, eqb-true, eqb-false}
 use Rattle.fields.proofs.OrderLaws.{and-left, and-right}
 use Rattle.model.specs.State.{State}
 use Rattle.model.specs.Steps
@@ -16,6 +16,7 @@ use Rattle.model.specs.Calls.{Call, isFlag, stepOf, argsOf, callFits, st
 use Rattle.model.specs.Demand3.{InWidth}
 use Rattle.model.specs.Promises.Numbers as numbers
 use Rattle.model.specs.Promises.Words.{Seen, seen, Promised}
+use Rattle.model.specs.Promises.Outcomes.{Heard}
 use Rattle.model.proofs.Well.{Well}
 use Rattle.model.proofs.Widths.{WellArgs}
 use Rattle.model.proofs.FinishedLaws.{Passed, passed, PassedAreas, passed-areas}
@@ -76,15 +77,16 @@ promised P keeps state area call bytes width e =
 
 -- ---- a call's kind, and the step that it is
 
+abbrev pub syncInfoOf : Call → Step
+syncInfoOf call = Steps.syncInfo (call .peer) (eqb (call .parsed) 1) (cond (eqb (call .hastip) 1) (some (call .tip)) none) (idsIn (call .continuation))
+
 pub data Kind (call : Call) : Step → Type 0 where
   start : call .kind ≡ numbers.start → Kind call Steps.start
   pick : call .kind ≡ numbers.pick → Kind call Steps.pick
   neededModifier : call .kind ≡ numbers.neededModifier → Kind call (Steps.neededModifier (call .typeid) (idsIn (call .ids)))
   reorg : call .kind ≡ numbers.reorg → Kind call (Steps.reorg (call .fork))
   announcedIds : call .kind ≡ numbers.announcedIds → Kind call (Steps.announced (call .peer) (call .typeid) (idsIn (call .ids)))
-  syncInfo :
-      call .kind ≡ numbers.syncInfo
-      → Kind call (Steps.syncInfo (call .peer) (eqb (call .parsed) 1) (cond (eqb (call .hastip) 1) (some (call .tip)) none) (idsIn (call .continuation)))
+  syncInfo : call .kind ≡ numbers.syncInfo → Kind call (syncInfoOf call)
   otherMessage : call .kind ≡ numbers.otherMessage → Kind call Steps.otherMessage
   lostPeer : call .kind ≡ numbers.lostPeer → Kind call (Steps.lostPeer (call .peer))
   receivedIds : call .kind ≡ numbers.receivedIds → Kind call (Steps.received (idsIn (call .ids)))
@@ -148,6 +150,28 @@ module _ (call : Call) where
       (λ e. is (rw e) (sendFailure e))
       (λ e. is (rw e) (endOfStream e))
       (call .kind) l h refl
+
+-- A number is one only.
+pub apart : {n a b : ℕ} → n ≡ a → n ≡ b → eqb a b ≡ false → ⊥
+apart {n} {a} {b} e f d = eqb-false a b d (sym e ∙ f)
+
+-- ---- the tip that a sync info names, if it was understood
+
+abbrev pub heardTip : Call → Option ℕ
+heardTip call = cond (eqb (call .parsed) 1) (cond (eqb (call .hastip) 1) (some (call .tip)) none) none
+
+pub data Hears (s : Seen) : Option ℕ → Type 0 where
+  aTip : Heard s (s .call .tip) → Hears s (some (s .call .tip))
+  noTip : ((tip : ℕ) → Heard s tip → ⊥) → Hears s none
+
+pub is-heard : (s : Seen) → s .call .kind ≡ numbers.syncInfo → Hears s (heardTip (s .call))
+is-heard s k = go (eqb (s .call .parsed) 1) (eqb (s .call .hastip) 1) refl refl
+  where
+    go : (parsed named : Bool) → eqb (s .call .parsed) 1 ≡ parsed → eqb (s .call .hastip) 1 ≡ named
+        → Hears s (cond parsed (cond named (some (s .call .tip)) none) none)
+    go true true p n = aTip (record { kind = k; parsed = eqb-true (s .call .parsed) 1 p; named = eqb-true (s .call .hastip) 1 n; names = refl })
+    go true false p n = noTip (λ tip h. eqb-false (s .call .hastip) 1 n (h .named))
+    go false named p n = noTip (λ tip h. eqb-false (s .call .parsed) 1 p (h .parsed))
 
 -- ---- what a finished call has passed, said of its numbers
 

@@ -23,11 +23,11 @@ use Rattle.model.specs.Promises.Marks as marks
 use Rattle.model.specs.Promises.Marks.{Picked, SaysSyncInfo}
 use Rattle.model.specs.Promises.SyncInfos.{SpeaksTo, onPick, whenBehind, inReply, onProgress, onTick, onSyncedTick}
 use Rattle.model.specs.Promises.SyncInfos.{Due, SyncInfos, Announcements, continuationIds}
-use Rattle.model.proofs.Promises.SeenLaws.{Finished, seenAs}
+use Rattle.model.proofs.Promises.SeenLaws.{Finished, seenAs, apart}
 use Rattle.model.proofs.Promises.ListLaws.{all-among}
 use Rattle.model.proofs.Promises.ModeLaws.{mode-is-not}
 use Rattle.model.proofs.Promises.PartLaws.{OfKind, Parts}
-use Rattle.model.proofs.Promises.CourseLaws.{apart, seenBy, seen-by, saidTo, isQuiet}
+use Rattle.model.proofs.Promises.CourseLaws.{seenBy, seen-by, saidTo, isQuiet}
 use Rattle.model.proofs.Promises.CourseLaws.{Passes, Course, Front, keepsStill, announces, told, told-parts}
 use Rattle.model.proofs.Promises.CourseLaws as courses
 
