@@ -1,29 +1,22 @@
 -- Batches and runs, kept: requests of 1 to 400 ids, batches numbered from 0 without a gap, no list in two batches.
-use Prim.Native.Nat.{ℕ, zero, suc, _+_, _-_, _≤_, min}
+use Prim.Native.Nat.{ℕ, zero, suc, _≤_}
 use mathlib.Core.Path.{_≡_, refl, sym, ap, _∙_, subst}
-use mathlib.Core.Bool.{Bool, true, false, cond}
+use mathlib.Core.Bool.{Bool, true, false}
 use mathlib.Core.Logic.{inl, inr}
 use mathlib.Core.List.{List, [], _∷_, _++_, map}
-use mathlib.Core.Option.{Option, none, some}
-use native.Mathlib.Nat.{lt-irrefl}
 use native.Mathlib.Omega.{arith}
 use lib.ListN.{length, take, drop, length-take, length-drop}
-use lib.Dec.{eqb}
 use borrow.Author.Tests.{ne-eqb}
 use Rattle.fields.specs.Facts.{All}
-use Rattle.fields.proofs.AllLaws.{all-append, all-map, all-both, either}
-use Rattle.model.specs.Protocol.{Id, headerType, requestSize, isAnnounceable, windowSize}
-use Rattle.model.specs.Settings as settings
-use Rattle.model.specs.Delivery.{Request, orphansOf, markRequested}
-use Rattle.model.specs.State.{State, seeking, syncing, isMode, Sync, withKnownTip, withStalledPeers}
-use Rattle.model.specs.Peers.{firstOf, selectPeer}
+use Rattle.fields.proofs.AllLaws.{all-append, all-map, all-both}
+use Rattle.model.specs.Protocol.{Id, headerType, requestSize}
+use Rattle.model.specs.Delivery.{Request, markRequested}
+use Rattle.model.specs.State.{State}
 use Rattle.model.specs.Requests.{Sending, request, announcement, syncInfo, Command, runsWithin, runs, commandsOf, commandsFrom}
 use Rattle.model.specs.Requests.{Pair, Act, ask, send, wanted, requestOf, perform, performAll}
-use Rattle.model.specs.Sections.{View, Item, Batch, batchesOf, windowWithin, requestSectionsFrom, requestNextSections}
-use Rattle.model.specs.Check.{retrySendings, markAllRetried, askFresh}
-use Rattle.model.specs.Events.{Outcome, Continue, Synced, BehindPeer, SyncPeerGone, Stalled, EndOfStream, tipOutcome, raisedTip, continuation}
-use Rattle.model.specs.Steps
-use Rattle.model.specs.Steps.{Step, Args, isCheck, planOf, plan, remaining, retried, performed, commands}
+use Rattle.model.specs.Sections.{Item, Batch, batchesOf}
+use Rattle.model.specs.Check.{retrySendings, markAllRetried}
+use Rattle.model.specs.Steps.{Args, isCheck, plan, remaining, retried, performed, commands}
 use Rattle.model.specs.Calls.{Call, stepOf, argsOf}
 use Rattle.model.specs.Promises.Numbers
 use Rattle.model.specs.Promises.Words.{peers}
@@ -33,11 +26,12 @@ use Rattle.model.proofs.Widths.{WellAct}
 use Rattle.model.proofs.RequestedLaws.{requested-commands}
 use Rattle.model.proofs.Promises.SeenLaws.{seenAs, Finished, is-check}
 use Rattle.model.proofs.Promises.CheckAsked.{fresh-performed}
-use Rattle.model.proofs.Promises.ListLaws.{all-of, all-mapped, Pairwise, pairwise-append, pairwise-map, pairwise-next}
+use Rattle.model.proofs.Promises.ListLaws.{all-of, all-mapped, Pairwise, pairwise-map, pairwise-next}
 use Rattle.model.proofs.Promises.ListLaws.{OfFirst, Neighbours, next-of, next-append, next-map}
-use Rattle.model.proofs.Promises.ItemLaws.{batches-each, BatchBelow, batches-rise, LowerType, batches-types}
-use Rattle.model.proofs.Promises.PartLaws.{performed-each, batchAfter, commands-append}
-use Rattle.model.proofs.Promises.AskedLaws.{Says, continuation-says, say-to-says, enters-says, picks-say, ticks-say, unretried, acts-well}
+use Rattle.model.proofs.Promises.ItemLaws.{batches-each, BatchBelow, batches-rise, below-differ}
+use Rattle.model.proofs.Promises.PartLaws.{performed-each, Differs, batchAfter, commands-append, parts-differ}
+use Rattle.model.proofs.Promises.CourseLaws.{course-acts, told}
+use Rattle.model.proofs.Promises.AskedLaws.{unretried, acts-well}
 
 -- ---- a sending as a header and its runs
 
@@ -136,12 +130,6 @@ retries-send items =
 
 -- ---- what acts send
 
--- Two lists are of different types or go to different peers.
-abbrev Differs : Act → Act → Type 0
-Differs (ask typeId peer pairs ids) (ask typeId′ peer′ pairs′ ids′) = typeId ≡ typeId′ → peer ≡ peer′ → ⊥
-Differs (ask typeId peer pairs ids) (send s) = Unit {0}
-Differs (send s) act = Unit {0}
-
 abbrev Apart : Sending → Sending → Type 0
 Apart s t = kindOf s ≡ 1 → kindOf t ≡ 1 → typeOf s ≡ typeOf t → peerOf s ≡ peerOf t → ⊥
 
@@ -194,134 +182,6 @@ performed-apart gate clock (send (syncInfo peer) ∷ acts) rs w d = (
   all-of (Apart (syncInfo peer)) (λ s a. absurd (omega arith)) (performAll gate clock acts rs .sendings),
   performed-apart gate clock acts rs (w .1) (d .1),
 )
-
--- ---- a step's lists differ
-
-says-differ : (act : Act) (acts : List Act) → All Says acts → All (Differs act) acts
-says-differ (ask typeId peer pairs ids) [] h = tt
-says-differ (ask typeId peer pairs ids) (ask typeId′ peer′ pairs′ ids′ ∷ acts) h = absurd (h .0)
-says-differ (ask typeId peer pairs ids) (send s ∷ acts) h = (tt, says-differ (ask typeId peer pairs ids) acts (h .1))
-says-differ (send s) acts h = all-of (Differs (send s)) (λ act. tt) acts
-
-says-pairwise : (acts : List Act) → All Says acts → Pairwise Differs acts
-says-pairwise [] h = tt
-says-pairwise (act ∷ acts) h = (says-differ act acts (h .1), says-pairwise acts (h .1))
-
--- what is said first, and what is said last, changes nothing
-said-before : (acts others : List Act) → All Says acts → Pairwise Differs others → Pairwise Differs (acts ++ others)
-said-before [] others h d = d
-said-before (ask typeId peer pairs ids ∷ acts) others h d = absurd (h .0)
-said-before (send s ∷ acts) others h d = (all-of (Differs (send s)) (λ act. tt) (acts ++ others), said-before acts others (h .1) d)
-
-said-behind : (acts others : List Act) → Pairwise Differs acts → All Says others → Pairwise Differs (acts ++ others)
-said-behind acts others d h =
-    pairwise-append Differs acts others d (says-pairwise others h) (all-of (λ (act : Act). All (Differs act) others) (λ act. says-differ act others h) acts)
-
--- batches rise, so no two are of one type and peer
-below-differ : (b c : Batch) → BatchBelow b c → b .typeId ≡ c .typeId → b .peer ≡ c .peer → ⊥
-below-differ b c (inl l) t p = omega arith
-below-differ b c (inr h) t p = omega (arith, h .1)
-
-sections-differ : (view : View) (chainHeight height : ℕ) (peers : List ℕ) → Pairwise Differs (requestNextSections view chainHeight height peers .acts)
-unfolding requestNextSections requestSectionsFrom
-sections-differ view chainHeight height [] = tt
-sections-differ view chainHeight height (peer ∷ peers) =
-    pairwise-map (λ (b : Batch). ask (b .typeId) (b .peer) [] (b .ids)) BatchBelow Differs below-differ
-    (batchesOf (windowWithin (min (height + windowSize) chainHeight - height) view peer height .items))
-    (batches-rise (windowWithin (min (height + windowSize) chainHeight - height) view peer height .items))
-
-module _ (st : State) (a : Args) where
-  sections-from-differ : (height : ℕ) → Pairwise Differs (Steps.sectionsFrom st a height .acts)
-  unfolding Steps.sectionsFrom
-  sections-from-differ height = sections-differ (a .view) (a .chainHeight) height (a .peers)
-
-  orphans-differ : (lost : ℕ) (peer : Option ℕ) → Pairwise Differs (Steps.askOrphans st a lost peer)
-  unfolding Steps.askOrphans
-  orphans-differ lost none = tt
-  orphans-differ lost (some peer) =
-      let orphan : Request → Item = λ (r : Request). record { id = r .id; typeId = r .typeId; peer = peer } in
-      let items : List Item = map orphan (orphansOf lost (st .pending)) in
-      pairwise-map (λ (b : Batch). ask (b .typeId) peer (a .stored) (b .ids)) LowerType Differs (λ b c l t p. lt-irrefl (b .typeId) (omega arith))
-      (batchesOf items) (batches-types peer items (all-mapped (λ (i : Item). i .peer ≡ peer) orphan (λ r. refl) (orphansOf lost (st .pending))))
-
-  at-tip-differ : (acts : List Act) (tip : ℕ) → All Says acts → Pairwise Differs (Steps.isAtTip st a acts tip .acts)
-  unfolding Steps.isAtTip
-  at-tip-differ acts tip w = go (isMode (st .mode) syncing)
-    where
-      go : (t : Bool) → Pairwise Differs (acts ++ (cond t (Steps.sectionsFrom st a (st .sync .downloaded)) (record { acts = []; inView = true })) .acts)
-      go true = said-before acts (Steps.sectionsFrom st a (st .sync .downloaded) .acts) w (sections-from-differ (st .sync .downloaded))
-      go false = said-before acts [] w tt
-
-  answers-differ : (peer : ℕ) (acts : List Act) (tip : ℕ) (outcome : Outcome) → All Says acts
-      → Pairwise Differs (Steps.answers st a peer acts tip outcome .acts)
-  unfolding Steps.answers Steps.continues
-  answers-differ peer acts tip Continue w = said-before acts (Steps.sayTo st a peer) w (says-pairwise (Steps.sayTo st a peer) (say-to-says st a peer))
-  answers-differ peer acts tip Synced w = at-tip-differ acts tip w
-  answers-differ peer acts tip BehindPeer w =
-      let sync : Sync = withKnownTip (withStalledPeers (Steps.unmarked st a) []) tip in
-      says-pairwise (Steps.entersSyncing st a BehindPeer peer acts sync .acts) (enters-says st a BehindPeer peer acts sync w)
-  answers-differ peer acts tip SyncPeerGone w = tt
-  answers-differ peer acts tip Stalled w = tt
-  answers-differ peer acts tip EndOfStream w = tt
-
-  announced-differ : (peer typeId : ℕ) (ids : List Id) → Pairwise Differs (Steps.hearsAnnounced st a peer typeId ids .acts)
-  unfolding Steps.hearsAnnounced Steps.continues
-  announced-differ peer typeId [] =
-      either (λ (p : Steps.Plan). Pairwise Differs (p .acts)) (eqb typeId headerType) (Steps.isAtTip st a [] (st .sync .knownTip)) (Steps.continues st a [])
-      (at-tip-differ [] (st .sync .knownTip) tt) tt
-  announced-differ peer typeId (id ∷ ids) =
-      either (Pairwise Differs) (isAnnounceable typeId) (ask typeId peer (a .stored) (id ∷ ids) ∷ []) [] (tt, tt) tt
-
-  loses-differ : (peer : ℕ) → Pairwise Differs (Steps.loses st a peer .acts)
-  unfolding Steps.loses Steps.leaves Steps.continues
-  loses-differ peer =
-      let asks : List Act = Steps.askOrphans st a peer (firstOf (a .peers)) in
-      let acts : List Act = cond (isMode (st .mode) syncing) asks [] in
-      either (λ (p : Steps.Plan). Pairwise Differs (p .acts)) (eqb peer (st .sync .syncPeer))
-      (Steps.leaves st a SyncPeerGone seeking acts) (Steps.continues st a [])
-      (either (Pairwise Differs) (isMode (st .mode) syncing) asks [] (orphans-differ peer (firstOf (a .peers))) tt) tt
-
-  progresses-differ : (isSyncing : Bool) → Pairwise Differs (Steps.progresses st a isSyncing .acts)
-  unfolding Steps.progresses
-  progresses-differ false = sections-from-differ (st .sync .downloaded)
-  progresses-differ true =
-      let say : List Act = Steps.sayTo st a (st .sync .syncPeer) in
-      said-behind (Steps.sectionsFrom st a (st .sync .downloaded) .acts) (cond (st .sync .progressUsed) [] say) (sections-from-differ (st .sync .downloaded))
-      (either (All Says) (st .sync .progressUsed) [] say tt (say-to-says st a (st .sync .syncPeer)))
-
-  ticks-differ : (isSyncing late : Bool)
-      → Pairwise Differs ((cond isSyncing (Steps.ticksSyncing st a late) (Steps.ticksSynced st a (firstOf (a .peers)))) .acts)
-  ticks-differ isSyncing late =
-      says-pairwise ((cond isSyncing (Steps.ticksSyncing st a late) (Steps.ticksSynced st a (firstOf (a .peers)))) .acts) (ticks-say st a isSyncing late)
-
-  -- the lists that a step asks for
-  plan-differ : (step : Step) → Pairwise Differs (planOf st a step .acts)
-  unfolding planOf Steps.continues Steps.leaves Steps.advances Steps.advancesAndRequests Steps.evicts Steps.hearsSyncInfo Steps.checks
-  plan-differ Steps.start = tt
-  plan-differ Steps.pick =
-      let peer : Option ℕ = selectPeer (st .sync .stalledPeers) (a .peers) in
-      says-pairwise (Steps.picks st a peer .acts) (picks-say st a peer)
-  plan-differ Steps.progress = progresses-differ (isMode (st .mode) syncing)
-  plan-differ Steps.check = go (firstOf (a .peers))
-    where
-      go : (peer : Option ℕ) → Pairwise Differs (askFresh peer (a .stored) (st .sync .evicted))
-      go none = tt
-      go (some peer) = (tt, tt)
-  plan-differ Steps.scheduledTick = ticks-differ (isMode (st .mode) syncing) (settings.stalled (st .settings) (a .clock) (st .sync .lastProgress))
-  plan-differ Steps.sectionTick = sections-from-differ (Steps.advanceFrom st a (st .sync .downloaded) .height)
-  plan-differ Steps.sendFailure = tt
-  plan-differ Steps.endOfStream = tt
-  plan-differ Steps.otherMessage = tt
-  plan-differ (Steps.neededModifier typeId ids) = (tt, tt)
-  plan-differ (Steps.reorg fork) = sections-from-differ (Steps.advanceFrom st a (min (st .sync .downloaded) fork) .height)
-  plan-differ (Steps.announced peer typeId ids) = announced-differ peer typeId ids
-  plan-differ (Steps.syncInfo peer parsed tip ids) =
-      let known : Option ℕ = cond parsed tip none in
-      answers-differ peer (continuation parsed (a .chainHeight) known peer ids) (raisedTip (st .sync .knownTip) known)
-      (tipOutcome (eqb peer (st .sync .syncPeer)) (a .chainHeight) known) (continuation-says parsed (a .chainHeight) known peer ids)
-  plan-differ (Steps.lostPeer peer) = loses-differ peer
-  plan-differ (Steps.received ids) = tt
-  plan-differ (Steps.evicted ids) = tt
 
 -- ---- commands
 
@@ -406,11 +266,11 @@ module _ (st : State) (call : Call) (f : Finished st call) where
   sendings-send = all-append Sends (retrySendings (retried st a)) (performed st a .sendings) (retries-send (retried st a)) performed-send
 
   performed-next : Neighbours Apart (performed st a .sendings)
-  unfolding performed plan
+  unfolding performed plan argsOf
   performed-next =
       pairwise-next Apart (performed st a .sendings)
       (performed-apart (a .gate) (a .clock) (plan st a .acts) (markAllRetried (retried st a) (remaining st a (a .step))) (acts-well st call f)
-      (plan-differ st a (a .step)))
+      (parts-differ (course-acts st call (told st call f .course))))
 
 -- ---- what is sent again, and what is asked for anew
 

@@ -5,10 +5,10 @@ use mathlib.Core.Bool.{Bool, true, false, not, cond, _&&_, _||_, false≢true}
 use mathlib.Core.Logic.{_⊎_, inl, inr}
 use mathlib.Core.List.{List, [], _∷_, _++_, map, append-nil, cons≢nil}
 use mathlib.Core.Option.{Option, none, some}
+use native.Mathlib.Nat.{lt-irrefl}
 use native.Mathlib.Omega.{arith}
 use lib.Dec.{eqb, leb, ltb}
 use borrow.Author.Tests.{eqb-true, eqb-false, eq-eqb, ltb-true, lt-ltb, leb-true, le-leb}
-use Rattle.fields.specs.Facts.{All}
 use Rattle.fields.proofs.AllLaws.{either}
 use Rattle.fields.proofs.OrderLaws.{and-left, and-right}
 use Rattle.model.specs.Protocol.{Id, headerType, isAnnounceable, windowSize}
@@ -36,34 +36,41 @@ use Rattle.model.specs.Promises.Outcomes.{Heard}
 use Rattle.model.specs.Promises.SyncInfos.{Announces, continuationIds}
 use Rattle.model.proofs.Promises.SeenLaws.{Finished, seenAs, syncInfoOf, Kind, apart, heardTip, Hears, is-heard, kind-of, mode-of}
 use Rattle.model.proofs.Promises.SeenLaws as kinds
-use Rattle.model.proofs.Promises.ListLaws.{all-mapped}
+use Rattle.model.proofs.Promises.ListLaws.{all-mapped, pairwise-map}
+use Rattle.model.proofs.Promises.ItemLaws.{BatchBelow, batches-rise, below-differ, LowerType, batches-types}
 use Rattle.model.proofs.Promises.ModeLaws.{mode-is, mode-is-not, is-synced, no-peer}
 use Rattle.model.proofs.Promises.WordLaws.{listed-first, first-listed}
-use Rattle.model.proofs.Promises.PartLaws.{IsAsk, ActParts, Parts, only-asks, commands-parts}
+use Rattle.model.proofs.Promises.PartLaws.{IsAsk, Differs, AsksApart, no-asks, one-ask, ActParts, Parts, only-asks, commands-parts}
 
 -- ---- what only asks
 
 module _ (st : State) (a : Args) where
-  sections-ask : (height : ℕ) → All IsAsk (sectionsFrom st a height .acts)
+  sections-ask : (height : ℕ) → AsksApart (sectionsFrom st a height .acts)
   unfolding sectionsFrom requestNextSections requestSectionsFrom
   sections-ask height = go (firstOf (a .peers))
     where
-      go : (peer : Option ℕ) → All IsAsk (requestSectionsFrom (a .view) (a .chainHeight) height peer .acts)
-      go none = tt
+      go : (peer : Option ℕ) → AsksApart (requestSectionsFrom (a .view) (a .chainHeight) height peer .acts)
+      go none = no-asks
       go (some peer) =
-          all-mapped IsAsk (λ (b : Batch). ask (b .typeId) (b .peer) [] (b .ids)) (λ b. tt)
-          (batchesOf (windowWithin (min (height + windowSize) (a .chainHeight) - height) (a .view) peer height .items))
+          let items : List Item = windowWithin (min (height + windowSize) (a .chainHeight) - height) (a .view) peer height .items in
+          let asks : Batch → Act = λ (b : Batch). ask (b .typeId) (b .peer) [] (b .ids) in
+          (all-mapped IsAsk asks (λ b. tt) (batchesOf items), pairwise-map asks BatchBelow Differs below-differ (batchesOf items) (batches-rise items))
 
-  orphans-ask : (lost : ℕ) (peer : Option ℕ) → All IsAsk (askOrphans st a lost peer)
+  orphans-ask : (lost : ℕ) (peer : Option ℕ) → AsksApart (askOrphans st a lost peer)
   unfolding askOrphans
-  orphans-ask lost none = tt
+  orphans-ask lost none = no-asks
   orphans-ask lost (some peer) =
-      all-mapped IsAsk (λ (b : Batch). ask (b .typeId) peer (a .stored) (b .ids)) (λ b. tt)
-      (batchesOf (map (λ (r : Request). record { id = r .id; typeId = r .typeId; peer = peer }) (orphansOf lost (st .pending))))
+      let orphan : Request → Item = λ (r : Request). record { id = r .id; typeId = r .typeId; peer = peer } in
+      let items : List Item = map orphan (orphansOf lost (st .pending)) in
+      let asks : Batch → Act = λ (b : Batch). ask (b .typeId) peer (a .stored) (b .ids) in (
+        all-mapped IsAsk asks (λ b. tt) (batchesOf items),
+        pairwise-map asks LowerType Differs (λ b c l t p. lt-irrefl (b .typeId) (omega arith)) (batchesOf items)
+            (batches-types peer items (all-mapped (λ (i : Item). i .peer ≡ peer) orphan (λ r. refl) (orphansOf lost (st .pending)))),
+      )
 
-  fresh-ask : (peer : Option ℕ) → All IsAsk (askFresh peer (a .stored) (st .sync .evicted))
-  fresh-ask none = tt
-  fresh-ask (some peer) = (tt, tt)
+  fresh-ask : (peer : Option ℕ) → AsksApart (askFresh peer (a .stored) (st .sync .evicted))
+  fresh-ask none = no-asks
+  fresh-ask (some peer) = one-ask headerType peer (a .stored) (st .sync .evicted)
 
 -- ---- a finished call, by its plan and its commands
 
@@ -175,12 +182,12 @@ module _ (st : State) (call : Call) where
 
   says : (announced : List Sending) (clock : ℕ) (c : SendClock) (peer : ℕ)
       → ActParts announced (saidTo (throttled (st .settings) clock (c .lastSend)) peer) (map send announced ++ syncInfoTo (st .settings) clock c peer)
-  says announced clock c peer = record { asks = []; parts = ap (λ (acts : List Act). map send announced ++ acts) (say-sends clock c peer); areAsks = tt }
+  says announced clock c peer = record { asks = []; parts = ap (λ (acts : List Act). map send announced ++ acts) (say-sends clock c peer); areAsks = no-asks }
 
   pub course-acts : {announced said : List Sending} {p : Plan} → Course announced said p → ActParts announced said (p .acts)
   unfolding argsOf picks entersSyncing resetSends answers ticksSyncing ticksSynced progresses sayTo unmarked
   course-acts (passes q) = q .acts
-  course-acts (nobody k e) = only-asks [] tt
+  course-acts (nobody k e) = only-asks [] no-asks
   course-acts (chooses peer k e) = says [] (call .clock) (resetSends (st .sync .sendClock)) peer
   course-acts (ahead announced tip k) = says announced (call .clock) (st .sync .sendClock) (call .peer)
   course-acts (replies announced tip k) = says announced (call .clock) (st .sync .sendClock) (call .peer)
@@ -217,7 +224,7 @@ module _ (st : State) (call : Call) where
   abbrev tracked : Sync → Sync
   tracked s = withEvicted (withKnownTip (withDownloaded s 0) 0) []
 
-  goes-on : (p : Plan) → Silent p → All IsAsk (p .acts) → outcomeNumber (p .outcome) ≡ numbers.saysContinue
+  goes-on : (p : Plan) → Silent p → AsksApart (p .acts) → outcomeNumber (p .outcome) ≡ numbers.saysContinue
       → tracked (p .sync) ≡ tracked (unmarked st (argsOf call)) → Course [] [] p
   unfolding unmarked
   goes-on p silent w o e =
@@ -234,7 +241,7 @@ module _ (st : State) (call : Call) where
         entrySent = ap (λ (s : Sync). s .entrySent) e;
       })
 
-  is-left : (outcome : Outcome) (mode : Mode) (acts : List Act) → Silent (leaves st (argsOf call) outcome mode acts) → All IsAsk acts
+  is-left : (outcome : Outcome) (mode : Mode) (acts : List Act) → Silent (leaves st (argsOf call) outcome mode acts) → AsksApart acts
       → eqb (outcomeNumber outcome) numbers.saysBehindPeer ≡ false → eqb (outcomeNumber outcome) numbers.saysStalled ≡ false
       → hasSyncPeer mode ≡ false → Course [] [] (leaves st (argsOf call) outcome mode acts)
   unfolding leaves withoutPeer
@@ -275,7 +282,7 @@ module _ (st : State) (call : Call) where
       go true =
           let asks : List Act = sectionsFrom st (argsOf call) (st .sync .downloaded) .acts in
           record { asks = asks; parts = rw (append-nil asks); areAsks = sections-ask st (argsOf call) (st .sync .downloaded) }
-      go false = record { asks = []; parts = refl; areAsks = tt }
+      go false = record { asks = []; parts = refl; areAsks = no-asks }
 
 -- ---- announcements
 
@@ -447,7 +454,7 @@ module _ (st : State) (call : Call) where
             nobody = λ peer e f. false≢true (ap isSome (sym l ∙ first-listed peer (peersIn (call .peers)) f));
             usedTick = λ e. refl;
           } in
-          ([], is-left st call SyncPeerGone seeking [] silent tt refl refl refl)
+          ([], is-left st call SyncPeerGone seeking [] silent no-asks refl refl refl)
       go false m late (some peer) l =
           (saidTo (isQuiet st call) peer, visits peer k (is-synced (st .mode) h m) (listed-first peer (peersIn (call .peers)) l))
 
@@ -495,11 +502,12 @@ module _ (st : State) (call : Call) where
   hears-announced peer typeId [] k =
       either (Course st call [] []) (eqb typeId headerType) (isAtTip st (argsOf call) [] (st .sync .knownTip)) (continues st (argsOf call) [])
       (is-at-tip st call [] (st .sync .knownTip) (plain-silent st call (isAtTip st (argsOf call) [] (st .sync .knownTip)) k))
-      (goes-on st call (continues st (argsOf call) []) (plain-silent st call (continues st (argsOf call) []) k) tt refl refl)
+      (goes-on st call (continues st (argsOf call) []) (plain-silent st call (continues st (argsOf call) []) k) no-asks refl refl)
   hears-announced peer typeId (id ∷ ids) k =
       let asks : List Act = cond (isAnnounceable typeId) (ask typeId peer (argsOf call .stored) (id ∷ ids) ∷ []) [] in
       goes-on st call (continues st (argsOf call) asks) (plain-silent st call (continues st (argsOf call) asks) k)
-      (either (All IsAsk) (isAnnounceable typeId) (ask typeId peer (argsOf call .stored) (id ∷ ids) ∷ []) [] (tt, tt) tt) refl refl
+      (either AsksApart (isAnnounceable typeId) (ask typeId peer (argsOf call .stored) (id ∷ ids) ∷ []) []
+      (one-ask typeId peer (argsOf call .stored) (id ∷ ids)) no-asks) refl refl
 
   loses-peer : (peer : ℕ) → isPlain (call .kind) ≡ true → Course st call [] [] (loses st (argsOf call) peer)
   unfolding loses continues
@@ -508,8 +516,8 @@ module _ (st : State) (call : Call) where
       let asks : List Act = cond (isMode (st .mode) syncing) orphans [] in
       either (Course st call [] []) (eqb peer (st .sync .syncPeer)) (leaves st (argsOf call) SyncPeerGone seeking asks) (continues st (argsOf call) [])
       (is-left st call SyncPeerGone seeking asks (plain-silent st call (leaves st (argsOf call) SyncPeerGone seeking asks) k)
-      (either (All IsAsk) (isMode (st .mode) syncing) orphans [] (orphans-ask st (argsOf call) peer (firstOf (argsOf call .peers))) tt) refl refl refl)
-      (goes-on st call (continues st (argsOf call) []) (plain-silent st call (continues st (argsOf call) []) k) tt refl refl)
+      (either AsksApart (isMode (st .mode) syncing) orphans [] (orphans-ask st (argsOf call) peer (firstOf (argsOf call .peers))) no-asks) refl refl refl)
+      (goes-on st call (continues st (argsOf call) []) (plain-silent st call (continues st (argsOf call) []) k) no-asks refl refl)
 
   requests-next : (height : ℕ) → Silent st call (advancesAndRequests st (argsOf call) height)
       → Course st call [] [] (advancesAndRequests st (argsOf call) height)
@@ -519,7 +527,7 @@ module _ (st : State) (call : Call) where
 
   told-of : (step : Step) → Kind call step → ofMode (st .mode) (st .sync .entrySent) step ≡ true → Told step
   unfolding planOf ofMode argsOf continues advances checks evicts unmarked
-  told-of Steps.start (kinds.start k) m = plain Steps.start 1 refl k (λ s. goes-on st call (advances st (argsOf call) seeking) s tt refl refl)
+  told-of Steps.start (kinds.start k) m = plain Steps.start 1 refl k (λ s. goes-on st call (advances st (argsOf call) seeking) s no-asks refl refl)
   told-of Steps.pick (kinds.pick k) m = untold Steps.pick (λ e. apart k e refl) (picks-says k)
   told-of Steps.progress (kinds.progress k) m = untold Steps.progress (λ e. apart k e refl) (progress-says k)
   told-of Steps.check (kinds.check k) m =
@@ -529,15 +537,16 @@ module _ (st : State) (call : Call) where
       untold Steps.scheduledTick (λ e. apart k e refl) (ticks-says k m (settings.stalled (st .settings) (call .clock) (st .sync .lastProgress)))
   told-of Steps.sectionTick (kinds.sectionTick k) m =
       plain Steps.sectionTick 14 refl k (requests-next (st .sync .downloaded))
-  told-of Steps.sendFailure (kinds.sendFailure k) m = plain Steps.sendFailure 15 refl k (λ s. is-left st call SyncPeerGone seeking [] s tt refl refl refl)
+  told-of Steps.sendFailure (kinds.sendFailure k) m = plain Steps.sendFailure 15 refl k (λ s. is-left st call SyncPeerGone seeking [] s no-asks refl refl refl)
   told-of Steps.endOfStream (kinds.endOfStream k) m =
       plain Steps.endOfStream 16 refl k
-      (λ s. is-left st call EndOfStream (cond (isMode (st .mode) seeking) ended seeking) [] s tt refl refl
+      (λ s. is-left st call EndOfStream (cond (isMode (st .mode) seeking) ended seeking) [] s no-asks refl refl
       (either (λ (mode : Mode). hasSyncPeer mode ≡ false) (isMode (st .mode) seeking) ended seeking refl refl))
-  told-of Steps.otherMessage (kinds.otherMessage k) m = plain Steps.otherMessage 7 refl k (λ s. goes-on st call (continues st (argsOf call) []) s tt refl refl)
+  told-of Steps.otherMessage (kinds.otherMessage k) m = plain Steps.otherMessage 7 refl k (λ s. goes-on st call (continues st (argsOf call) []) s no-asks refl refl)
   told-of (Steps.neededModifier typeId ids) (kinds.neededModifier k) m =
       plain (Steps.neededModifier typeId ids) 3 refl k
-      (λ s. goes-on st call (continues st (argsOf call) (ask typeId (st .sync .syncPeer) (argsOf call .stored) ids ∷ [])) s (tt, tt) refl refl)
+      (λ s. goes-on st call (continues st (argsOf call) (ask typeId (st .sync .syncPeer) (argsOf call .stored) ids ∷ [])) s
+      (one-ask typeId (st .sync .syncPeer) (argsOf call .stored) ids) refl refl)
   told-of (Steps.reorg fork) (kinds.reorg k) m =
       plain (Steps.reorg fork) 4 refl k (requests-next (min (st .sync .downloaded) fork))
   told-of (Steps.announced peer typeId ids) (kinds.announcedIds k) m =
@@ -545,8 +554,8 @@ module _ (st : State) (call : Call) where
   told-of (Steps.syncInfo peer parsed tip ids) (kinds.syncInfo k) m = hears k
   told-of (Steps.lostPeer peer) (kinds.lostPeer k) m = plain (Steps.lostPeer peer) 8 refl k (λ s. loses-peer peer (ap isPlain k))
   told-of (Steps.received ids) (kinds.receivedIds k) m =
-      plain (Steps.received ids) 9 refl k (λ s. goes-on st call (advances st (argsOf call) (st .mode)) s tt refl refl)
-  told-of (Steps.evicted ids) (kinds.evictedIds k) m = plain (Steps.evicted ids) 10 refl k (λ s. goes-on st call (evicts st (argsOf call) ids) s tt refl refl)
+      plain (Steps.received ids) 9 refl k (λ s. goes-on st call (advances st (argsOf call) (st .mode)) s no-asks refl refl)
+  told-of (Steps.evicted ids) (kinds.evictedIds k) m = plain (Steps.evicted ids) 10 refl k (λ s. goes-on st call (evicts st (argsOf call) ids) s no-asks refl refl)
 
   retries-none : (announced : List Sending) (t : Bool) (items : List Item) → (t ≡ false) ⊎ (announced ≡ [])
       → (retrySendings (cond t items []) ≡ []) ⊎ (announced ≡ [])

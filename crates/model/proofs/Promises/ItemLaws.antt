@@ -158,6 +158,11 @@ pub batches-rise : (items : List Item) → Pairwise BatchBelow (batchesOf items)
 unfolding batchesOf
 batches-rise items = adjacent-rises (sorted itemBelow items) (sorted-rises itemBelow item-order items)
 
+-- so no two are of one type and peer
+pub below-differ : (b c : Batch) → BatchBelow b c → b .typeId ≡ c .typeId → b .peer ≡ c .peer → ⊥
+below-differ b c (inl l) t p = omega arith
+below-differ b c (inr h) t p = omega (arith, h .1)
+
 -- ---- batches of one peer
 
 abbrev pub OfPeer : ℕ → List Item → Type 0
