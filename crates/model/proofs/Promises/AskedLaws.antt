@@ -35,7 +35,7 @@ Says (send (request typeId peer ids)) = ⊥
 Says (send (announcement peer ids)) = Unit {0}
 Says (send (syncInfo peer)) = Unit {0}
 
-pub sync-info-says : (settings : Settings) (clock : ℕ) (sendClock : SendClock) (peer : ℕ) → All Says (syncInfoTo settings clock sendClock peer)
+sync-info-says : (settings : Settings) (clock : ℕ) (sendClock : SendClock) (peer : ℕ) → All Says (syncInfoTo settings clock sendClock peer)
 unfolding syncInfoTo
 sync-info-says settings clock sendClock peer =
     either (All Says) (throttled settings clock (sendClock .lastSend)) [] (send (syncInfo peer) ∷ []) tt (tt, tt)

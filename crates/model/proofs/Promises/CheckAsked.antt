@@ -44,7 +44,7 @@ use Rattle.model.proofs.Promises.LeftLaws.{Left, left-of, came-from, be
 
 -- ---- by target, then type
 
-pub targets-rise : (items : List Item) → Rising itemBelow items → TargetsRise (map requestedItem items)
+targets-rise : (items : List Item) → Rising itemBelow items → TargetsRise (map requestedItem items)
 targets-rise [] r = tt
 targets-rise (x ∷ items) r = (
   all-map (λ (y : Item). itemBelow y x ≡ false)
@@ -67,7 +67,7 @@ of-peer-kept peer typeId (i ∷ items) = go (isOf peer typeId i) (of-peer-kept p
     go false e = e
 
 -- they are asked for in the order of their requests
-pub of-peer-retries : (listed : List ℕ) (due : Request → Bool) (rs : List Request) (peer typeId : ℕ)
+of-peer-retries : (listed : List ℕ) (due : Request → Bool) (rs : List Request) (peer typeId : ℕ)
     → ofPeer peer typeId (map requestedItem (sorted itemBelow (map (retryOf listed) (kept due rs))))
     ≡ idsOf (kept (λ (r : Request). due r && isOf peer typeId (retryOf listed r)) rs)
 unfolding retryOf

@@ -103,7 +103,7 @@ seen-by st call = refl
 
 -- ---- kinds that neither rule 1 nor rule 2 speaks of
 
-abbrev pub isPlain : ℕ → Bool
+abbrev isPlain : ℕ → Bool
 isPlain kind = not (eqb kind numbers.pick || (eqb kind numbers.syncInfo || (eqb kind numbers.progress || eqb kind numbers.scheduledTick)))
 
 plain-not : (kind other : ℕ) → isPlain kind ≡ true → isPlain other ≡ false → kind ≡ other → ⊥

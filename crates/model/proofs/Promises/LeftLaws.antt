@@ -76,7 +76,7 @@ module _ (s : Seen) where
     abbrev still : List Request → List Request
     still rs = checked (s .before .settings) (s .call .clock) target rs
 
-    pub left-checked : (rs : List Request) → All (λ (r : Request). r .stamp ≤ s .call .clock) rs → Left rs (still rs)
+    left-checked : (rs : List Request) → All (λ (r : Request). r .stamp ≤ s .call .clock) rs → Left rs (still rs)
     unfolding restarted
     left-checked [] h = nothing
     left-checked (r ∷ rs) h = go (verdict (s .before .settings) (s .call .clock) r) (made s check r (h .0)) (left-checked rs (h .1))

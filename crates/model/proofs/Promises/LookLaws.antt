@@ -52,7 +52,7 @@ module _ (s : Seen) where
   pub starts-here : (s .call .kind ≡ numbers.reorg → ⊥) → StartsFrom s here
   starts-here other = record { inReorg = λ e. absurd (other e); elsewhere = λ o. refl; noHigher = omega arith }
 
-  pub starts-lower : s .call .kind ≡ numbers.reorg → StartsFrom s (min here (s .call .fork))
+  starts-lower : s .call .kind ≡ numbers.reorg → StartsFrom s (min here (s .call .fork))
   starts-lower k =
       record { inReorg = λ e. (either-least here (s .call .fork), omega arith); elsewhere = λ o. absurd (o k); noHigher = omega arith }
 
@@ -154,7 +154,7 @@ abbrev pub window : Seen → ℕ → Sections
 window s from = requestNextSections (view s) (s .call .height) from (peers s)
 
 -- A plan that leaves the height and reads none.
-abbrev pub Still : Seen → Plan → Type 0
+abbrev Still : Seen → Plan → Type 0
 Still s p = (p .sync .downloaded ≡ here s) × (p .inView ≡ true)
 
 -- A plan runs rule 5, rule 4, both or neither, as the promises say; the downloaded height and the heights read are those of the rules.

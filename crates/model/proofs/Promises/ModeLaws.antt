@@ -15,7 +15,7 @@ module _ (mode other : Mode) where
   pub mode-is : isMode mode other ≡ true → mode ≡ other
   mode-is e = number-is (eqb-true (modeNumber mode) (modeNumber other) e)
 
-  pub is-mode : mode ≡ other → isMode mode other ≡ true
+  is-mode : mode ≡ other → isMode mode other ≡ true
   is-mode e = eq-eqb (modeNumber mode) (modeNumber other) (ap modeNumber e)
 
   pub mode-is-not : isMode mode other ≡ false → mode ≡ other → ⊥

@@ -224,7 +224,7 @@ few-outcomes Stalled = omega arith
 few-outcomes EndOfStream = omega arith
 
 -- outcomes with one number are one
-pub outcome-is : (o p : Outcome) → outcomeNumber o ≡ outcomeNumber p → o ≡ p
+outcome-is : (o p : Outcome) → outcomeNumber o ≡ outcomeNumber p → o ≡ p
 outcome-is o p e = sym (numbered o) ∙ ap outcomeOf e ∙ numbered p
 
 -- the mode that an outcome leads to

@@ -48,7 +48,7 @@ no-asks = (tt, tt)
 pub one-ask : (typeId peer : ℕ) (pairs : List Pair) (ids : List Id) → AsksApart (ask typeId peer pairs ids ∷ [])
 one-ask typeId peer pairs ids = ((tt, tt), (tt, tt))
 
-abbrev pub IsRequest : Sending → Type 0
+abbrev IsRequest : Sending → Type 0
 IsRequest (request typeId peer ids) = Unit {0}
 IsRequest (announcement peer ids) = ⊥
 IsRequest (syncInfo peer) = ⊥
@@ -62,16 +62,16 @@ ask-requests true clock (ask typeId peer pairs ids) rs w = request-requests type
 ask-requests false clock (ask typeId peer pairs ids) rs w = tt
 ask-requests gate clock (send s) rs w = absurd w
 
-pub asks-request : (gate : Bool) (clock : ℕ) (acts : List Act) (rs : List Request) → All IsAsk acts → All IsRequest (performAll gate clock acts rs .sendings)
+asks-request : (gate : Bool) (clock : ℕ) (acts : List Act) (rs : List Request) → All IsAsk acts → All IsRequest (performAll gate clock acts rs .sendings)
 asks-request gate clock acts rs w = performed-each gate clock IsAsk IsRequest (ask-requests gate clock) acts rs w
 
-pub retries-request : (items : List Item) → All IsRequest (retrySendings items)
+retries-request : (items : List Item) → All IsRequest (retrySendings items)
 unfolding retrySendings
 retries-request items = all-mapped IsRequest (λ (b : Batch). request (b .typeId) (b .peer) (b .ids)) (λ b. tt) (batchesOf items)
 
 -- ---- one act after another
 
-pub performed-append : (gate : Bool) (clock : ℕ) (acts others : List Act) (rs : List Request)
+performed-append : (gate : Bool) (clock : ℕ) (acts others : List Act) (rs : List Request)
     → performAll gate clock (acts ++ others) rs .sendings
     ≡ performAll gate clock acts rs .sendings ++ performAll gate clock others (performAll gate clock acts rs .pending) .sendings
 performed-append gate clock [] others rs = refl
@@ -82,7 +82,7 @@ performed-append gate clock (act ∷ acts) others rs =
     (append-assoc (one .sendings) (performAll gate clock acts (one .pending) .sendings)
     (performAll gate clock others (performAll gate clock acts (one .pending) .pending) .sendings))
 
-pub sends-performed : (gate : Bool) (clock : ℕ) (sendings : List Sending) (rs : List Request)
+sends-performed : (gate : Bool) (clock : ℕ) (sendings : List Sending) (rs : List Request)
     → performAll gate clock (map send sendings) rs .sendings ≡ sendings
 sends-performed gate clock [] rs = refl
 sends-performed gate clock (s ∷ sendings) rs = ap (λ (ss : List Sending). s ∷ ss) (sends-performed gate clock sendings rs)
@@ -111,7 +111,7 @@ request-kind batch (request typeId peer ids) w =
 request-kind batch (announcement peer ids) w = absurd w
 request-kind batch (syncInfo peer) w = absurd w
 
-pub requests-kind : (batch : ℕ) (sendings : List Sending) → All IsRequest sendings → All (OfKind numbers.aRequest) (commandsFrom batch sendings)
+requests-kind : (batch : ℕ) (sendings : List Sending) → All IsRequest sendings → All (OfKind numbers.aRequest) (commandsFrom batch sendings)
 requests-kind batch [] w = tt
 requests-kind batch (s ∷ sendings) w =
     all-append (OfKind numbers.aRequest) (commandsOf batch s) (commandsFrom (suc batch) sendings) (request-kind batch s (w .0))

@@ -248,10 +248,10 @@ module _ (st : State) (call : Call) (f : Finished st call) where
 
   -- ---- the promise
 
-  pub pending-stays : (r : Request) → Among r (st .pending) → (TakenOut s r → ⊥) → (later : Request) × Becomes s r later × Among later now
+  pending-stays : (r : Request) → Among r (st .pending) → (TakenOut s r → ⊥) → (later : Request) × Becomes s r later × Among later now
   pending-stays r a n = ⊎-elim (λ t. absurd (n t)) (λ p. (p .0, p .1, grows .stays (p .0) (p .2))) (left-of s left r a)
 
-  pub pending-comes : (r : Request) → Among r now → Stayed s r ⊎ Entered s r
+  pending-comes : (r : Request) → Among r now → Stayed s r ⊎ Entered s r
   pending-comes r a = ⊎-elim (λ b. inl (stayed b)) (λ n. inr (entered n)) (grows .comes r a)
     where
       stayed : Among r (middle (stepOf call)) → Stayed s r
@@ -305,7 +305,7 @@ module _ (st : State) (call : Call) (f : Finished st call) where
           (q .0, q .2, moved-on (p .2) (p .3) (q .1) ∙ ap requestedItem (sym (p .4)))
       go false e b = absurd b
 
-  pub pending-asked : (q : Requested) → Among q (requestedIn (commands st (argsOf call))) → (r : Request) × Among r now × (asRequested r ≡ q)
+  pending-asked : (q : Requested) → Among q (requestedIn (commands st (argsOf call))) → (r : Request) × Among r now × (asRequested r ≡ q)
   pending-asked q a = ⊎-elim first (grows .there q) (among-either q askedFirst askedLater (subst (Among q) (asked-parts st (argsOf call)) a))
     where
       first : Among q askedFirst → (r : Request) × Among r now × (asRequested r ≡ q)

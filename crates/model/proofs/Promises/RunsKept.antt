@@ -110,7 +110,7 @@ module _ (P : State → Book → List Seen → Type 0)
       (w .1) (called-in-service core l (w .0) h) (called-keeps core l finished (w .0) h p)
 
   -- From a fresh core on.
-  pub any-run-keeps : (area : List ℕ) (o : Opening) (calls : List Lent) → length area ≡ areaSize → OpeningInWidth o
+  any-run-keeps : (area : List ℕ) (o : Opening) (calls : List Lent) → length area ≡ areaSize → OpeningInWidth o
       → All (λ (l : Lent). InWidth (l .call)) calls → P (opened (o .settings) (o .clock) (o .height)) (emptyBook (o .settings)) []
       → Now (calledAll calls (freshCore area o)) (history calls (freshCore area o) [])
   any-run-keeps area o calls e w ws p =
@@ -174,14 +174,14 @@ told-keeps st b finished call outcome bytes f agreement h =
 
 module _ (area : List ℕ) (o : Opening) (calls : List Lent) (size : length area ≡ areaSize) (width : OpeningInWidth o)
     (widths : All (λ (l : Lent). InWidth (l .call)) calls) where
-  pub any-run-spaced : Spaced (o .settings .minSendInterval) (o .clock) (history calls (freshCore area o) [])
+  any-run-spaced : Spaced (o .settings .minSendInterval) (o .clock) (history calls (freshCore area o) [])
   unfolding opened
   any-run-spaced =
       any-run-keeps (λ st b finished. Sent o st finished) (λ st b finished call outcome bytes f agreement h. sent-keeps o st finished call f h)
       area o calls size width widths
       (record { settings = refl; since = omega arith; earlier = tt; spaced = tt }) .spaced
 
-  pub any-run-told : ToldInAll (history calls (freshCore area o) []) (bookOf (calledAll calls (freshCore area o) .path))
+  any-run-told : ToldInAll (history calls (freshCore area o) []) (bookOf (calledAll calls (freshCore area o) .path))
   unfolding emptyBook endedFor
   any-run-told =
       any-run-keeps (λ st b finished. ToldInAll finished b) told-keeps area o calls size width widths

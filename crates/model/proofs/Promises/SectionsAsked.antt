@@ -116,7 +116,7 @@ reached (suc n) view peer height e = go (view (suc height)) refl e (reached n vi
 -- ---- rule 4
 
 -- What is asked for from a height on, where `Then` says what was pending.
-pub record AskedWindow (view : View) (chainHeight height peer : ℕ) (Then : Id → Type 0) (asked : List Requested) : Type 0 where
+record AskedWindow (view : View) (chainHeight height peer : ℕ) (Then : Id → Type 0) (asked : List Requested) : Type 0 where
   pub heights : ℕ
   pub few : heights ≤ 192
   pub ours : (heights ≡ 0) ⊎ (height + heights ≤ chainHeight)

@@ -131,7 +131,7 @@ module _ (st : State) (call : Call) (f : Finished st call) where
   InTime r = r .stamp ≤ call .clock
 
   -- of what a check alone makes of a request
-  pub count-told : (what : Verdict) → ((r : Request) → Made s r what → call .kind ≡ Numbers.check)
+  count-told : (what : Verdict) → ((r : Request) → Made s r what → call .kind ≡ Numbers.check)
       → Counted (λ r. Made s r what) (st .pending) (countOf st (argsOf call) what)
   unfolding countOf argsOf judged
   count-told what ofCheck = go (isCheck (stepOf call)) (is-check st call f)
@@ -155,7 +155,7 @@ module _ (st : State) (call : Call) (f : Finished st call) where
       (all-weaker InTime (λ r. Tells (not (isJudged Delivery.waiting r)) (Overdue s r → ⊥)) (waits (st .settings) (call .clock)) (st .pending)
       (stamps-past st call f))
 
-  pub counts-add : call .kind ≡ Numbers.check
+  counts-add : call .kind ≡ Numbers.check
       → countOf st (argsOf call) Delivery.retried + countOf st (argsOf call) Delivery.abandoned + countOf st (argsOf call) Delivery.forgotten
       + length (those Delivery.waiting)
       ≡ length (st .pending)
@@ -163,15 +163,15 @@ module _ (st : State) (call : Call) (f : Finished st call) where
       rw (count-checked k Delivery.retried, count-checked k Delivery.abandoned, count-checked k Delivery.forgotten)
       (judged-all (st .settings) (call .clock) (st .pending))
 
-  pub fresh-told : call .kind ≡ Numbers.check → freshCount st (argsOf call) ≡ length (st .sync .evicted)
+  fresh-told : call .kind ≡ Numbers.check → freshCount st (argsOf call) ≡ length (st .sync .evicted)
   unfolding freshCount argsOf
   fresh-told k = rw (sym (is-check st call f) ∙ eq-eqb (call .kind) Numbers.check k)
 
-  pub none-fresh : (call .kind ≡ Numbers.check → ⊥) → freshCount st (argsOf call) ≡ 0
+  none-fresh : (call .kind ≡ Numbers.check → ⊥) → freshCount st (argsOf call) ≡ 0
   unfolding freshCount argsOf
   none-fresh n = rw (sym (is-check st call f) ∙ ne-eqb (call .kind) Numbers.check n)
 
-  pub bytes-told : length (stepBytes st (argsOf call)) ≡ bytesOf (commands st (argsOf call))
+  bytes-told : length (stepBytes st (argsOf call)) ≡ bytesOf (commands st (argsOf call))
   unfolding stepBytes
   bytes-told = bytes-counted (commands st (argsOf call)) (commands-in-width st call (f .well) (f .width) (none-refused st call (f .passed)))
 

@@ -157,7 +157,7 @@ module _ (s : Seen) (check : s .call .kind ≡ Numbers.check) (r : Request) (sta
   made-verdict v e = subst (Made s r) e made
 
 -- A check takes out what it abandons or forgets, and nothing else.
-pub taken-by-check : (s : Seen) (r : Request) → s .call .kind ≡ Numbers.check → TakenOut s r → Abandoned s r ⊎ Forgotten s r
+taken-by-check : (s : Seen) (r : Request) → s .call .kind ≡ Numbers.check → TakenOut s r → Abandoned s r ⊎ Forgotten s r
 taken-by-check s r check (pending.received e among) = absurd (omega (arith, e, check))
 taken-by-check s r check (pending.evicted e among) = absurd (omega (arith, e, check))
 taken-by-check s r check (pending.purged e) = absurd (omega (arith, e, check))

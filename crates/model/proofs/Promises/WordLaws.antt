@@ -47,7 +47,7 @@ passes-among id (other ∷ others) e = go (either-true (same id other) (isAmong 
     go (inl s) rest = inl (same-eq id other s)
     go (inr s) rest = inr (rest s)
 
-pub fails-among : (id : Id) (ids : List Id) → isAmong id ids ≡ false → Among id ids → ⊥
+fails-among : (id : Id) (ids : List Id) → isAmong id ids ≡ false → Among id ids → ⊥
 fails-among id ids e h = not-both (isAmong id ids) (among-passes id ids h) e
 
 pub not-among : (id : Id) (ids : List Id) → (Among id ids → ⊥) → isAmong id ids ≡ false
@@ -99,7 +99,7 @@ one-request (s ∷ rs) d q r (inr a) (inr b) i = one-request rs (d .1) q r a b i
 abbrev pub pairOf : ℕ → Id → Pair
 pairOf typeId id = record { typeId = typeId; id = id }
 
-pub stored-passes : (pairs : List Pair) (typeId : ℕ) (id : Id) → Among (pairOf typeId id) pairs → isStored pairs typeId id ≡ true
+stored-passes : (pairs : List Pair) (typeId : ℕ) (id : Id) → Among (pairOf typeId id) pairs → isStored pairs typeId id ≡ true
 unfolding isStored
 stored-passes [] typeId id h = absurd h
 stored-passes (p ∷ pairs) typeId id (inl e) =
