@@ -113,7 +113,8 @@ module _ (st : State) (call : Call) (f : Finished st call) where
         go : (t : Bool) → isMode (st .mode) syncing ≡ t
             → All Says (acts ++ (cond t (sectionsFrom st a (st .sync .downloaded)) (record { acts = []; inView = true })) .acts)
         go true e =
-            all-append Says acts (sectionsFrom st a (st .sync .downloaded) .acts) w (sections-say (st .sync .downloaded) (onEntry h (mode-is (st .mode) syncing e)))
+            all-append Says acts (sectionsFrom st a (st .sync .downloaded) .acts) w
+            (sections-say (st .sync .downloaded) (onEntry h (mode-is (st .mode) syncing e)))
         go false e = all-append Says acts [] w tt
 
     answers-says : (peer : ℕ) (acts : List Act) (tip : ℕ) (outcome : Outcome) → All Says acts → (outcome ≡ Synced → NothingAhead (seenAs st call))
@@ -164,7 +165,8 @@ module _ (st : State) (call : Call) (f : Finished st call) where
         go : (t m : Bool) → eqb (call .peer) (st .sync .syncPeer) ≡ t → isMode (st .mode) syncing ≡ m
             → All Says ((cond t (leaves st a SyncPeerGone seeking (cond m (askOrphans st a (call .peer) (firstOf (a .peers))) [])) (continues st a [])) .acts)
         go true true e h =
-            orphans-say (record { kind = k; mode = mode-is (st .mode) syncing h; lost = eqb-true (call .peer) (st .sync .syncPeer) e }) (peersIn (call .peers)) refl
+            orphans-say (record { kind = k; mode = mode-is (st .mode) syncing h; lost = eqb-true (call .peer) (st .sync .syncPeer) e })
+            (peersIn (call .peers)) refl
         go true false e h = tt
         go false m e h = tt
 

@@ -542,7 +542,8 @@ module _ (st : State) (call : Call) where
       plain Steps.endOfStream 16 refl k
       (λ s. is-left st call EndOfStream (cond (isMode (st .mode) seeking) ended seeking) [] s no-asks refl refl
       (either (λ (mode : Mode). hasSyncPeer mode ≡ false) (isMode (st .mode) seeking) ended seeking refl refl))
-  told-of Steps.otherMessage (kinds.otherMessage k) m = plain Steps.otherMessage 7 refl k (λ s. goes-on st call (continues st (argsOf call) []) s no-asks refl refl)
+  told-of Steps.otherMessage (kinds.otherMessage k) m =
+      plain Steps.otherMessage 7 refl k (λ s. goes-on st call (continues st (argsOf call) []) s no-asks refl refl)
   told-of (Steps.neededModifier typeId ids) (kinds.neededModifier k) m =
       plain (Steps.neededModifier typeId ids) 3 refl k
       (λ s. goes-on st call (continues st (argsOf call) (ask typeId (st .sync .syncPeer) (argsOf call .stored) ids ∷ [])) s
@@ -555,7 +556,8 @@ module _ (st : State) (call : Call) where
   told-of (Steps.lostPeer peer) (kinds.lostPeer k) m = plain (Steps.lostPeer peer) 8 refl k (λ s. loses-peer peer (ap isPlain k))
   told-of (Steps.received ids) (kinds.receivedIds k) m =
       plain (Steps.received ids) 9 refl k (λ s. goes-on st call (advances st (argsOf call) (st .mode)) s no-asks refl refl)
-  told-of (Steps.evicted ids) (kinds.evictedIds k) m = plain (Steps.evicted ids) 10 refl k (λ s. goes-on st call (evicts st (argsOf call) ids) s no-asks refl refl)
+  told-of (Steps.evicted ids) (kinds.evictedIds k) m =
+      plain (Steps.evicted ids) 10 refl k (λ s. goes-on st call (evicts st (argsOf call) ids) s no-asks refl refl)
 
   retries-none : (announced : List Sending) (t : Bool) (items : List Item) → (t ≡ false) ⊎ (announced ≡ [])
       → (retrySendings (cond t items []) ≡ []) ⊎ (announced ≡ [])

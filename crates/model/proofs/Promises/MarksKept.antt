@@ -14,7 +14,8 @@ use Rattle.model.specs.State.{Mode, seeking, syncing, synced, isMode, St
 use Rattle.model.specs.Peers.{isListed, firstOf, orElse, isSome, firstUnstalled, selectPeer, stalledAfterSelect, joinStalled, resetSends}
 use Rattle.model.specs.Requests.{Sending, Command}
 use Rattle.model.specs.Steps
-use Rattle.model.specs.Steps.{entersSyncing, picks, answers, ticksSyncing, ticksSynced, progresses, withoutPeer, Step, Plan, ofMode, plan, after, commands}
+use Rattle.model.specs.Steps.{entersSyncing, picks, answers, ticksSyncing, ticksSynced, progresses, withoutPeer}
+use Rattle.model.specs.Steps.{Step, Plan, ofMode, plan, after, commands}
 use Rattle.model.specs.Calls.{Call, argsOf, stepOf}
 use Rattle.model.specs.Promises.Numbers
 use Rattle.model.specs.Promises.Words.{Seen, peers, Among}
@@ -180,7 +181,8 @@ module _ (st : State) (call : Call) where
   abbrev Peerless : Plan → Type 0
   Peerless p = (p .mode ≡ syncing → ⊥) → (p .mode ≡ synced → ⊥) → p .sync .syncPeer ≡ 0
 
-  course-peer : {announced said : List Sending} {p : Plan} → Course st call announced said p → (sent : List Command) → Peerless p → SyncPeer (seenBy st call p sent)
+  course-peer : {announced said : List Sending} {p : Plan} → Course st call announced said p → (sent : List Command) → Peerless p
+      → SyncPeer (seenBy st call p sent)
   unfolding argsOf picks entersSyncing answers ticksSyncing ticksSynced progresses Steps.unmarked withoutPeer
   course-peer {p = p} (courses.passes q) sent alone = peer-stays (λ e. q .silent .notPick (e .kind)) (q .notBehind) (q .syncPeer) alone
   course-peer {p = p} (courses.nobody k e) sent alone = peer-stays (λ q. mode-is-not seeking syncing refl (q .mode)) (eqb-false 0 2 refl) (λ m. refl) alone
@@ -278,7 +280,8 @@ module _ {s : Seen} where
 module _ (s : Seen) (infos : SyncInfos s) where
   one-said : (c : Command) → infos .said ≡ c ∷ [] → c .kind ≡ Numbers.aSyncInfo → SaysSyncInfo s
   one-said c e k =
-      promised.said c (subst (Among c) (sym (infos .parts ∙ ap (λ (cs : List Command). infos .others ++ cs) e)) (among-back c (infos .others) (c ∷ []) (inl refl))) k
+      let parts : s .sent ≡ infos .others ++ (c ∷ []) = infos .parts ∙ ap (λ (cs : List Command). infos .others ++ cs) e in
+      promised.said c (subst (Among c) (sym parts) (among-back c (infos .others) (c ∷ []) (inl refl))) k
 
   entry-mark : (peer : ℕ) → SpeaksTo s peer → Enters s → (quiet : Bool) → s .after .sync .entrySent ≡ not quiet → (quiet ≡ false → Due s)
       → (quiet ≡ true → Due s → ⊥) → (s .after .sync .entrySent ≡ true) ↔ (Enters s × SaysSyncInfo s)

@@ -29,7 +29,8 @@ use Rattle.model.proofs.Well.{RisingIds}
 use Rattle.model.proofs.Promises.SeenLaws as kinds
 use Rattle.model.proofs.Promises.SeenLaws.{seenAs, Finished, step-of}
 use Rattle.model.proofs.Promises.ListLaws.{among-kept, all-mapped}
-use Rattle.model.proofs.Promises.WordLaws.{pending-request, one-request, passes-stored, stored-tells, first-listed, left-kept-twice, left-within, left-only}
+use Rattle.model.proofs.Promises.WordLaws.{pending-request, one-request, passes-stored, stored-tells, first-listed}
+use Rattle.model.proofs.Promises.WordLaws.{left-kept-twice, left-within, left-only}
 use Rattle.model.proofs.Promises.TellsLaws.{tells-not}
 use Rattle.model.proofs.Promises.AskedLaws.{askedBy, asked-by}
 use Rattle.model.proofs.Promises.ByTypeLaws.{ofType, Known, ByType, asks, asked-by-type}
@@ -47,14 +48,16 @@ kept-twice f g id rs d m n =
 -- ---- the ids of a peer that is lost
 
 -- requests as items for the peer that is asked now
+abbrev itemFor : ℕ → Request → Item
+itemFor peer r = record { id = r .id; typeId = r .typeId; peer = peer }
+
 abbrev itemsFor : ℕ → List Request → List Item
-itemsFor peer rs = map (λ (r : Request). record { id = r .id; typeId = r .typeId; peer = peer }) rs
+itemsFor peer rs = map (itemFor peer) rs
 
 items-ids : (typeId peer : ℕ) (rs : List Request) → ofType typeId (itemsFor peer rs) ≡ idsOf (kept (λ (r : Request). eqb (r .typeId) typeId) rs)
 items-ids typeId peer rs =
-    let item : Request → Item = λ (r : Request). record { id = r .id; typeId = r .typeId; peer = peer } in
-    rw (kept-map item (λ (i : Item). eqb (i .typeId) typeId) rs)
-    (map-map (λ (i : Item). i .id) item (kept (λ (r : Request). eqb (r .typeId) typeId) rs))
+    rw (kept-map (itemFor peer) (λ (i : Item). eqb (i .typeId) typeId) rs)
+    (map-map (λ (i : Item). i .id) (itemFor peer) (kept (λ (r : Request). eqb (r .typeId) typeId) rs))
 
 module _ (lost : ℕ) where
   -- an orphan of this type
@@ -98,7 +101,7 @@ module _ (lost : ℕ) where
     by-type : ByType peer pairs orphans (purgePeer lost pending) asked
     unfolding asked orphans
     by-type = asked-by-type clock peer pairs orphans (purgePeer lost pending)
-        (all-mapped (λ (i : Item). i .peer ≡ peer) (λ (r : Request). record { id = r .id; typeId = r .typeId; peer = peer }) (λ r. refl) (orphansOf lost pending))
+        (all-mapped (λ (i : Item). i .peer ≡ peer) (itemFor peer) (λ r. refl) (orphansOf lost pending))
 
     -- what keeps an id from being asked for
     abbrev Out : ℕ → Id → Type 0

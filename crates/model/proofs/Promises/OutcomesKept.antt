@@ -15,13 +15,17 @@ use Rattle.model.specs.State.{Mode, new, seeking, syncing, synced, ended
 use Rattle.model.specs.Peers.{firstOf, orElse, firstUnstalled, selectPeer}
 use Rattle.model.specs.Requests.{Act}
 use Rattle.model.specs.Lists.{idsIn, peersIn}
-use Rattle.model.specs.Events.{Outcome, Continue, Synced, BehindPeer, SyncPeerGone, Stalled, EndOfStream, outcomeNumber, tipOutcome, raisedTip, continuation}
+use Rattle.model.specs.Events.{Outcome, Continue, Synced, BehindPeer, SyncPeerGone, Stalled, EndOfStream, outcomeNumber}
+use Rattle.model.specs.Events.{tipOutcome, raisedTip, continuation}
 use Rattle.model.specs.Steps
 use Rattle.model.specs.Steps.{Step, Args, Plan, ofMode, planOf, plan, after}
+use Rattle.model.specs.Steps.{advances, picks, entersSyncing, continues, advancesAndRequests, leaves, evicts, progresses, checks}
+use Rattle.model.specs.Steps.{hearsSyncInfo, answers, isAtTip, hearsAnnounced, loses, ticksSyncing, ticksSynced, askOrphans}
 use Rattle.model.specs.Calls.{Call, argsOf, stepAnswer}
 use Rattle.model.specs.Promises.Numbers as numbers
 use Rattle.model.specs.Promises.Words.{Seen}
-use Rattle.model.specs.Promises.Outcomes.{Heard, NothingAhead, noHeaders, tipReached, FarAhead, tipAhead, PeerGone, lost, sendFailed, nobodyListed, NoProgress, Outcomes, Taken, Modes}
+use Rattle.model.specs.Promises.Outcomes.{Heard, NothingAhead, noHeaders, tipReached, FarAhead, tipAhead, PeerGone, lost}
+use Rattle.model.specs.Promises.Outcomes.{sendFailed, nobodyListed, NoProgress, Outcomes, Taken, Modes}
 use Rattle.model.proofs.Promises.SeenLaws as seen
 use Rattle.model.proofs.Promises.ModeLaws.{mode-is, is-not-mode, is-synced}
 use Rattle.model.proofs.Promises.SeenLaws.{seenAs, Finished, Kind, syncInfoOf, heardTip, Hears, is-heard, plan-of, kind-of, mode-of}
@@ -39,12 +43,12 @@ Why s EndOfStream = s .call .kind ≡ numbers.endOfStream
 
 -- a sync info's outcome is the plan's
 answers-outcome : (st : State) (a : Args) (peer : ℕ) (acts : List Act) (tip : ℕ) (fromSyncPeer : Bool) (ours : ℕ) (known : Option ℕ)
-    → Steps.answers st a peer acts tip (tipOutcome fromSyncPeer ours known) .outcome ≡ tipOutcome fromSyncPeer ours known
-unfolding Steps.answers Steps.isAtTip Steps.entersSyncing tipOutcome
+    → answers st a peer acts tip (tipOutcome fromSyncPeer ours known) .outcome ≡ tipOutcome fromSyncPeer ours known
+unfolding answers isAtTip entersSyncing tipOutcome
 answers-outcome st a peer acts tip fromSyncPeer ours none = refl
 answers-outcome st a peer acts tip fromSyncPeer ours (some theirs) = go (fromSyncPeer && leb theirs ours) (ltb (ours + 1) theirs)
   where
-    go : (t u : Bool) → Steps.answers st a peer acts tip (cond t Synced (cond u BehindPeer Continue)) .outcome ≡ cond t Synced (cond u BehindPeer Continue)
+    go : (t u : Bool) → answers st a peer acts tip (cond t Synced (cond u BehindPeer Continue)) .outcome ≡ cond t Synced (cond u BehindPeer Continue)
     go true u = refl
     go false true = refl
     go false false = refl
@@ -81,32 +85,32 @@ module _ (st : State) (call : Call) where
       go tip (seen.noTip n) = tt
 
   why-announced : call .kind ≡ numbers.announcedIds → (ids : List Id) → idsIn (call .ids) ≡ ids
-      → Why s (Steps.hearsAnnounced st a (call .peer) (call .typeid) ids .outcome)
-  unfolding Steps.hearsAnnounced Steps.isAtTip Steps.continues
+      → Why s (hearsAnnounced st a (call .peer) (call .typeid) ids .outcome)
+  unfolding hearsAnnounced isAtTip continues
   why-announced k [] e = go (eqb (call .typeid) headerType) refl
     where
       go : (t : Bool) → eqb (call .typeid) headerType ≡ t
-          → Why s ((cond {A = Plan} t (Steps.isAtTip st a [] (st .sync .knownTip)) (Steps.continues st a [])) .outcome)
+          → Why s ((cond {A = Plan} t (isAtTip st a [] (st .sync .knownTip)) (continues st a [])) .outcome)
       go true h = noHeaders k (eqb-true (call .typeid) headerType h) e
       go false h = tt
   why-announced k (id ∷ ids) e = tt
 
-  why-lost : call .kind ≡ numbers.lostPeer → Why s (Steps.loses st a (call .peer) .outcome)
-  unfolding Steps.loses Steps.leaves Steps.continues
-  why-lost k = go fromSyncPeer refl (cond (isMode (st .mode) syncing) (Steps.askOrphans st a (call .peer) (firstOf (a .peers))) [])
+  why-lost : call .kind ≡ numbers.lostPeer → Why s (loses st a (call .peer) .outcome)
+  unfolding loses leaves continues
+  why-lost k = go fromSyncPeer refl (cond (isMode (st .mode) syncing) (askOrphans st a (call .peer) (firstOf (a .peers))) [])
     where
       go : (t : Bool) → fromSyncPeer ≡ t → (acts : List Act)
-          → Why s ((cond {A = Plan} t (Steps.leaves st a SyncPeerGone seeking acts) (Steps.continues st a [])) .outcome)
+          → Why s ((cond {A = Plan} t (leaves st a SyncPeerGone seeking acts) (continues st a [])) .outcome)
       go true e acts = lost k (eqb-true (call .peer) (st .sync .syncPeer) e)
       go false e acts = tt
 
   why-tick : call .kind ≡ numbers.scheduledTick → hasSyncPeer (st .mode) ≡ true → Why s (planOf st a Steps.scheduledTick .outcome)
-  unfolding planOf argsOf settings.stalled Steps.ticksSyncing Steps.ticksSynced Steps.leaves
+  unfolding planOf argsOf settings.stalled ticksSyncing ticksSynced leaves
   why-tick k h = go (isMode (st .mode) syncing) refl (ltb (st .settings .stallTimeout) (call .clock - st .sync .lastProgress)) refl (peersIn (call .peers)) refl
     where
       go : (t : Bool) → isMode (st .mode) syncing ≡ t → (late : Bool) → ltb (st .settings .stallTimeout) (call .clock - st .sync .lastProgress) ≡ late
           → (peers : List ℕ) → peersIn (call .peers) ≡ peers
-          → Why s ((cond {A = Plan} t (Steps.ticksSyncing st a late) (Steps.ticksSynced st a (firstOf peers))) .outcome)
+          → Why s ((cond {A = Plan} t (ticksSyncing st a late) (ticksSynced st a (firstOf peers))) .outcome)
       go true m true l peers e =
           let above = ltb-true (st .settings .stallTimeout) (call .clock - st .sync .lastProgress) l in
           record { kind = k; mode = mode-is (st .mode) syncing m; late = omega arith }
@@ -115,18 +119,18 @@ module _ (st : State) (call : Call) where
       go false m late l (p ∷ peers) e = tt
 
   info-outcome : planOf st a (syncInfoOf call) .outcome ≡ tipOutcome fromSyncPeer (call .height) (heardTip call)
-  unfolding planOf Steps.hearsSyncInfo argsOf
+  unfolding planOf hearsSyncInfo argsOf
   info-outcome =
       answers-outcome st a (call .peer) (continuation (eqb (call .parsed) 1) (call .height) (heardTip call) (call .peer) (idsIn (call .continuation)))
       (raisedTip (st .sync .knownTip) (heardTip call)) fromSyncPeer (call .height) (heardTip call)
 
   -- Every outcome has its reason.
   why : {step : Step} → Kind call step → ofMode (st .mode) (st .sync .entrySent) step ≡ true → Why s (planOf st a step .outcome)
-  unfolding planOf ofMode Steps.advances Steps.picks Steps.entersSyncing Steps.continues Steps.advancesAndRequests Steps.leaves Steps.evicts Steps.progresses Steps.checks Steps.hearsSyncInfo argsOf
+  unfolding planOf ofMode advances picks entersSyncing continues advancesAndRequests leaves evicts progresses checks hearsSyncInfo argsOf
   why (seen.start k) m = tt
   why (seen.pick k) m = go (selectPeer (st .sync .stalledPeers) (a .peers))
     where
-      go : (peer : Option ℕ) → Why s (Steps.picks st a peer .outcome)
+      go : (peer : Option ℕ) → Why s (picks st a peer .outcome)
       go none = tt
       go (some peer) = tt
   why (seen.neededModifier k) m = tt
@@ -139,7 +143,7 @@ module _ (st : State) (call : Call) where
   why (seen.evictedIds k) m = tt
   why (seen.progress k) m = go (isMode (st .mode) syncing)
     where
-      go : (t : Bool) → Why s (Steps.progresses st a t .outcome)
+      go : (t : Bool) → Why s (progresses st a t .outcome)
       go true = tt
       go false = tt
   why (seen.check k) m = tt
@@ -163,7 +167,7 @@ module _ (st : State) (call : Call) where
       (info-outcome ∙ ap (tipOutcome fromSyncPeer (call .height)) (known-tip tip h))
 
   gives-synced : NothingAhead s → plan st a .outcome ≡ Synced
-  unfolding planOf Steps.hearsAnnounced Steps.isAtTip tipOutcome
+  unfolding planOf hearsAnnounced isAtTip tipOutcome
   gives-synced (noHeaders k t e) =
       outcome-of (seen.announcedIds k) Synced (rw (e, eq-eqb (call .typeid) headerType t))
   gives-synced (tipReached tip h p l) = hears tip h ∙ rw (eq-eqb (call .peer) (st .sync .syncPeer) p, le-leb tip (call .height) l)
@@ -178,13 +182,13 @@ module _ (st : State) (call : Call) where
       go false = refl
 
   gives-gone : PeerGone s → plan st a .outcome ≡ SyncPeerGone
-  unfolding planOf Steps.loses Steps.leaves Steps.ticksSynced argsOf
+  unfolding planOf loses leaves ticksSynced argsOf
   gives-gone (lost k e) = outcome-of (seen.lostPeer k) SyncPeerGone (rw (eq-eqb (call .peer) (st .sync .syncPeer) e))
   gives-gone (sendFailed k) = outcome-of (seen.sendFailure k) SyncPeerGone refl
   gives-gone (nobodyListed k m e) = outcome-of (seen.scheduledTick k) SyncPeerGone (rw (m, e))
 
   gives-stalled : NoProgress s → plan st a .outcome ≡ Stalled
-  unfolding planOf Steps.ticksSyncing settings.stalled argsOf
+  unfolding planOf ticksSyncing settings.stalled argsOf
   gives-stalled n =
       let late = n .late in
       let l : ltb (st .settings .stallTimeout) (call .clock - st .sync .lastProgress) ≡ true =
@@ -193,7 +197,7 @@ module _ (st : State) (call : Call) where
       outcome-of (seen.scheduledTick (n .kind)) Stalled (rw (n .mode, l))
 
   gives-end : call .kind ≡ numbers.endOfStream → plan st a .outcome ≡ EndOfStream
-  unfolding planOf Steps.leaves
+  unfolding planOf leaves
   gives-end k = outcome-of (seen.endOfStream k) EndOfStream refl
 
   -- ---- by the outcomes' numbers
@@ -282,8 +286,8 @@ module _ (st : State) (call : Call) where
   abbrev Leads : Plan → Type 0
   Leads p = LeadsTo (st .mode) (call .kind) (p .outcome) (p .mode)
 
-  leads-answers : (peer : ℕ) (acts : List Act) (tip : ℕ) (o : Outcome) → Leads (Steps.answers st arguments peer acts tip o)
-  unfolding Steps.answers Steps.isAtTip Steps.entersSyncing Steps.continues
+  leads-answers : (peer : ℕ) (acts : List Act) (tip : ℕ) (o : Outcome) → Leads (answers st arguments peer acts tip o)
+  unfolding answers isAtTip entersSyncing continues
   leads-answers peer acts tip Continue = λ n m. refl
   leads-answers peer acts tip Synced = refl
   leads-answers peer acts tip BehindPeer = refl
@@ -291,43 +295,43 @@ module _ (st : State) (call : Call) where
   leads-answers peer acts tip Stalled = λ n m. refl
   leads-answers peer acts tip EndOfStream = λ n m. refl
 
-  leads-announced : (peer typeId : ℕ) (ids : List Id) → Leads (Steps.hearsAnnounced st arguments peer typeId ids)
-  unfolding Steps.hearsAnnounced Steps.isAtTip Steps.continues
+  leads-announced : (peer typeId : ℕ) (ids : List Id) → Leads (hearsAnnounced st arguments peer typeId ids)
+  unfolding hearsAnnounced isAtTip continues
   leads-announced peer typeId [] = go (eqb typeId headerType)
     where
-      go : (t : Bool) → Leads (cond t (Steps.isAtTip st arguments [] (st .sync .knownTip)) (Steps.continues st arguments []))
+      go : (t : Bool) → Leads (cond t (isAtTip st arguments [] (st .sync .knownTip)) (continues st arguments []))
       go true = refl
       go false = λ n m. refl
   leads-announced peer typeId (id ∷ ids) = λ n m. refl
 
-  leads-lost : (peer : ℕ) → Leads (Steps.loses st arguments peer)
-  unfolding Steps.loses Steps.leaves Steps.continues
-  leads-lost peer = go (eqb peer (st .sync .syncPeer)) (cond (isMode (st .mode) syncing) (Steps.askOrphans st arguments peer (firstOf (arguments .peers))) [])
+  leads-lost : (peer : ℕ) → Leads (loses st arguments peer)
+  unfolding loses leaves continues
+  leads-lost peer = go (eqb peer (st .sync .syncPeer)) (cond (isMode (st .mode) syncing) (askOrphans st arguments peer (firstOf (arguments .peers))) [])
     where
-      go : (t : Bool) (acts : List Act) → Leads (cond t (Steps.leaves st arguments SyncPeerGone seeking acts) (Steps.continues st arguments []))
+      go : (t : Bool) (acts : List Act) → Leads (cond t (leaves st arguments SyncPeerGone seeking acts) (continues st arguments []))
       go true acts = refl
       go false acts = λ n m. refl
 
   leads-tick : (t late : Bool) (peer : Option ℕ) → isMode (st .mode) syncing ≡ t
-      → Leads (cond t (Steps.ticksSyncing st arguments late) (Steps.ticksSynced st arguments peer))
-  unfolding Steps.ticksSyncing Steps.ticksSynced Steps.leaves
+      → Leads (cond t (ticksSyncing st arguments late) (ticksSynced st arguments peer))
+  unfolding ticksSyncing ticksSynced leaves
   leads-tick true true peer e = refl
   leads-tick true false peer e = λ n m. sym (mode-is (st .mode) syncing e)
   leads-tick false late none e = refl
   leads-tick false late (some peer) e = λ n m. refl
 
-  leads-progress : (t : Bool) → isMode (st .mode) syncing ≡ t → Leads (Steps.progresses st arguments t)
-  unfolding Steps.progresses
+  leads-progress : (t : Bool) → isMode (st .mode) syncing ≡ t → Leads (progresses st arguments t)
+  unfolding progresses
   leads-progress true e = λ n m. sym (mode-is (st .mode) syncing e)
   leads-progress false e = λ n m. refl
 
-  leads-pick : call .kind ≡ numbers.pick → (peer : Option ℕ) → Leads (Steps.picks st arguments peer)
-  unfolding Steps.picks Steps.entersSyncing
+  leads-pick : call .kind ≡ numbers.pick → (peer : Option ℕ) → Leads (picks st arguments peer)
+  unfolding picks entersSyncing
   leads-pick k none = λ n m. absurd (m k)
   leads-pick k (some peer) = λ n m. absurd (m k)
 
   leads : {step : Step} → Kind call step → Leads (planOf st arguments step)
-  unfolding planOf Steps.advances Steps.continues Steps.advancesAndRequests Steps.leaves Steps.evicts Steps.checks Steps.hearsSyncInfo
+  unfolding planOf advances continues advancesAndRequests leaves evicts checks hearsSyncInfo
   leads (seen.start k) = λ n m. absurd (n k)
   leads (seen.pick k) = leads-pick k (selectPeer (st .sync .stalledPeers) (arguments .peers))
   leads (seen.neededModifier k) = λ n m. refl
@@ -351,21 +355,22 @@ module _ (st : State) (call : Call) where
 
   -- a pick: with nobody listed nobody is chosen, else somebody is
   picks-nobody : call .kind ≡ numbers.pick → peersIn (call .peers) ≡ [] → plan st arguments .mode ≡ seeking
-  unfolding planOf selectPeer firstUnstalled Steps.picks argsOf
+  unfolding planOf selectPeer firstUnstalled picks argsOf
   picks-nobody k e = ap (λ (p : Plan). p .mode) (plan-of st call (seen.pick k)) ∙ rw e
 
   picks-somebody : call .kind ≡ numbers.pick → (peersIn (call .peers) ≡ [] → ⊥) → plan st arguments .mode ≡ syncing
-  unfolding planOf selectPeer Steps.picks Steps.entersSyncing argsOf
+  unfolding planOf selectPeer picks entersSyncing argsOf
   picks-somebody k n =
-      ap (λ (p : Plan). p .mode) (plan-of st call (seen.pick k)) ∙ go (peersIn (call .peers)) n (firstUnstalled (st .sync .stalledPeers) (peersIn (call .peers)))
+      ap (λ (p : Plan). p .mode) (plan-of st call (seen.pick k))
+      ∙ go (peersIn (call .peers)) n (firstUnstalled (st .sync .stalledPeers) (peersIn (call .peers)))
     where
-      go : (peers : List ℕ) → (peers ≡ [] → ⊥) → (choice : Option ℕ) → Steps.picks st arguments (orElse choice (firstOf peers)) .mode ≡ syncing
+      go : (peers : List ℕ) → (peers ≡ [] → ⊥) → (choice : Option ℕ) → picks st arguments (orElse choice (firstOf peers)) .mode ≡ syncing
       go [] n choice = absurd (n refl)
       go (p ∷ peers) n none = refl
       go (p ∷ peers) n (some q) = refl
 
   starts-seeking : call .kind ≡ numbers.start → plan st arguments .mode ≡ seeking
-  unfolding planOf Steps.advances
+  unfolding planOf advances
   starts-seeking k = ap (λ (p : Plan). p .mode) (plan-of st call (seen.start k))
 
 -- the mode at the end of the stream
@@ -380,7 +385,9 @@ module _ (st : State) (call : Call) (f : Finished st call) where
   given = argsOf call
 
   reason : Why (seenAs st call) (plan st given .outcome)
-  reason = subst (λ (p : Plan). Why (seenAs st call) (p .outcome)) (sym (plan-of st call (kind-of st call f))) (why st call (kind-of st call f) (mode-of st call f))
+  reason =
+      subst (λ (p : Plan). Why (seenAs st call) (p .outcome)) (sym (plan-of st call (kind-of st call f)))
+      (why st call (kind-of st call f) (mode-of st call f))
 
   -- what an outcome with this number has for a reason
   reason-of : (o : Outcome) → stepAnswer st given .outcome ≡ outcomeNumber o → Why (seenAs st call) o

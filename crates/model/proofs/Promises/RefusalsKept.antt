@@ -77,5 +77,6 @@ refusals-kept state area call =
     let n : step state area call .answer .number ≡ stepRefusal state area call = number-told state area call in
     record {
       first = rw n (areas-told state area call .told);
-      untouched = λ refused. step-refused state area call (step state area call .answer .number) (sym n) (positive (step state area call .answer .number) refused);
+      untouched = λ refused.
+          step-refused state area call (step state area call .answer .number) (sym n) (positive (step state area call .answer .number) refused);
     }

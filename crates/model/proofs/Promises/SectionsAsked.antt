@@ -26,10 +26,10 @@ use Rattle.model.specs.Steps.{sectionsFrom, sayTo, advancesAndRequests, 
 use Rattle.model.specs.Calls.{Call, stepOf, argsOf}
 use Rattle.model.specs.Book.{Requested, requestedIn}
 use Rattle.model.specs.Promises.Numbers as numbers
-use Rattle.model.specs.Promises.Words.{First, LeftOf}
+use Rattle.model.specs.Promises.Words.{Seen, view, First}
 use Rattle.model.specs.Promises.Outcomes.{noHeaders, tipReached}
 use Rattle.model.specs.Promises.Asked.{NextSections, inReorg, onProgress, atSectionTick, onEntry, Present, notStored, offered}
-use Rattle.model.specs.Promises.Asked.{under, PendingId, PendingThen, TypesRise, AsksWindow}
+use Rattle.model.specs.Promises.Asked.{under, PendingId, PendingThen, AsksWindow}
 use Rattle.model.proofs.Promises.SeenLaws as kinds
 use Rattle.model.proofs.Promises.SeenLaws.{seenAs, Finished, step-of}
 use Rattle.model.proofs.Promises.WordLaws.{first-listed, left-same}
@@ -115,56 +115,58 @@ reached (suc n) view peer height e = go (view (suc height)) refl e (reached n vi
 
 -- ---- rule 4
 
--- What is asked for from a height on, where `Then` says what was pending.
-record AskedWindow (view : View) (chainHeight height peer : ℕ) (Then : Id → Type 0) (asked : List Requested) : Type 0 where
-  pub heights : ℕ
-  pub few : heights ≤ 192
-  pub ours : (heights ≡ 0) ⊎ (height + heights ≤ chainHeight)
-  pub present : (i : ℕ) → i < heights → Present (view (height + 1 + i))
-  pub reaches : (heights ≡ 192) ⊎ ((chainHeight ≤ height + heights) ⊎ (view (height + 1 + heights) ≡ some absent))
-  pub requested : (typeId : ℕ) → LeftOf (λ (id : Id). Then id ⊎ AskedLower asked typeId id) (offered typeId view height heights) (under typeId asked)
-  pub typesRise : TypesRise asked
-  pub onePeer : All (λ (q : Requested). q .peer ≡ peer) asked
+-- the window ends with 192 heights, at our chain height or at an absent header
+module _ (chainHeight height : ℕ) where
+  abbrev most : ℕ
+  most = min (height + windowSize) chainHeight - height
 
-module _ (view : View) (chainHeight height peer clock : ℕ) (pending : List Request) where
-  window-asked : (Then : Id → Type 0) → ((id : Id) → PendingId pending id → Then id) → ((id : Id) → Then id → PendingId pending id)
-      → requestSectionsFrom view chainHeight height (some peer) .inView ≡ true
-      → AskedWindow view chainHeight height peer Then (askedBy true clock (requestSectionsFrom view chainHeight height (some peer) .acts) pending)
+  in-window : (k : ℕ) → k ≤ most → (k ≡ 0) ⊎ (height + k ≤ chainHeight)
+  in-window zero l = inl refl
+  in-window (suc k) l = inr (omega arith)
+
+  window-end : (k : ℕ) → k ≡ most → (k ≡ 192) ⊎ (chainHeight ≤ height + k)
+  window-end k q = go (leb chainHeight (height + windowSize)) refl
+    where
+      go : (t : Bool) → leb chainHeight (height + windowSize) ≡ t → (k ≡ 192) ⊎ (chainHeight ≤ height + k)
+      go true e = inr (omega (arith, leb-true chainHeight (height + windowSize) e))
+      go false e = inl (omega (arith, leb-false chainHeight (height + windowSize) e))
+
+-- a step that asks for sections, from what is pending by then
+module _ (s : Seen) (peer clock : ℕ) (pending : List Request) where
+  abbrev height : ℕ
+  height = s .after .sync .downloaded
+
+  abbrev fromHere : Sections
+  fromHere = requestSectionsFrom (view s) (s .call .height) height (some peer)
+
+  window-asked : ((id : Id) → PendingId pending id → PendingThen s id) → ((id : Id) → PendingThen s id → PendingId pending id)
+      → fromHere .inView ≡ true → requestedIn (s .sent) ≡ askedBy true clock (fromHere .acts) pending → AsksWindow s peer
   unfolding requestSectionsFrom
-  window-asked Then to from e =
-      let n : ℕ = min (height + windowSize) chainHeight - height in
-      let items : List Item = windowWithin n view peer height .items in
+  window-asked to from v e =
+      let n : ℕ = most (s .call .height) height in
+      let items : List Item = windowWithin n (view s) peer height .items in
+      let own : OfPeer peer items = window-peer n (view s) peer height in
       let asked : List Requested = askedBy true clock (asks peer [] (batchesOf items)) pending in
-      let r : Reached n view peer height = reached n view peer height e in
-      let most = r .within in
-      let b : ByType peer [] items pending asked = asked-by-type clock peer [] items pending (window-peer n view peer height) in
-      rw (own-peers peer [] (batchesOf items) (batches-peer peer items (window-peer n view peer height)))
-      (record {
+      let r : Reached n (view s) peer height = reached n (view s) peer height v in
+      let within = r .within in
+      let b : ByType peer [] items pending asked = asked-by-type clock peer [] items pending own in
+      let all : requestedIn (s .sent) ≡ asked =
+      e ∙ ap (λ (acts : List Act). askedBy true clock acts pending) (own-peers peer [] (batchesOf items) (batches-peer peer items own))
+      in
+      record {
         heights = r .heights;
         few = omega arith;
-        ours = ours (r .heights) most;
+        ours = in-window (s .call .height) height (r .heights) within;
         present = r .present;
-        reaches = ⊎-elim (λ k. reaches (r .heights) k) (λ k. inr (inr k)) (r .stops);
+        reaches = ⊎-elim (λ k. ⊎-elim inl (λ l. inr (inl l)) (window-end (s .call .height) height (r .heights) k)) (λ k. inr (inr k)) (r .stops);
         requested =
-            λ typeId. rw (← r .offers typeId)
-            (left-same (Known [] pending asked typeId) (λ (id : Id). Then id ⊎ AskedLower asked typeId id)
+            λ typeId. rw (all, ← r .offers typeId)
+            (left-same (Known [] pending asked typeId) (λ (id : Id). PendingThen s id ⊎ AskedLower asked typeId id)
             (λ id. ⊎-elim (⊎-elim (λ k. inl (to id k)) (λ k. absurd k)) inr) (λ id. ⊎-elim (λ k. inl (inl (from id k))) inr)
             (ofType typeId items) (under typeId asked) (b .requested typeId));
-        typesRise = b .typesRise;
-        onePeer = b .onePeer;
-      })
-    where
-      ours : (k : ℕ) → k ≤ min (height + windowSize) chainHeight - height → (k ≡ 0) ⊎ (height + k ≤ chainHeight)
-      ours zero l = inl refl
-      ours (suc k) l = inr (omega arith)
-
-      reaches : (k : ℕ) → k ≡ min (height + windowSize) chainHeight - height
-          → (k ≡ 192) ⊎ ((chainHeight ≤ height + k) ⊎ (view (height + 1 + k) ≡ some absent))
-      reaches k q = go (leb chainHeight (height + windowSize)) refl
-        where
-          go : (t : Bool) → leb chainHeight (height + windowSize) ≡ t → (k ≡ 192) ⊎ ((chainHeight ≤ height + k) ⊎ (view (height + 1 + k) ≡ some absent))
-          go true e = inr (inl (omega (arith, leb-true chainHeight (height + windowSize) e)))
-          go false e = inl (omega (arith, leb-false chainHeight (height + windowSize) e))
+        typesRise = rw all (b .typesRise);
+        onePeer = rw all (b .onePeer);
+      }
 
 -- ---- plans that run rule 4
 
@@ -295,7 +297,9 @@ module _ (st : State) (call : Call) where
 
   told-step : call .kind ≡ numbers.announcedIds → call .typeid ≡ headerType → idsIn (call .ids) ≡ [] → stepOf call ≡ Steps.announced (call .peer) headerType []
   told-step e t i =
-      step-of call (kinds.announcedIds e) ∙ ap (λ (ids : List Id). Steps.announced (call .peer) (call .typeid) ids) i ∙ ap (λ (typeId : ℕ). Steps.announced (call .peer) typeId []) t
+      step-of call (kinds.announcedIds e)
+      ∙ ap (λ (ids : List Id). Steps.announced (call .peer) (call .typeid) ids) i
+      ∙ ap (λ (typeId : ℕ). Steps.announced (call .peer) typeId []) t
 
   heard-step : call .kind ≡ numbers.syncInfo → call .parsed ≡ 1 → call .hastip ≡ 1
       → stepOf call ≡ Steps.syncInfo (call .peer) true (some (call .tip)) (idsIn (call .continuation))
@@ -346,26 +350,10 @@ module _ (st : State) (call : Call) where
     unfolding plan argsOf from
     next-in-view e = ap (λ (s : Sections). s .inView) (sym listed) ∙ n .runs .inView e
 
-    next-window : call .gate ≡ 1 → plan st (argsOf call) .inView ≡ true
-        → AskedWindow (viewOf (call .view)) (call .height) from peer (PendingThen (seenAs st call)) (requestedIn (commands st (argsOf call)))
-    unfolding sections start
-    next-window g e =
-        subst (AskedWindow (viewOf (call .view)) (call .height) from peer (PendingThen (seenAs st call))) (sym (next-asked g))
-        (window-asked (viewOf (call .view)) (call .height) from peer (call .clock) start (PendingThen (seenAs st call)) (n .pendingThen) (n .thenPending)
-        (next-in-view e))
-
 pub sections-asked : (st : State) (call : Call) → Finished st call
     → (peer : ℕ) → call .gate ≡ 1 → NextSections (seenAs st call) → First peer (peersIn (call .peers)) → AsksWindow (seenAs st call) peer
-unfolding after from
+unfolding after from sections start
 sections-asked st call f peer g next first =
-    let w = next-window st call (asks-next st call next) peer first g (f .passed .inView) in
-    record {
-      heights = w .heights;
-      few = w .few;
-      ours = w .ours;
-      present = w .present;
-      reaches = w .reaches;
-      requested = w .requested;
-      typesRise = w .typesRise;
-      onePeer = w .onePeer;
-    }
+    let n = asks-next st call next in
+    window-asked (seenAs st call) peer (call .clock) (start st call n peer first) (n .pendingThen) (n .thenPending)
+    (next-in-view st call n peer first (f .passed .inView)) (next-asked st call n peer first g)

@@ -65,7 +65,11 @@ module _ (state area : List ℕ) (call : Call) (well : Well (decode state)) (wid
   pub seen-finished : seen state area call ≡ seenAs (decode state) call
   unfolding seen
   seen-finished =
-      rw (step-commands-read state area call well width e, step-finished state area call e, decode-encode (after (decode state) (argsOf call)) (finished .wellAfter))
+      rw (
+        step-commands-read state area call well width e,
+        step-finished state area call e,
+        decode-encode (after (decode state) (argsOf call)) (finished .wellAfter),
+      )
 
 -- A promise is kept by every finished call if the model's steps keep it.
 pub promised : (P : Seen → Type 0) → ((st : State) (call : Call) → Finished st call → P (seenAs st call)) → Promised P

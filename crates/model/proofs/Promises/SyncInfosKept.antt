@@ -275,7 +275,8 @@ module _ (st : State) (call : Call) (past : st .sync .sendClock .lastSend ≤ ca
     unfolding sendSyncInfo
     goes-to peer batch to only notPicked parts e =
         said-to others noneBefore peer batch (isQuiet st call) (st .sync .sendClock) to only
-        (due (st .settings) (call .clock) (st .sync .sendClock .lastSend) past) (not-due (st .settings) (call .clock) (st .sync .sendClock .lastSend) past) refl (λ q. absurd (notPicked q)) (λ q. refl) parts e
+        (due (st .settings) (call .clock) (st .sync .sendClock .lastSend) past) (not-due (st .settings) (call .clock) (st .sync .sendClock .lastSend) past)
+        refl (λ q. absurd (notPicked q)) (λ q. refl) parts e
 
   course-infos : {announced said : List Sending} {p : Plan} → Course st call announced said p
       → (sent others : List Command) → All (NotOfKind Numbers.aSyncInfo) others

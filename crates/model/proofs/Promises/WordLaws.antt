@@ -41,11 +41,8 @@ among-passes id (other ∷ others) (inr h) = or-right (same id other) (isAmong i
 pub passes-among : (id : Id) (ids : List Id) → isAmong id ids ≡ true → Among id ids
 unfolding isAmong
 passes-among id [] e = absurd (false≢true e)
-passes-among id (other ∷ others) e = go (either-true (same id other) (isAmong id others) e) (passes-among id others)
-  where
-    go : (same id other ≡ true) ⊎ (isAmong id others ≡ true) → (isAmong id others ≡ true → Among id others) → (id ≡ other) ⊎ Among id others
-    go (inl s) rest = inl (same-eq id other s)
-    go (inr s) rest = inr (rest s)
+passes-among id (other ∷ others) e =
+    ⊎-elim (λ s. inl (same-eq id other s)) (λ s. inr (passes-among id others s)) (either-true (same id other) (isAmong id others) e)
 
 fails-among : (id : Id) (ids : List Id) → isAmong id ids ≡ false → Among id ids → ⊥
 fails-among id ids e h = not-both (isAmong id ids) (among-passes id ids h) e
@@ -112,15 +109,14 @@ pub passes-stored : (pairs : List Pair) (typeId : ℕ) (id : Id) → isStored pa
 unfolding isStored
 passes-stored [] typeId id e = absurd (false≢true e)
 passes-stored (p ∷ pairs) typeId id e =
-    go (either-true (eqb (p .typeId) typeId && same (p .id) id) (isStored pairs typeId id) e) (passes-stored pairs typeId id)
+    ⊎-elim (λ s. inl (this s)) (λ s. inr (passes-stored pairs typeId id s))
+    (either-true (eqb (p .typeId) typeId && same (p .id) id) (isStored pairs typeId id) e)
   where
-    go : (eqb (p .typeId) typeId && same (p .id) id ≡ true) ⊎ (isStored pairs typeId id ≡ true)
-        → (isStored pairs typeId id ≡ true → Among (pairOf typeId id) pairs) → (pairOf typeId id ≡ p) ⊎ Among (pairOf typeId id) pairs
-    go (inl s) rest =
+    this : eqb (p .typeId) typeId && same (p .id) id ≡ true → pairOf typeId id ≡ p
+    this s =
         let t : p .typeId ≡ typeId = eqb-true (p .typeId) typeId (and-left (eqb (p .typeId) typeId) (same (p .id) id) s) in
         let i : p .id ≡ id = same-eq (p .id) id (and-right (eqb (p .typeId) typeId) (same (p .id) id) s) in
-        inl (rw (← t, ← i))
-    go (inr s) rest = inr (rest s)
+        rw (← t, ← i)
 
 pub stored-tells : (pairs : List Pair) (typeId : ℕ) (id : Id) → Tells (not (isStored pairs typeId id)) (Among (pairOf typeId id) pairs)
 stored-tells pairs typeId id =
@@ -136,11 +132,8 @@ listed-passes peer (other ∷ others) (inr h) = or-right (eqb peer other) (isLis
 
 pub passes-listed : (peer : ℕ) (peers : List ℕ) → isListed peer peers ≡ true → Among peer peers
 passes-listed peer [] e = absurd (false≢true e)
-passes-listed peer (other ∷ others) e = go (either-true (eqb peer other) (isListed peer others) e) (passes-listed peer others)
-  where
-    go : (eqb peer other ≡ true) ⊎ (isListed peer others ≡ true) → (isListed peer others ≡ true → Among peer others) → (peer ≡ other) ⊎ Among peer others
-    go (inl s) rest = inl (eqb-true peer other s)
-    go (inr s) rest = inr (rest s)
+passes-listed peer (other ∷ others) e =
+    ⊎-elim (λ s. inl (eqb-true peer other s)) (λ s. inr (passes-listed peer others s)) (either-true (eqb peer other) (isListed peer others) e)
 
 pub fails-listed : (peer : ℕ) (peers : List ℕ) → isListed peer peers ≡ false → Among peer peers → ⊥
 fails-listed peer peers e h = not-both (isListed peer peers) (listed-passes peer peers h) e
@@ -198,8 +191,8 @@ module _ {A : Type 0} where
   left-within Out x (y ∷ xs) left (inr k) h = ⊎-elim inl (λ m. inr (left-within Out x xs (k .1 .0) (k .1 .2) m)) (subst (Among x) (k .1 .1) h)
 
   -- What is left is what a test keeps that says the same of the list's own elements.
-  pub left-only : (Out : A → Type 0) (test : A → Bool) (xs left : List A) → ((x : A) → Among x xs → test x ≡ true → Out x → ⊥) → ((x : A) → test x ≡ false → Out x)
-      → LeftOf Out xs left → left ≡ kept test xs
+  pub left-only : (Out : A → Type 0) (test : A → Bool) (xs left : List A) → ((x : A) → Among x xs → test x ≡ true → Out x → ⊥)
+      → ((x : A) → test x ≡ false → Out x) → LeftOf Out xs left → left ≡ kept test xs
   left-only Out test [] left stays leaves e = e
   left-only Out test (y ∷ xs) left stays leaves (inl k) = go (test y) refl (left-only Out test xs left (λ x m. stays x (inr m)) leaves (k .1))
     where
