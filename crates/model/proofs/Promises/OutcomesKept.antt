@@ -1,17 +1,15 @@
 -- The promises on outcomes and modes: each outcome exactly when it is promised, and the mode that follows.
 use Prim.Native.Nat.{ℕ, _+_, _-_, _≤_}
 use mathlib.Core.Path.{_≡_, refl, sym, ap, _∙_, subst}
-use mathlib.Core.Bool.{Bool, true, false, cond, _&&_, _||_, false≢true}
-use mathlib.Core.Logic.{inl, inr}
+use mathlib.Core.Bool.{Bool, true, false, cond, _&&_}
 use mathlib.Core.List.{List, [], _∷_}
 use mathlib.Core.Option.{Option, none, some}
 use native.Mathlib.Omega.{arith}
 use lib.Dec.{eqb, leb, ltb}
 use borrow.Author.Tests.{eqb-true, leb-true, ltb-true, eq-eqb, le-leb, lt-leb, lt-ltb}
-use Rattle.fields.proofs.OrderLaws.{and-left}
 use Rattle.model.specs.Protocol.{Id, headerType}
 use Rattle.model.specs.Settings as settings
-use Rattle.model.specs.State.{Mode, new, seeking, syncing, synced, ended, isMode, hasSyncPeer, State}
+use Rattle.model.specs.State.{Mode, seeking, syncing, synced, ended, isMode, hasSyncPeer, State}
 use Rattle.model.specs.Peers.{firstOf, orElse, firstUnstalled, selectPeer}
 use Rattle.model.specs.Requests.{Act}
 use Rattle.model.specs.Lists.{idsIn, peersIn}
@@ -25,8 +23,9 @@ use Rattle.model.specs.Calls.{Call, argsOf, stepAnswer}
 use Rattle.model.specs.Promises.Numbers as numbers
 use Rattle.model.specs.Promises.Words.{Seen}
 use Rattle.model.specs.Promises.Outcomes.{Heard, NothingAhead, noHeaders, tipReached, FarAhead, tipAhead, PeerGone, lost}
-use Rattle.model.specs.Promises.Outcomes.{sendFailed, nobodyListed, NoProgress, Outcomes, Taken, Modes}
+use Rattle.model.specs.Promises.Outcomes.{sendFailed, nobodyListed, NoProgress, Outcomes, Modes}
 use Rattle.model.proofs.Promises.SeenLaws as seen
+use Rattle.model.proofs.Promises.WrongCallLaws.{mode-fits, fits-taken}
 use Rattle.model.proofs.Promises.ModeLaws.{mode-is, is-not-mode, is-synced}
 use Rattle.model.proofs.Promises.SeenLaws.{seenAs, Finished, Kind, syncInfoOf, heardTip, Hears, is-heard, plan-of, kind-of, mode-of}
 
@@ -240,46 +239,9 @@ LeadsTo before kind SyncPeerGone mode = mode ≡ seeking
 LeadsTo before kind Stalled mode = mode ≡ seeking
 LeadsTo before kind EndOfStream mode = mode ≡ cond (isMode before seeking) ended seeking
 
--- the kinds from needed modifier to scheduled tick are of both modes with a sync peer
-taken-both : (mode : Mode) (kind : ℕ) → hasSyncPeer mode ≡ true → 3 ≤ kind → kind ≤ 13 → Taken mode kind
-taken-both new kind h l u = absurd (false≢true h)
-taken-both seeking kind h l u = absurd (false≢true h)
-taken-both syncing kind h l u = inl (l, u)
-taken-both synced kind h l u = inl (l, omega arith)
-taken-both ended kind h l u = absurd (false≢true h)
-
-taken-end : (mode : Mode) (kind : ℕ) → isMode mode seeking || hasSyncPeer mode ≡ true → kind ≡ numbers.endOfStream → Taken mode kind
-taken-end new kind h k = absurd (false≢true h)
-taken-end seeking kind h k = inr k
-taken-end syncing kind h k = inr (inr k)
-taken-end synced kind h k = inr k
-taken-end ended kind h k = absurd (false≢true h)
-
 module _ (st : State) (call : Call) where
   abbrev arguments : Args
   arguments = argsOf call
-
-  taken-in : (mode : Mode) → isMode (st .mode) mode ≡ true → Taken mode (call .kind) → Taken (st .mode) (call .kind)
-  taken-in mode m t = subst (λ (x : Mode). Taken x (call .kind)) (sym (mode-is (st .mode) mode m)) t
-
-  taken : {step : Step} → Kind call step → ofMode (st .mode) (st .sync .entrySent) step ≡ true → Taken (st .mode) (call .kind)
-  unfolding ofMode
-  taken (seen.start k) m = taken-in new m k
-  taken (seen.pick k) m = taken-in seeking m (inl k)
-  taken (seen.neededModifier k) m = let e = k in taken-both (st .mode) (call .kind) m (omega arith) (omega arith)
-  taken (seen.reorg k) m = let e = k in taken-both (st .mode) (call .kind) m (omega arith) (omega arith)
-  taken (seen.announcedIds k) m = let e = k in taken-both (st .mode) (call .kind) m (omega arith) (omega arith)
-  taken (seen.syncInfo k) m = let e = k in taken-both (st .mode) (call .kind) m (omega arith) (omega arith)
-  taken (seen.otherMessage k) m = let e = k in taken-both (st .mode) (call .kind) m (omega arith) (omega arith)
-  taken (seen.lostPeer k) m = let e = k in taken-both (st .mode) (call .kind) m (omega arith) (omega arith)
-  taken (seen.receivedIds k) m = let e = k in taken-both (st .mode) (call .kind) m (omega arith) (omega arith)
-  taken (seen.evictedIds k) m = let e = k in taken-both (st .mode) (call .kind) m (omega arith) (omega arith)
-  taken (seen.progress k) m = let e = k in taken-both (st .mode) (call .kind) m (omega arith) (omega arith)
-  taken (seen.check k) m = let e = k in taken-both (st .mode) (call .kind) m (omega arith) (omega arith)
-  taken (seen.scheduledTick k) m = let e = k in taken-both (st .mode) (call .kind) m (omega arith) (omega arith)
-  taken (seen.sectionTick k) m = let e = k in taken-in synced m (inl (omega arith, omega arith))
-  taken (seen.sendFailure k) m = taken-in syncing (and-left (isMode (st .mode) syncing) (st .sync .entrySent) m) (inr (inl k))
-  taken (seen.endOfStream k) m = taken-end (st .mode) (call .kind) m k
 
   -- ---- what follows
 
@@ -420,7 +382,7 @@ module _ (st : State) (call : Call) (f : Finished st call) where
   unfolding after
   modes-kept =
       record {
-        taken = taken st call (kind-of st call f) (mode-of st call f);
+        taken = fits-taken (st .mode) (st .sync .entrySent) call (mode-fits (st .mode) (st .sync .entrySent) call (kind-of st call f)) (mode-of st call f);
         started = starts-seeking st call;
         nonePicked = picks-nobody st call;
         picked = picks-somebody st call;

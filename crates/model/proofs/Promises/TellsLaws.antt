@@ -40,6 +40,10 @@ pub turned-tells : {A : Type 0} (t : Bool) → (t ≡ true → A) → (t ≡ fal
 turned-tells {A} true f g = tells-failed A (f refl)
 turned-tells {A} false f g = tells-passed A (g refl)
 
+pub tells-back : {A : Type 0} (t : Bool) → Tells (not t) A → Tells t (A → ⊥)
+tells-back {A} true u = tells-passed (A → ⊥) (λ n. n (u .failed refl))
+tells-back {A} false u = tells-failed (A → ⊥) (u .passed refl)
+
 pub is-tells : (a b : ℕ) → Tells (not (eqb a b)) (a ≡ b)
 is-tells a b = turned-tells (eqb a b) (eqb-true a b) (eqb-false a b)
 
