@@ -10,6 +10,7 @@ pub mod VerdictLaws
 pub mod CheckAsked
 pub mod ViewLaws
 pub mod LookLaws
+pub mod SparedLaws
 pub mod HeightsKept
 pub mod ReadLaws
 pub mod TellsLaws
