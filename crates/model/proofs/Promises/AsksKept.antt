@@ -25,17 +25,18 @@ use Rattle.model.specs.Steps.{planOf, plan, remaining, commands}
 use Rattle.model.specs.Lists.{idsIn, peersIn, pairsIn, viewOf}
 use Rattle.model.specs.Calls.{Call, stepOf, argsOf, stepAnswer}
 use Rattle.model.specs.Book.{requestedIn}
+use Rattle.model.specs.Promises.Numbers as numbers
 use Rattle.model.specs.Promises.Outcomes.{NothingAhead, noHeaders}
 use Rattle.model.specs.Promises.Asked.{AsksFor, Announceable, NextSections, inReorg, onProgress, atSectionTick, onEntry, Orphans}
 use Rattle.model.specs.Promises.Asked.{MayAsk, announced, needed, sections, orphans, checks}
 use Rattle.model.proofs.RequestedLaws.{requested}
-use Rattle.model.proofs.Promises.SeenLaws as seen
+use Rattle.model.proofs.Promises.SeenLaws as kinds
 use Rattle.model.proofs.Promises.SeenLaws.{seenAs, Finished, Kind, heardTip, step-of, kind-of}
-use Rattle.model.proofs.Promises.OutcomesKept.{Why, why-info}
 use Rattle.model.proofs.Promises.ModeLaws.{mode-is}
 use Rattle.model.proofs.Promises.WordLaws.{left-wanted, announceable-passes, passes-announceable}
 use Rattle.model.proofs.Promises.AskedLaws.{Says, continuation-says, say-to-says, enters-says, picks-say, ticks-say}
 use Rattle.model.proofs.Promises.AskedLaws.{askedBy, says-ask-nothing, asked-alone, asked-by, shut-asked, acts-well}
+use Rattle.model.proofs.Promises.OutcomesKept.{Why, why-info}
 
 -- ---- over plain variables
 
@@ -58,14 +59,14 @@ module _ (st : State) (call : Call) (f : Finished st call) where
 
   -- ---- announced ids and needed modifiers
 
-  pub needed-asked : call .gate ≡ 1 → call .kind ≡ 3 → AsksFor (seenAs st call) (call .typeid) (st .sync .syncPeer) (idsIn (call .ids))
+  pub needed-asked : call .gate ≡ 1 → call .kind ≡ numbers.neededModifier → AsksFor (seenAs st call) (call .typeid) (st .sync .syncPeer) (idsIn (call .ids))
   unfolding argsOf planOf continues remaining
   needed-asked open' k =
       record {
         left = wanted (st .pending) (call .typeid) (pairsIn (call .stored)) (idsIn (call .ids));
         unknown = left-wanted (st .pending) (call .typeid) (pairsIn (call .stored)) (idsIn (call .ids));
         requested =
-            asked-by st (argsOf call) (Steps.neededModifier (call .typeid) (idsIn (call .ids))) (step-of call (seen.neededModifier k)) refl
+            asked-by st (argsOf call) (Steps.neededModifier (call .typeid) (idsIn (call .ids))) (step-of call (kinds.neededModifier k)) refl
             ∙ asked-alone (eqb (call .gate) 1) (call .clock) (call .typeid) (st .sync .syncPeer) (pairsIn (call .stored)) (idsIn (call .ids)) (st .pending)
             (ap (λ (gate : ℕ). eqb gate 1) open');
       }
@@ -84,12 +85,12 @@ module _ (st : State) (call : Call) (f : Finished st call) where
       ap (λ (t : Bool). askedBy (a .gate) (a .clock) (cond t (ask typeId peer (a .stored) (id ∷ ids) ∷ []) []) rs) known
       ∙ asked-alone (a .gate) (a .clock) typeId peer (a .stored) (id ∷ ids) rs open'
 
-  pub announced-asked : call .gate ≡ 1 → call .kind ≡ 5 → stepAnswer st (argsOf call) .outcome ≡ 0 → Announceable (call .typeid)
+  pub announced-asked : call .gate ≡ 1 → call .kind ≡ numbers.announcedIds → stepAnswer st (argsOf call) .outcome ≡ 0 → Announceable (call .typeid)
       → AsksFor (seenAs st call) (call .typeid) (call .peer) (idsIn (call .ids))
   unfolding argsOf planOf plan stepAnswer remaining
   announced-asked open' k o known =
       let step : Step = Steps.announced (call .peer) (call .typeid) (idsIn (call .ids)) in
-      let e : stepOf call ≡ step = step-of call (seen.announcedIds k) in
+      let e : stepOf call ≡ step = step-of call (kinds.announcedIds k) in
       record {
         left = wanted (st .pending) (call .typeid) (pairsIn (call .stored)) (idsIn (call .ids));
         unknown = left-wanted (st .pending) (call .typeid) (pairsIn (call .stored)) (idsIn (call .ids));
@@ -127,7 +128,7 @@ module _ (st : State) (call : Call) (f : Finished st call) where
     answers-says peer acts tip Stalled w h = tt
     answers-says peer acts tip EndOfStream w h = tt
 
-    sync-info-heard-says : call .kind ≡ 6
+    sync-info-heard-says : call .kind ≡ numbers.syncInfo
         → All Says
         (hearsSyncInfo st a (call .peer) (eqb (call .parsed) 1) (cond (eqb (call .hastip) 1) (some (call .tip)) none) (idsIn (call .continuation)) .acts)
     unfolding hearsSyncInfo argsOf
@@ -138,7 +139,7 @@ module _ (st : State) (call : Call) (f : Finished st call) where
         (continuation-says (eqb (call .parsed) 1) (call .height) known (call .peer) (idsIn (call .continuation)))
         (λ e. subst (Why (seenAs st call)) e (why-info st call k))
 
-    announced-says : call .kind ≡ 5 → (ids : List Id) → idsIn (call .ids) ≡ ids
+    announced-says : call .kind ≡ numbers.announcedIds → (ids : List Id) → idsIn (call .ids) ≡ ids
         → (outcomeNumber (hearsAnnounced st a (call .peer) (call .typeid) ids .outcome) ≡ 0 → stepAnswer st (argsOf call) .outcome ≡ 0)
         → All Says (hearsAnnounced st a (call .peer) (call .typeid) ids .acts)
     unfolding hearsAnnounced continues
@@ -158,7 +159,7 @@ module _ (st : State) (call : Call) (f : Finished st call) where
     orphans-say h [] e = tt
     orphans-say h (p ∷ ps) e = absurd (barred (orphans h (λ n. cons≢nil (sym e ∙ n))))
 
-    loses-says : call .kind ≡ 8 → All Says (loses st a (call .peer) .acts)
+    loses-says : call .kind ≡ numbers.lostPeer → All Says (loses st a (call .peer) .acts)
     unfolding loses leaves continues argsOf
     loses-says k = go (eqb (call .peer) (st .sync .syncPeer)) (isMode (st .mode) syncing) refl refl
       where
@@ -170,7 +171,7 @@ module _ (st : State) (call : Call) (f : Finished st call) where
         go true false e h = tt
         go false m e h = tt
 
-    progresses-says : call .kind ≡ 11 → (isSyncing : Bool) → All Says (progresses st a isSyncing .acts)
+    progresses-says : call .kind ≡ numbers.progress → (isSyncing : Bool) → All Says (progresses st a isSyncing .acts)
     unfolding progresses
     progresses-says k false = sections-say (st .sync .downloaded) (onProgress k)
     progresses-says k true =
@@ -182,23 +183,23 @@ module _ (st : State) (call : Call) (f : Finished st call) where
     only-says : {step : Step} → Kind call step → (outcomeNumber (planOf st a step .outcome) ≡ 0 → stepAnswer st (argsOf call) .outcome ≡ 0)
         → (isCheck step ≡ false) × All Says (planOf st a step .acts)
     unfolding planOf continues leaves advances advancesAndRequests evicts
-    only-says (seen.start k) o = (refl, tt)
-    only-says (seen.pick k) o = (refl, picks-say st a (selectPeer (st .sync .stalledPeers) (a .peers)))
-    only-says (seen.neededModifier k) o = absurd (barred (needed k))
-    only-says (seen.reorg k) o = (refl, sections-say (advanceFrom st a (min (st .sync .downloaded) (call .fork)) .height) (inReorg k))
-    only-says (seen.announcedIds k) o = (refl, announced-says k (idsIn (call .ids)) refl o)
-    only-says (seen.syncInfo k) o = (refl, sync-info-heard-says k)
-    only-says (seen.otherMessage k) o = (refl, tt)
-    only-says (seen.lostPeer k) o = (refl, loses-says k)
-    only-says (seen.receivedIds k) o = (refl, tt)
-    only-says (seen.evictedIds k) o = (refl, tt)
-    only-says (seen.progress k) o = (refl, progresses-says k (isMode (st .mode) syncing))
-    only-says (seen.check k) o = absurd (barred (checks k))
-    only-says (seen.scheduledTick k) o =
+    only-says (kinds.start k) o = (refl, tt)
+    only-says (kinds.pick k) o = (refl, picks-say st a (selectPeer (st .sync .stalledPeers) (a .peers)))
+    only-says (kinds.neededModifier k) o = absurd (barred (needed k))
+    only-says (kinds.reorg k) o = (refl, sections-say (advanceFrom st a (min (st .sync .downloaded) (call .fork)) .height) (inReorg k))
+    only-says (kinds.announcedIds k) o = (refl, announced-says k (idsIn (call .ids)) refl o)
+    only-says (kinds.syncInfo k) o = (refl, sync-info-heard-says k)
+    only-says (kinds.otherMessage k) o = (refl, tt)
+    only-says (kinds.lostPeer k) o = (refl, loses-says k)
+    only-says (kinds.receivedIds k) o = (refl, tt)
+    only-says (kinds.evictedIds k) o = (refl, tt)
+    only-says (kinds.progress k) o = (refl, progresses-says k (isMode (st .mode) syncing))
+    only-says (kinds.check k) o = absurd (barred (checks k))
+    only-says (kinds.scheduledTick k) o =
         (refl, ticks-say st a (isMode (st .mode) syncing) (settings.stalled (st .settings) (a .clock) (st .sync .lastProgress)))
-    only-says (seen.sectionTick k) o = (refl, sections-say (advanceFrom st a (st .sync .downloaded) .height) (atSectionTick k))
-    only-says (seen.sendFailure k) o = (refl, tt)
-    only-says (seen.endOfStream k) o = (refl, tt)
+    only-says (kinds.sectionTick k) o = (refl, sections-say (advanceFrom st a (st .sync .downloaded) .height) (atSectionTick k))
+    only-says (kinds.sendFailure k) o = (refl, tt)
+    only-says (kinds.endOfStream k) o = (refl, tt)
 
   pub others-ask-nothing : (MayAsk (seenAs st call) → ⊥) → requestedIn (commands st (argsOf call)) ≡ []
   unfolding argsOf plan stepAnswer

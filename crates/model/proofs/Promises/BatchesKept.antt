@@ -18,20 +18,20 @@ use Rattle.model.specs.Sections.{Item, Batch, batchesOf}
 use Rattle.model.specs.Check.{retrySendings, markAllRetried}
 use Rattle.model.specs.Steps.{Args, isCheck, plan, remaining, retried, performed, commands}
 use Rattle.model.specs.Calls.{Call, stepOf, argsOf}
-use Rattle.model.specs.Promises.Numbers
+use Rattle.model.specs.Promises.Numbers as numbers
 use Rattle.model.specs.Promises.Words.{peers}
 use Rattle.model.specs.Promises.Asked.{AsksFresh}
 use Rattle.model.specs.Promises.Batches.{Alike, Follows, EachNext, StartsAt, OneBatch, Uncut, Batches}
 use Rattle.model.proofs.Widths.{WellAct}
 use Rattle.model.proofs.RequestedLaws.{requested-commands}
 use Rattle.model.proofs.Promises.SeenLaws.{seenAs, Finished, is-check}
-use Rattle.model.proofs.Promises.CheckAsked.{fresh-performed}
 use Rattle.model.proofs.Promises.ListLaws.{all-of, all-mapped, Pairwise, pairwise-map, pairwise-next}
 use Rattle.model.proofs.Promises.ListLaws.{OfFirst, Neighbours, next-of, next-append, next-map}
 use Rattle.model.proofs.Promises.ItemLaws.{batches-each, BatchBelow, batches-rise, below-differ}
+use Rattle.model.proofs.Promises.AskedLaws.{unretried, acts-well}
 use Rattle.model.proofs.Promises.PartLaws.{performed-each, Differs, batchAfter, commands-append, parts-differ}
 use Rattle.model.proofs.Promises.CourseLaws.{course-acts, told}
-use Rattle.model.proofs.Promises.AskedLaws.{unretried, acts-well}
+use Rattle.model.proofs.Promises.CheckAsked.{fresh-performed}
 
 -- ---- a sending as a header and its runs
 
@@ -282,10 +282,10 @@ retries-next items =
     (batchesOf items) (batches-rise items))
 
 -- a step other than a check sends nothing again
-none-again : (st : State) (call : Call) → Finished st call → (call .kind ≡ Numbers.check → ⊥) → commandsFrom 0 (retrySendings (retried st (argsOf call))) ≡ []
+none-again : (st : State) (call : Call) → Finished st call → (call .kind ≡ numbers.check → ⊥) → commandsFrom 0 (retrySendings (retried st (argsOf call))) ≡ []
 unfolding argsOf retrySendings batchesOf
 none-again st call f n =
-    let e : isCheck (stepOf call) ≡ false = sym (is-check st call f) ∙ ne-eqb (call .kind) Numbers.check n in
+    let e : isCheck (stepOf call) ≡ false = sym (is-check st call f) ∙ ne-eqb (call .kind) numbers.check n in
     ap (λ (items : List Item). commandsFrom 0 (retrySendings items)) (unretried st (argsOf call) e)
 
 uncut : (st : State) (call : Call) → Finished st call → Uncut (seenAs st call)

@@ -26,9 +26,9 @@ use Rattle.model.proofs.IdLaws.{among-inserted}
 use Rattle.model.proofs.RequestedLaws.{requested, requested-append}
 use Rattle.model.proofs.EnteringLaws.{requested-list}
 use Rattle.model.proofs.Promises.ListLaws.{among-back, among-either, all-mapped, kept-sorted, Pairwise}
+use Rattle.model.proofs.Promises.WordLaws.{among-passes, passes-among, pending-passes, passes-pending, pairOf, left-same, left-wanted}
 use Rattle.model.proofs.Promises.ItemLaws.{together, alone, isOf, of-alike, OfPeer, LowerType, batches-types}
 use Rattle.model.proofs.Promises.AskedLaws.{askedBy}
-use Rattle.model.proofs.Promises.WordLaws.{among-passes, passes-among, pending-passes, passes-pending, pairOf, left-same, left-wanted}
 
 -- the same lists
 left-as : {A : Type 0} (Out : A → Type 0) (xs xs′ left left′ : List A) → xs ≡ xs′ → left ≡ left′ → LeftOf Out xs′ left′ → LeftOf Out xs left

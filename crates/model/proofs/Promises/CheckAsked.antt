@@ -26,7 +26,7 @@ use Rattle.model.specs.Steps as steps
 use Rattle.model.specs.Steps.{Step, Args, isCheck, commands}
 use Rattle.model.specs.Calls.{Call, argsOf}
 use Rattle.model.specs.Book.{Requested, requestedIn}
-use Rattle.model.specs.Promises.Numbers
+use Rattle.model.specs.Promises.Numbers as numbers
 use Rattle.model.specs.Promises.Words.{Seen, peers, stored, LeftOf}
 use Rattle.model.specs.Promises.Pending as pending
 use Rattle.model.specs.Promises.Pending.{GoesTo}
@@ -129,7 +129,7 @@ module _ (s : Seen) where
   abbrev Elsewhere : ℕ → ℕ → Request → Type 0
   Elsewhere peer typeId r = GoesAgain s peer typeId r → ⊥
 
-  module _ (check : s .call .kind ≡ Numbers.check) (peer typeId : ℕ) where
+  module _ (check : s .call .kind ≡ numbers.check) (peer typeId : ℕ) where
     goes-again : (r : Request) → Past r → goes peer typeId r ≡ true → GoesAgain s peer typeId r
     unfolding retryOf
     goes-again r stamp e =
@@ -173,9 +173,9 @@ module _ (s : Seen) (now : List Request) (left : Left s (s .before .pending) now
       ⊎-elim (λ t. absurd (p .notTaken t)) (λ q. request-pending id now (q .0) (q .2) (becomes-id s (q .1) ∙ p .named))
       (left-of s left (p .request) (p .wasPending))
 
-  new-left : (ids : List Id) → LeftOf (λ (id : Id). StillPending s id ⊎ StoredAs s Numbers.aHeader id) ids (wanted now headerType (stored s) ids)
+  new-left : (ids : List Id) → LeftOf (λ (id : Id). StillPending s id ⊎ StoredAs s numbers.aHeader id) ids (wanted now headerType (stored s) ids)
   new-left ids =
-      left-same (λ (id : Id). PendingId now id ⊎ StoredAs s Numbers.aHeader id) (λ (id : Id). StillPending s id ⊎ StoredAs s Numbers.aHeader id)
+      left-same (λ (id : Id). PendingId now id ⊎ StoredAs s numbers.aHeader id) (λ (id : Id). StillPending s id ⊎ StoredAs s numbers.aHeader id)
       (λ id. ⊎-elim (λ h. inl (still-pending id h)) inr) (λ id. ⊎-elim (λ h. inl (pending-still id h)) inr)
       ids (wanted now headerType (stored s) ids) (left-wanted now headerType (stored s) ids)
 
@@ -190,7 +190,7 @@ module _ (s : Seen) (now : List Request) (left : Left s (s .before .pending) now
 -- ---- the promise
 
 -- what a check asks for anew are the fresh ids
-pub fresh-performed : (st : State) (call : Call) → Finished st call → call .gate ≡ 1 → call .kind ≡ Numbers.check
+pub fresh-performed : (st : State) (call : Call) → Finished st call → call .gate ≡ 1 → call .kind ≡ numbers.check
     → AsksFresh (seenAs st call) (peers (seenAs st call)) (requestedBySendings (steps.performed st (argsOf call) .sendings))
 unfolding argsOf
 fresh-performed st call f gate check =
@@ -201,7 +201,7 @@ fresh-performed st call f gate check =
     (sym (performed-behind st a (step-of call (kinds.check check)) (eq-eqb (call .gate) 1 gate)))
     (asks-fresh s now (left-again st call f check gate) (peers s))
 
-pub check-asked : (st : State) (call : Call) → Finished st call → call .gate ≡ 1 → call .kind ≡ Numbers.check → AsksAgain (seenAs st call)
+pub check-asked : (st : State) (call : Call) → Finished st call → call .gate ≡ 1 → call .kind ≡ numbers.check → AsksAgain (seenAs st call)
 unfolding argsOf judged
 check-asked st call f gate check =
     let s = seenAs st call in

@@ -37,9 +37,9 @@ use Rattle.model.specs.Promises.SyncInfos.{Announces, continuationIds}
 use Rattle.model.proofs.Promises.SeenLaws.{Finished, seenAs, syncInfoOf, Kind, apart, heardTip, Hears, is-heard, kind-of, mode-of}
 use Rattle.model.proofs.Promises.SeenLaws as kinds
 use Rattle.model.proofs.Promises.ListLaws.{all-mapped, pairwise-map}
-use Rattle.model.proofs.Promises.ItemLaws.{BatchBelow, batches-rise, below-differ, LowerType, batches-types}
 use Rattle.model.proofs.Promises.ModeLaws.{mode-is, mode-is-not, is-synced, no-peer}
 use Rattle.model.proofs.Promises.WordLaws.{listed-first, first-listed}
+use Rattle.model.proofs.Promises.ItemLaws.{BatchBelow, batches-rise, below-differ, LowerType, batches-types}
 use Rattle.model.proofs.Promises.PartLaws.{IsAsk, Differs, AsksApart, no-asks, one-ask, ActParts, Parts, only-asks, commands-parts}
 
 -- ---- what only asks
@@ -231,8 +231,8 @@ module _ (st : State) (call : Call) where
       passes (record {
         silent = silent;
         acts = only-asks (p .acts) w;
-        notBehind = λ b. eqb-false 0 2 refl (sym o ∙ b);
-        notStalled = λ b. eqb-false 0 4 refl (sym o ∙ b);
+        notBehind = λ b. apart o b refl;
+        notStalled = λ b. apart o b refl;
         syncPeer = λ m. ap (λ (s : Sync). s .syncPeer) e;
         lastProgress = ap (λ (s : Sync). s .lastProgress) e;
         sendClock = ap (λ (s : Sync). s .sendClock) e;
@@ -527,37 +527,38 @@ module _ (st : State) (call : Call) where
 
   told-of : (step : Step) → Kind call step → ofMode (st .mode) (st .sync .entrySent) step ≡ true → Told step
   unfolding planOf ofMode argsOf continues advances checks evicts unmarked
-  told-of Steps.start (kinds.start k) m = plain Steps.start 1 refl k (λ s. goes-on st call (advances st (argsOf call) seeking) s no-asks refl refl)
+  told-of Steps.start (kinds.start k) m = plain Steps.start numbers.start refl k (λ s. goes-on st call (advances st (argsOf call) seeking) s no-asks refl refl)
   told-of Steps.pick (kinds.pick k) m = untold Steps.pick (λ e. apart k e refl) (picks-says k)
   told-of Steps.progress (kinds.progress k) m = untold Steps.progress (λ e. apart k e refl) (progress-says k)
   told-of Steps.check (kinds.check k) m =
-      plain Steps.check 12 refl k
+      plain Steps.check numbers.check refl k
       (λ s. goes-on st call (checks st (argsOf call) (isMode (st .mode) syncing)) s (fresh-ask st (argsOf call) (firstOf (argsOf call .peers))) refl refl)
   told-of Steps.scheduledTick (kinds.scheduledTick k) m =
       untold Steps.scheduledTick (λ e. apart k e refl) (ticks-says k m (settings.stalled (st .settings) (call .clock) (st .sync .lastProgress)))
   told-of Steps.sectionTick (kinds.sectionTick k) m =
-      plain Steps.sectionTick 14 refl k (requests-next (st .sync .downloaded))
-  told-of Steps.sendFailure (kinds.sendFailure k) m = plain Steps.sendFailure 15 refl k (λ s. is-left st call SyncPeerGone seeking [] s no-asks refl refl refl)
+      plain Steps.sectionTick numbers.sectionTick refl k (requests-next (st .sync .downloaded))
+  told-of Steps.sendFailure (kinds.sendFailure k) m =
+      plain Steps.sendFailure numbers.sendFailure refl k (λ s. is-left st call SyncPeerGone seeking [] s no-asks refl refl refl)
   told-of Steps.endOfStream (kinds.endOfStream k) m =
-      plain Steps.endOfStream 16 refl k
+      plain Steps.endOfStream numbers.endOfStream refl k
       (λ s. is-left st call EndOfStream (cond (isMode (st .mode) seeking) ended seeking) [] s no-asks refl refl
       (either (λ (mode : Mode). hasSyncPeer mode ≡ false) (isMode (st .mode) seeking) ended seeking refl refl))
   told-of Steps.otherMessage (kinds.otherMessage k) m =
-      plain Steps.otherMessage 7 refl k (λ s. goes-on st call (continues st (argsOf call) []) s no-asks refl refl)
+      plain Steps.otherMessage numbers.otherMessage refl k (λ s. goes-on st call (continues st (argsOf call) []) s no-asks refl refl)
   told-of (Steps.neededModifier typeId ids) (kinds.neededModifier k) m =
-      plain (Steps.neededModifier typeId ids) 3 refl k
+      plain (Steps.neededModifier typeId ids) numbers.neededModifier refl k
       (λ s. goes-on st call (continues st (argsOf call) (ask typeId (st .sync .syncPeer) (argsOf call .stored) ids ∷ [])) s
       (one-ask typeId (st .sync .syncPeer) (argsOf call .stored) ids) refl refl)
   told-of (Steps.reorg fork) (kinds.reorg k) m =
-      plain (Steps.reorg fork) 4 refl k (requests-next (min (st .sync .downloaded) fork))
+      plain (Steps.reorg fork) numbers.reorg refl k (requests-next (min (st .sync .downloaded) fork))
   told-of (Steps.announced peer typeId ids) (kinds.announcedIds k) m =
-      plain (Steps.announced peer typeId ids) 5 refl k (λ s. hears-announced peer typeId ids (ap isPlain k))
+      plain (Steps.announced peer typeId ids) numbers.announcedIds refl k (λ s. hears-announced peer typeId ids (ap isPlain k))
   told-of (Steps.syncInfo peer parsed tip ids) (kinds.syncInfo k) m = hears k
-  told-of (Steps.lostPeer peer) (kinds.lostPeer k) m = plain (Steps.lostPeer peer) 8 refl k (λ s. loses-peer peer (ap isPlain k))
+  told-of (Steps.lostPeer peer) (kinds.lostPeer k) m = plain (Steps.lostPeer peer) numbers.lostPeer refl k (λ s. loses-peer peer (ap isPlain k))
   told-of (Steps.received ids) (kinds.receivedIds k) m =
-      plain (Steps.received ids) 9 refl k (λ s. goes-on st call (advances st (argsOf call) (st .mode)) s no-asks refl refl)
+      plain (Steps.received ids) numbers.receivedIds refl k (λ s. goes-on st call (advances st (argsOf call) (st .mode)) s no-asks refl refl)
   told-of (Steps.evicted ids) (kinds.evictedIds k) m =
-      plain (Steps.evicted ids) 10 refl k (λ s. goes-on st call (evicts st (argsOf call) ids) s no-asks refl refl)
+      plain (Steps.evicted ids) numbers.evictedIds refl k (λ s. goes-on st call (evicts st (argsOf call) ids) s no-asks refl refl)
 
   retries-none : (announced : List Sending) (t : Bool) (items : List Item) → (t ≡ false) ⊎ (announced ≡ [])
       → (retrySendings (cond t items []) ≡ []) ⊎ (announced ≡ [])

@@ -7,7 +7,6 @@ use mathlib.Core.List.{List}
 use mathlib.Core.Option.{Option, none, some}
 use native.Mathlib.Omega.{arith}
 use lib.Dec.{eqb, leb, ltb}
-use borrow.Author.Tests.{eqb-false}
 use Rattle.fields.proofs.OrderLaws.{trichotomy}
 use Rattle.model.specs.Protocol.{Id}
 use Rattle.model.specs.Settings as settings
@@ -24,8 +23,8 @@ use Rattle.model.specs.Promises.Numbers as numbers
 use Rattle.model.specs.Promises.Words.{Seen, ids, view}
 use Rattle.model.specs.Promises.Outcomes.{Heard}
 use Rattle.model.specs.Promises.Heights.{LooksOn, inReorg, StartsFrom, Downloaded, KnownTip}
-use Rattle.model.proofs.Promises.SeenLaws
-use Rattle.model.proofs.Promises.SeenLaws.{Finished, seenAs, Kind, heardTip, Hears, is-heard, kind-of, mode-of}
+use Rattle.model.proofs.Promises.SeenLaws as kinds
+use Rattle.model.proofs.Promises.SeenLaws.{apart, Finished, seenAs, Kind, heardTip, Hears, is-heard, kind-of, mode-of}
 use Rattle.model.proofs.Promises.SparedLaws.{picks-spares, announced-spares, loses-spares, ticks-spares, progresses-spares}
 use Rattle.model.proofs.Promises.ViewLaws.{raised-reaches}
 use Rattle.model.proofs.Promises.LookLaws.{here, starts-here, args, risen, Reading, looks, looksAndAsks, asks, neither, plan-reads}
@@ -117,42 +116,42 @@ module _ (st : State) (a : Args) where
 
 module _ (s : Seen) where
   unheard : (kind : ℕ) → s .call .kind ≡ kind → eqb kind numbers.syncInfo ≡ false → (tip : ℕ) → Heard s tip → ⊥
-  unheard kind k other tip h = eqb-false kind numbers.syncInfo other (sym k ∙ h .kind)
+  unheard kind k other tip h = apart k (h .kind) other
 
   info-tips : s .call .kind ≡ numbers.syncInfo → Tip s (raisedTip (s .before .sync .knownTip) (heardTip (s .call)))
   unfolding raisedTip
   info-tips k = go (heardTip (s .call)) (is-heard s k)
     where
       go : (tip : Option ℕ) → Hears s tip → Tip s (raisedTip (s .before .sync .knownTip) tip)
-      go tip (SeenLaws.aTip h) = hears h refl
-      go tip (SeenLaws.noTip n) = stays n refl
+      go tip (kinds.aTip h) = hears h refl
+      go tip (kinds.noTip n) = stays n refl
 
   step-tips : {step : Step} → Kind (s .call) step → Tip s (planOf (s .before) (args s) step .sync .knownTip)
   unfolding planOf advances advancesAndRequests continues leaves checks evicts unmarked withoutPeer
-  step-tips (SeenLaws.start k) = stays (unheard numbers.start k refl) refl
-  step-tips (SeenLaws.pick k) =
+  step-tips (kinds.start k) = stays (unheard numbers.start k refl) refl
+  step-tips (kinds.pick k) =
       stays (unheard numbers.pick k refl) (picks-spares (s .before) (args s) (selectPeer (s .before .sync .stalledPeers) (args s .peers)) .0)
-  step-tips (SeenLaws.neededModifier k) = stays (unheard numbers.neededModifier k refl) refl
-  step-tips (SeenLaws.reorg k) = stays (unheard numbers.reorg k refl) refl
-  step-tips (SeenLaws.announcedIds k) =
+  step-tips (kinds.neededModifier k) = stays (unheard numbers.neededModifier k refl) refl
+  step-tips (kinds.reorg k) = stays (unheard numbers.reorg k refl) refl
+  step-tips (kinds.announcedIds k) =
       stays (unheard numbers.announcedIds k refl) (announced-spares (s .before) (args s) (s .call .peer) (s .call .typeid) (ids s) .0)
-  step-tips (SeenLaws.syncInfo k) =
+  step-tips (kinds.syncInfo k) =
       let named = cond (eqb (s .call .hastip) 1) (some (s .call .tip)) none in
       subst (Tip s) (sym (info-tip (s .before) (args s) (s .call .peer) (eqb (s .call .parsed) 1) named (idsIn (s .call .continuation)))) (info-tips k)
-  step-tips (SeenLaws.otherMessage k) = stays (unheard numbers.otherMessage k refl) refl
-  step-tips (SeenLaws.lostPeer k) = stays (unheard numbers.lostPeer k refl) (loses-spares (s .before) (args s) (s .call .peer) .0)
-  step-tips (SeenLaws.receivedIds k) = stays (unheard numbers.receivedIds k refl) refl
-  step-tips (SeenLaws.evictedIds k) = stays (unheard numbers.evictedIds k refl) refl
-  step-tips (SeenLaws.progress k) =
+  step-tips (kinds.otherMessage k) = stays (unheard numbers.otherMessage k refl) refl
+  step-tips (kinds.lostPeer k) = stays (unheard numbers.lostPeer k refl) (loses-spares (s .before) (args s) (s .call .peer) .0)
+  step-tips (kinds.receivedIds k) = stays (unheard numbers.receivedIds k refl) refl
+  step-tips (kinds.evictedIds k) = stays (unheard numbers.evictedIds k refl) refl
+  step-tips (kinds.progress k) =
       stays (unheard numbers.progress k refl) (progresses-spares (s .before) (args s) (isMode (s .before .mode) syncing) .0)
-  step-tips (SeenLaws.check k) = stays (unheard numbers.check k refl) refl
-  step-tips (SeenLaws.scheduledTick k) =
+  step-tips (kinds.check k) = stays (unheard numbers.check k refl) refl
+  step-tips (kinds.scheduledTick k) =
       let st = s .before in
       let late = settings.stalled (st .settings) (args s .clock) (st .sync .lastProgress) in
       stays (unheard numbers.scheduledTick k refl) (ticks-spares st (args s) (isMode (st .mode) syncing) late (firstOf (args s .peers)) .0)
-  step-tips (SeenLaws.sectionTick k) = stays (unheard numbers.sectionTick k refl) refl
-  step-tips (SeenLaws.sendFailure k) = stays (unheard numbers.sendFailure k refl) refl
-  step-tips (SeenLaws.endOfStream k) = stays (unheard numbers.endOfStream k refl) refl
+  step-tips (kinds.sectionTick k) = stays (unheard numbers.sectionTick k refl) refl
+  step-tips (kinds.sendFailure k) = stays (unheard numbers.sendFailure k refl) refl
+  step-tips (kinds.endOfStream k) = stays (unheard numbers.endOfStream k refl) refl
 
 pub known-tip-kept : (st : State) (call : Call) → Finished st call → KnownTip (seenAs st call)
 unfolding after plan argsOf

@@ -1,12 +1,11 @@
 -- What a step leaves of the pending requests before it asks for any: each is taken out, or stays and becomes what is promised.
 use Prim.Native.Nat.{ℕ, _≤_}
-use mathlib.Core.Path.{_≡_, refl, sym, ap, _∙_, subst}
+use mathlib.Core.Path.{_≡_, refl, sym, ap, subst}
 use mathlib.Core.Bool.{Bool, true, false, _||_}
 use mathlib.Core.Logic.{_⊎_, inl, inr, ⊎-elim}
 use mathlib.Core.List.{List, [], _∷_, map}
 use native.Mathlib.Omega.{arith}
 use lib.Dec.{eqb}
-use borrow.Author.Tests.{eqb-false}
 use Rattle.fields.specs.Facts.{All}
 use Rattle.fields.specs.Filter.{consIf, kept}
 use Rattle.fields.proofs.OrderLaws.{not-both}
@@ -16,13 +15,13 @@ use Rattle.model.specs.State.{State, syncing}
 use Rattle.model.specs.Check.{retryTarget, retryOf, markAllRetried}
 use Rattle.model.specs.Lists.{peersIn}
 use Rattle.model.specs.Calls.{Call}
-use Rattle.model.specs.Promises.Numbers
+use Rattle.model.specs.Promises.Numbers as numbers
 use Rattle.model.specs.Promises.Words.{Seen, ids, Among}
 use Rattle.model.specs.Promises.Pending as pending
 use Rattle.model.specs.Promises.Pending.{Retried, TakenOut, Becomes, restartedAt}
+use Rattle.model.proofs.Promises.SeenLaws.{apart, seenAs, Finished}
 use Rattle.model.proofs.Promises.TellsLaws.{Tells}
 use Rattle.model.proofs.Promises.VerdictLaws.{goes-to, Made, made, waiting-stays, retried-stays, stamps-past}
-use Rattle.model.proofs.Promises.SeenLaws.{seenAs, Finished}
 use Rattle.model.proofs.Promises.CheckedLaws.{leaves, checked, checked-still, checked-again}
 
 module _ (s : Seen) where
@@ -71,7 +70,7 @@ module _ (s : Seen) where
 
   -- ---- a check
 
-  module _ (check : s .call .kind ≡ Numbers.check) (target : ℕ → ℕ)
+  module _ (check : s .call .kind ≡ numbers.check) (target : ℕ → ℕ)
       (moves : (r : Request) → Retried s r → Becomes s r (restartedAt s r (target (r .peer)))) where
     abbrev still : List Request → List Request
     still rs = checked (s .before .settings) (s .call .clock) target rs
@@ -87,7 +86,7 @@ module _ (s : Seen) where
         go Delivery.abandoned m l = out r rs (still rs) (pending.abandoned m) l
         go Delivery.forgotten m l = out r rs (still rs) (pending.forgotten m) l
 
-module _ (st : State) (call : Call) (f : Finished st call) (check : call .kind ≡ Numbers.check) where
+module _ (st : State) (call : Call) (f : Finished st call) (check : call .kind ≡ numbers.check) where
   abbrev listed : List ℕ
   listed = peersIn (call .peers)
 
@@ -114,7 +113,7 @@ module _ (st : State) (call : Call) (f : Finished st call) (check : call .kind �
 -- the kinds that take out
 abbrev pub takesOut : ℕ → Bool
 takesOut kind =
-    eqb kind Numbers.receivedIds || (eqb kind Numbers.evictedIds || (eqb kind Numbers.reorg || (eqb kind Numbers.lostPeer || eqb kind Numbers.check)))
+    eqb kind numbers.receivedIds || (eqb kind numbers.evictedIds || (eqb kind numbers.reorg || (eqb kind numbers.lostPeer || eqb kind numbers.check)))
 
 module _ (s : Seen) (r : Request) where
   taken-kind : TakenOut s r → takesOut (s .call .kind) ≡ true
@@ -128,16 +127,16 @@ module _ (s : Seen) (r : Request) where
   pub untaken : takesOut (s .call .kind) ≡ false → TakenOut s r → ⊥
   untaken n t = not-both (takesOut (s .call .kind)) (taken-kind t) n
 
-  pub taken-listed : (n : ℕ) → s .call .kind ≡ n → eqb n Numbers.reorg ≡ false → eqb n Numbers.lostPeer ≡ false → eqb n Numbers.check ≡ false
+  pub taken-listed : (n : ℕ) → s .call .kind ≡ n → eqb n numbers.reorg ≡ false → eqb n numbers.lostPeer ≡ false → eqb n numbers.check ≡ false
       → TakenOut s r → Among (r .id) (ids s)
   taken-listed n k a b c (pending.received e among) = among
   taken-listed n k a b c (pending.evicted e among) = among
-  taken-listed n k a b c (pending.purged e) = absurd (eqb-false n Numbers.reorg a (sym k ∙ e))
-  taken-listed n k a b c (pending.orphaned e mode lost peer) = absurd (eqb-false n Numbers.lostPeer b (sym k ∙ e))
-  taken-listed n k a b c (pending.forgotten f) = absurd (eqb-false n Numbers.check c (sym k ∙ f .kind))
-  taken-listed n k a b c (pending.abandoned f) = absurd (eqb-false n Numbers.check c (sym k ∙ f .kind))
+  taken-listed n k a b c (pending.purged e) = absurd (apart k e a)
+  taken-listed n k a b c (pending.orphaned e mode lost peer) = absurd (apart k e b)
+  taken-listed n k a b c (pending.forgotten f) = absurd (apart k (f .kind) c)
+  taken-listed n k a b c (pending.abandoned f) = absurd (apart k (f .kind) c)
 
-  pub taken-lost : s .call .kind ≡ Numbers.lostPeer → TakenOut s r
+  pub taken-lost : s .call .kind ≡ numbers.lostPeer → TakenOut s r
       → (s .before .mode ≡ syncing) × (s .call .peer ≡ s .before .sync .syncPeer) × (r .peer ≡ s .call .peer)
   taken-lost k (pending.received e among) = absurd (omega (arith, e, k))
   taken-lost k (pending.evicted e among) = absurd (omega (arith, e, k))

@@ -30,7 +30,7 @@ use Rattle.model.specs.Promises.Outcomes.{Heard, NothingAhead, noHeaders
 use Rattle.model.specs.Promises.Heights.{LooksOn, atStart, inReorg, onReceipt, atSectionTick, inCheck, atTick, StartsFrom}
 use Rattle.model.specs.Promises.Asked as asked
 use Rattle.model.specs.Promises.Asked.{NextSections}
-use Rattle.model.proofs.Promises.SeenLaws
+use Rattle.model.proofs.Promises.SeenLaws as kinds
 use Rattle.model.proofs.Promises.SeenLaws.{Kind, syncInfoOf, heardTip, Hears, is-heard}
 use Rattle.model.proofs.Promises.ModeLaws.{mode-is, mode-is-not, is-synced}
 
@@ -352,36 +352,36 @@ module _ (s : Seen) where
       go : (tip : Option ℕ) → Hears s tip
           → Reading s (answers (s .before) (args s) (s .call .peer) (acts tip) (raisedTip (s .before .sync .knownTip) tip)
           (tipOutcome (eqb (s .call .peer) (s .before .sync .syncPeer)) (s .call .height) tip))
-      go tip (SeenLaws.aTip h) = heard-reads (acts tip) (raisedTip (s .before .sync .knownTip) tip) h
-      go tip (SeenLaws.noTip n) = unheard-reads (s .call .peer) (raisedTip (s .before .sync .knownTip) tip) (acts tip) k (n (s .call .tip))
+      go tip (kinds.aTip h) = heard-reads (acts tip) (raisedTip (s .before .sync .knownTip) tip) h
+      go tip (kinds.noTip n) = unheard-reads (s .call .peer) (raisedTip (s .before .sync .knownTip) tip) (acts tip) k (n (s .call .tip))
 
   -- ---- every step
 
   step-reads : {step : Step} → Kind (s .call) step → ofMode (s .before .mode) (s .before .sync .entrySent) step ≡ true
       → Reading s (planOf (s .before) (args s) step)
   unfolding planOf ofMode argsOf
-  step-reads (SeenLaws.start k) mode = advances-reads seeking (atStart k) (no-ask s numbers.start k refl) (λ e. omega (arith, k, e))
-  step-reads (SeenLaws.pick k) mode =
+  step-reads (kinds.start k) mode = advances-reads seeking (atStart k) (no-ask s numbers.start k refl) (λ e. omega (arith, k, e))
+  step-reads (kinds.pick k) mode =
       let chosen = selectPeer (s .before .sync .stalledPeers) (peers s) in
       quiet numbers.pick k refl refl (picks (s .before) (args s) chosen) (picks-still chosen)
-  step-reads (SeenLaws.neededModifier k) mode =
+  step-reads (kinds.neededModifier k) mode =
       let acts = ask (s .call .typeid) (s .before .sync .syncPeer) (args s .stored) (ids s) ∷ [] in
       quiet numbers.neededModifier k refl refl (continues (s .before) (args s) acts) (continues-still acts)
-  step-reads (SeenLaws.reorg k) mode = both-read (min (here s) (s .call .fork)) (inReorg k) (asked.inReorg k) (starts-lower s k)
-  step-reads (SeenLaws.announcedIds k) mode = ids-read k (ids s) refl
-  step-reads (SeenLaws.syncInfo k) mode = info-reads k
-  step-reads (SeenLaws.otherMessage k) mode = quiet numbers.otherMessage k refl refl (continues (s .before) (args s) []) (continues-still [])
-  step-reads (SeenLaws.lostPeer k) mode = quiet numbers.lostPeer k refl refl (loses (s .before) (args s) (s .call .peer)) (loses-still (s .call .peer))
-  step-reads (SeenLaws.receivedIds k) mode =
+  step-reads (kinds.reorg k) mode = both-read (min (here s) (s .call .fork)) (inReorg k) (asked.inReorg k) (starts-lower s k)
+  step-reads (kinds.announcedIds k) mode = ids-read k (ids s) refl
+  step-reads (kinds.syncInfo k) mode = info-reads k
+  step-reads (kinds.otherMessage k) mode = quiet numbers.otherMessage k refl refl (continues (s .before) (args s) []) (continues-still [])
+  step-reads (kinds.lostPeer k) mode = quiet numbers.lostPeer k refl refl (loses (s .before) (args s) (s .call .peer)) (loses-still (s .call .peer))
+  step-reads (kinds.receivedIds k) mode =
       advances-reads (s .before .mode) (onReceipt k) (no-ask s numbers.receivedIds k refl) (λ e. omega (arith, k, e))
-  step-reads (SeenLaws.evictedIds k) mode = quiet numbers.evictedIds k refl refl (evicts (s .before) (args s) (ids s)) (evicts-still (ids s))
-  step-reads (SeenLaws.progress k) mode = progress-reads k (isMode (s .before .mode) syncing)
-  step-reads (SeenLaws.check k) mode = check-reads k
-  step-reads (SeenLaws.scheduledTick k) mode = tick-reads k mode
-  step-reads (SeenLaws.sectionTick k) mode = both-read (here s) (atSectionTick k) (asked.atSectionTick k) (starts-here s (λ e. omega (arith, k, e)))
-  step-reads (SeenLaws.sendFailure k) mode =
+  step-reads (kinds.evictedIds k) mode = quiet numbers.evictedIds k refl refl (evicts (s .before) (args s) (ids s)) (evicts-still (ids s))
+  step-reads (kinds.progress k) mode = progress-reads k (isMode (s .before .mode) syncing)
+  step-reads (kinds.check k) mode = check-reads k
+  step-reads (kinds.scheduledTick k) mode = tick-reads k mode
+  step-reads (kinds.sectionTick k) mode = both-read (here s) (atSectionTick k) (asked.atSectionTick k) (starts-here s (λ e. omega (arith, k, e)))
+  step-reads (kinds.sendFailure k) mode =
       quiet numbers.sendFailure k refl refl (leaves (s .before) (args s) SyncPeerGone seeking []) (leaves-still SyncPeerGone seeking [])
-  step-reads (SeenLaws.endOfStream k) mode =
+  step-reads (kinds.endOfStream k) mode =
       let next = cond (isMode (s .before .mode) seeking) ended seeking in
       quiet numbers.endOfStream k refl refl (leaves (s .before) (args s) EndOfStream next []) (leaves-still EndOfStream next [])
 

@@ -17,7 +17,7 @@ use Rattle.model.specs.Steps
 use Rattle.model.specs.Steps.{entersSyncing, picks, answers, ticksSyncing, ticksSynced, progresses, withoutPeer}
 use Rattle.model.specs.Steps.{Step, Plan, ofMode, plan, after, commands}
 use Rattle.model.specs.Calls.{Call, argsOf, stepOf}
-use Rattle.model.specs.Promises.Numbers
+use Rattle.model.specs.Promises.Numbers as numbers
 use Rattle.model.specs.Promises.Words.{Seen, peers, Among}
 use Rattle.model.specs.Promises.Marks as promised
 use Rattle.model.specs.Promises.Marks.{Chosen, Picked, Enters, Progresses, SaysSyncInfo, SyncPeer, Emptied, allStalled, byProgress, StalledSet, Marks}
@@ -29,7 +29,7 @@ use Rattle.model.proofs.Promises.ModeLaws.{mode-is-not, is-not-mode, no
 use Rattle.model.proofs.Promises.WordLaws.{listed-passes, passes-listed, fails-listed, listed-first}
 use Rattle.model.proofs.Promises.CourseLaws.{seenBy, seen-by, isQuiet, Course, told}
 use Rattle.model.proofs.Promises.CourseLaws as courses
-use Rattle.model.proofs.Promises.SyncInfosKept.{due, not-due, last-send-past, sync-infos-kept, none-said}
+use Rattle.model.proofs.Promises.SyncInfosKept.{NotBehind, due, not-due, last-send-past, sync-infos-kept, none-said}
 
 -- ---- rule 1
 
@@ -103,9 +103,6 @@ module _ (s : Seen) where
   abbrev NotPicked : Type 0
   NotPicked = Picked s → ⊥
 
-  abbrev NotBehind : Type 0
-  NotBehind = s .answer .outcome ≡ Numbers.saysBehindPeer → ⊥
-
   abbrev NotProgress : Type 0
   NotProgress = Progresses s → ⊥
 
@@ -117,7 +114,7 @@ module _ {s : Seen} where
       → ((s .after .mode ≡ syncing → ⊥) → (s .after .mode ≡ synced → ⊥) → s .after .sync .syncPeer ≡ 0) → SyncPeer s
   peer-stays p b e alone = record { picked = λ q. absurd (p q); behind = λ o. absurd (b o); kept = λ n m. e m; none = alone }
 
-  set-stays : (s .call .kind ≡ Numbers.pick → ⊥) → NotProgress s → NotBehind s → (s .answer .outcome ≡ Numbers.saysStalled → ⊥)
+  set-stays : (s .call .kind ≡ numbers.pick → ⊥) → NotProgress s → NotBehind s → (s .answer .outcome ≡ numbers.saysStalled → ⊥)
       → s .after .sync .stalledPeers ≡ s .before .sync .stalledPeers → StalledSet s
   set-stays k p b o e =
       record { emptied = λ q. absurd (not-emptied q); joins = λ q n. absurd (o q); isThere = λ q n. absurd (o q); kept = λ n q. e }
@@ -127,10 +124,10 @@ module _ {s : Seen} where
       not-emptied (byProgress q) = p q
       not-emptied (promised.behind q) = b q
 
-  set-empties : Emptied s → (s .answer .outcome ≡ Numbers.saysStalled → ⊥) → s .after .sync .stalledPeers ≡ [] → StalledSet s
+  set-empties : Emptied s → (s .answer .outcome ≡ numbers.saysStalled → ⊥) → s .after .sync .stalledPeers ≡ [] → StalledSet s
   set-empties q o e = record { emptied = λ q. e; joins = λ q n. absurd (o q); isThere = λ q n. absurd (o q); kept = λ n o. absurd (n q) }
 
-  set-joins : s .call .kind ≡ Numbers.scheduledTick → s .answer .outcome ≡ Numbers.saysStalled
+  set-joins : s .call .kind ≡ numbers.scheduledTick → s .answer .outcome ≡ numbers.saysStalled
       → s .after .sync .stalledPeers ≡ joinStalled (s .before .sync .syncPeer) (s .before .sync .stalledPeers) → StalledSet s
   set-joins k o e =
       record {
@@ -143,22 +140,22 @@ module _ {s : Seen} where
       not-emptied : Emptied s → ⊥
       not-emptied (allStalled q w) = apart k q refl
       not-emptied (byProgress q) = apart k (q .kind) refl
-      not-emptied (promised.behind q) = eqb-false 4 2 refl (sym o ∙ q)
+      not-emptied (promised.behind q) = apart o q refl
 
-  pick-set : s .call .kind ≡ Numbers.pick → s .answer .outcome ≡ Numbers.saysContinue
+  pick-set : s .call .kind ≡ numbers.pick → s .answer .outcome ≡ numbers.saysContinue
       → s .after .sync .stalledPeers ≡ stalledAfterSelect (s .before .sync .stalledPeers) (peers s) → StalledSet s
   pick-set k o e =
       record {
         emptied = empties;
-        joins = λ q n. absurd (eqb-false 0 4 refl (sym o ∙ q));
-        isThere = λ q n. absurd (eqb-false 0 4 refl (sym o ∙ q));
+        joins = λ q n. absurd (apart o q refl);
+        isThere = λ q n. absurd (apart o q refl);
         kept = λ n q. e ∙ select-keeps (s .before .sync .stalledPeers) (peers s) (λ w. n (allStalled k w));
       }
     where
       empties : Emptied s → s .after .sync .stalledPeers ≡ []
       empties (allStalled q w) = e ∙ select-empties (s .before .sync .stalledPeers) (peers s) w
       empties (byProgress q) = absurd (apart k (q .kind) refl)
-      empties (promised.behind q) = absurd (eqb-false 0 2 refl (sym o ∙ q))
+      empties (promised.behind q) = absurd (apart o q refl)
 
 module _ (st : State) (call : Call) where
   course-set : {announced said : List Sending} {p : Plan} → Course st call announced said p → (sent : List Command) → StalledSet (seenBy st call p sent)
@@ -226,9 +223,9 @@ record Marked (s : Seen) : Type 0 where
   progressKept : (Picked s ⊎ Progresses s → ⊥) → s .after .sync .lastProgress ≡ s .before .sync .lastProgress
   entryMark : (s .after .sync .entrySent ≡ true) ↔ (Enters s × SaysSyncInfo s)
   usedByProgress : Progresses s → s .after .sync .progressUsed ≡ true
-  allowedAgain : Enters s ⊎ (s .call .kind ≡ Numbers.scheduledTick) → s .after .sync .progressUsed ≡ false
+  allowedAgain : Enters s ⊎ (s .call .kind ≡ numbers.scheduledTick) → s .after .sync .progressUsed ≡ false
   usedKept :
-      (Progresses s → ⊥) → (Enters s → ⊥) → (s .call .kind ≡ Numbers.scheduledTick → ⊥) → s .after .mode ≡ syncing
+      (Progresses s → ⊥) → (Enters s → ⊥) → (s .call .kind ≡ numbers.scheduledTick → ⊥) → s .after .mode ≡ syncing
       → s .after .sync .progressUsed ≡ s .before .sync .progressUsed
 
 module _ {s : Seen} where
@@ -237,8 +234,8 @@ module _ {s : Seen} where
 
   -- a step that neither enters syncing nor progresses
   stays-marked : NotPicked s → NotBehind s → NotProgress s → s .after .sync .lastProgress ≡ s .before .sync .lastProgress → s .after .sync .entrySent ≡ false
-      → (s .call .kind ≡ Numbers.scheduledTick → s .after .sync .progressUsed ≡ false)
-      → ((s .call .kind ≡ Numbers.scheduledTick → ⊥) → s .after .mode ≡ syncing → s .after .sync .progressUsed ≡ s .before .sync .progressUsed) → Marked s
+      → (s .call .kind ≡ numbers.scheduledTick → s .after .sync .progressUsed ≡ false)
+      → ((s .call .kind ≡ numbers.scheduledTick → ⊥) → s .after .mode ≡ syncing → s .after .sync .progressUsed ≡ s .before .sync .progressUsed) → Marked s
   stays-marked p b r last entry tick used =
       record {
         progressSet = λ q. absurd (⊎-elim p r q);
@@ -278,7 +275,7 @@ module _ {s : Seen} where
 -- ---- the entry mark says whether a sync info went out
 
 module _ (s : Seen) (infos : SyncInfos s) where
-  one-said : (c : Command) → infos .said ≡ c ∷ [] → c .kind ≡ Numbers.aSyncInfo → SaysSyncInfo s
+  one-said : (c : Command) → infos .said ≡ c ∷ [] → c .kind ≡ numbers.aSyncInfo → SaysSyncInfo s
   one-said c e k =
       let parts : s .sent ≡ infos .others ++ (c ∷ []) = infos .parts ∙ ap (λ (cs : List Command). infos .others ++ cs) e in
       promised.said c (subst (Among c) (sym parts) (among-back c (infos .others) (c ∷ []) (inl refl))) k

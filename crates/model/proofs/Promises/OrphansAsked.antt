@@ -29,9 +29,9 @@ use Rattle.model.proofs.Well.{RisingIds}
 use Rattle.model.proofs.Promises.SeenLaws as kinds
 use Rattle.model.proofs.Promises.SeenLaws.{seenAs, Finished, step-of}
 use Rattle.model.proofs.Promises.ListLaws.{among-kept, all-mapped}
+use Rattle.model.proofs.Promises.TellsLaws.{tells-not}
 use Rattle.model.proofs.Promises.WordLaws.{pending-request, one-request, passes-stored, stored-tells, first-listed}
 use Rattle.model.proofs.Promises.WordLaws.{left-kept-twice, left-within, left-only}
-use Rattle.model.proofs.Promises.TellsLaws.{tells-not}
 use Rattle.model.proofs.Promises.AskedLaws.{askedBy, asked-by}
 use Rattle.model.proofs.Promises.ByTypeLaws.{ofType, Known, ByType, asks, asked-by-type}
 

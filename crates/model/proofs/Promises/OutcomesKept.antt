@@ -24,10 +24,10 @@ use Rattle.model.specs.Promises.Numbers as numbers
 use Rattle.model.specs.Promises.Words.{Seen}
 use Rattle.model.specs.Promises.Outcomes.{Heard, NothingAhead, noHeaders, tipReached, FarAhead, tipAhead, PeerGone, lost}
 use Rattle.model.specs.Promises.Outcomes.{sendFailed, nobodyListed, NoProgress, Outcomes, Modes}
-use Rattle.model.proofs.Promises.SeenLaws as seen
-use Rattle.model.proofs.Promises.WrongCallLaws.{mode-fits, fits-taken}
-use Rattle.model.proofs.Promises.ModeLaws.{mode-is, is-not-mode, is-synced}
+use Rattle.model.proofs.Promises.SeenLaws as kinds
 use Rattle.model.proofs.Promises.SeenLaws.{seenAs, Finished, Kind, syncInfoOf, heardTip, Hears, is-heard, plan-of, kind-of, mode-of}
+use Rattle.model.proofs.Promises.ModeLaws.{mode-is, is-not-mode, is-synced}
+use Rattle.model.proofs.Promises.WrongCallLaws.{mode-fits, fits-taken}
 
 -- ---- why an outcome is given
 
@@ -80,8 +80,8 @@ module _ (st : State) (call : Call) where
   why-info k = go (heardTip call) (is-heard s k)
     where
       go : (tip : Option ℕ) → Hears s tip → Why s (tipOutcome fromSyncPeer (call .height) tip)
-      go tip (seen.aTip h) = why-tip h
-      go tip (seen.noTip n) = tt
+      go tip (kinds.aTip h) = why-tip h
+      go tip (kinds.noTip n) = tt
 
   why-announced : call .kind ≡ numbers.announcedIds → (ids : List Id) → idsIn (call .ids) ≡ ids
       → Why s (hearsAnnounced st a (call .peer) (call .typeid) ids .outcome)
@@ -126,30 +126,30 @@ module _ (st : State) (call : Call) where
   -- Every outcome has its reason.
   why : {step : Step} → Kind call step → ofMode (st .mode) (st .sync .entrySent) step ≡ true → Why s (planOf st a step .outcome)
   unfolding planOf ofMode advances picks entersSyncing continues advancesAndRequests leaves evicts progresses checks hearsSyncInfo argsOf
-  why (seen.start k) m = tt
-  why (seen.pick k) m = go (selectPeer (st .sync .stalledPeers) (a .peers))
+  why (kinds.start k) m = tt
+  why (kinds.pick k) m = go (selectPeer (st .sync .stalledPeers) (a .peers))
     where
       go : (peer : Option ℕ) → Why s (picks st a peer .outcome)
       go none = tt
       go (some peer) = tt
-  why (seen.neededModifier k) m = tt
-  why (seen.reorg k) m = tt
-  why (seen.announcedIds k) m = why-announced k (idsIn (call .ids)) refl
-  why (seen.syncInfo k) m = subst (Why s) (sym info-outcome) (why-info k)
-  why (seen.otherMessage k) m = tt
-  why (seen.lostPeer k) m = why-lost k
-  why (seen.receivedIds k) m = tt
-  why (seen.evictedIds k) m = tt
-  why (seen.progress k) m = go (isMode (st .mode) syncing)
+  why (kinds.neededModifier k) m = tt
+  why (kinds.reorg k) m = tt
+  why (kinds.announcedIds k) m = why-announced k (idsIn (call .ids)) refl
+  why (kinds.syncInfo k) m = subst (Why s) (sym info-outcome) (why-info k)
+  why (kinds.otherMessage k) m = tt
+  why (kinds.lostPeer k) m = why-lost k
+  why (kinds.receivedIds k) m = tt
+  why (kinds.evictedIds k) m = tt
+  why (kinds.progress k) m = go (isMode (st .mode) syncing)
     where
       go : (t : Bool) → Why s (progresses st a t .outcome)
       go true = tt
       go false = tt
-  why (seen.check k) m = tt
-  why (seen.scheduledTick k) m = why-tick k m
-  why (seen.sectionTick k) m = tt
-  why (seen.sendFailure k) m = sendFailed k
-  why (seen.endOfStream k) m = k
+  why (kinds.check k) m = tt
+  why (kinds.scheduledTick k) m = why-tick k m
+  why (kinds.sectionTick k) m = tt
+  why (kinds.sendFailure k) m = sendFailed k
+  why (kinds.endOfStream k) m = k
 
   -- ---- and every reason gives its outcome
 
@@ -162,13 +162,13 @@ module _ (st : State) (call : Call) where
 
   hears : (tip : ℕ) → Heard s tip → plan st a .outcome ≡ tipOutcome fromSyncPeer (call .height) (some tip)
   hears tip h =
-      outcome-of (seen.syncInfo (h .kind)) (tipOutcome fromSyncPeer (call .height) (some tip))
+      outcome-of (kinds.syncInfo (h .kind)) (tipOutcome fromSyncPeer (call .height) (some tip))
       (info-outcome ∙ ap (tipOutcome fromSyncPeer (call .height)) (known-tip tip h))
 
   gives-synced : NothingAhead s → plan st a .outcome ≡ Synced
   unfolding planOf hearsAnnounced isAtTip tipOutcome
   gives-synced (noHeaders k t e) =
-      outcome-of (seen.announcedIds k) Synced (rw (e, eq-eqb (call .typeid) headerType t))
+      outcome-of (kinds.announcedIds k) Synced (rw (e, eq-eqb (call .typeid) headerType t))
   gives-synced (tipReached tip h p l) = hears tip h ∙ rw (eq-eqb (call .peer) (st .sync .syncPeer) p, le-leb tip (call .height) l)
 
   gives-behind : FarAhead s → plan st a .outcome ≡ BehindPeer
@@ -182,9 +182,9 @@ module _ (st : State) (call : Call) where
 
   gives-gone : PeerGone s → plan st a .outcome ≡ SyncPeerGone
   unfolding planOf loses leaves ticksSynced argsOf
-  gives-gone (lost k e) = outcome-of (seen.lostPeer k) SyncPeerGone (rw (eq-eqb (call .peer) (st .sync .syncPeer) e))
-  gives-gone (sendFailed k) = outcome-of (seen.sendFailure k) SyncPeerGone refl
-  gives-gone (nobodyListed k m e) = outcome-of (seen.scheduledTick k) SyncPeerGone (rw (m, e))
+  gives-gone (lost k e) = outcome-of (kinds.lostPeer k) SyncPeerGone (rw (eq-eqb (call .peer) (st .sync .syncPeer) e))
+  gives-gone (sendFailed k) = outcome-of (kinds.sendFailure k) SyncPeerGone refl
+  gives-gone (nobodyListed k m e) = outcome-of (kinds.scheduledTick k) SyncPeerGone (rw (m, e))
 
   gives-stalled : NoProgress s → plan st a .outcome ≡ Stalled
   unfolding planOf ticksSyncing settings.stalled argsOf
@@ -193,11 +193,11 @@ module _ (st : State) (call : Call) where
       let l : ltb (st .settings .stallTimeout) (call .clock - st .sync .lastProgress) ≡ true =
       lt-ltb (st .settings .stallTimeout) (call .clock - st .sync .lastProgress) (omega arith)
       in
-      outcome-of (seen.scheduledTick (n .kind)) Stalled (rw (n .mode, l))
+      outcome-of (kinds.scheduledTick (n .kind)) Stalled (rw (n .mode, l))
 
   gives-end : call .kind ≡ numbers.endOfStream → plan st a .outcome ≡ EndOfStream
   unfolding planOf leaves
-  gives-end k = outcome-of (seen.endOfStream k) EndOfStream refl
+  gives-end k = outcome-of (kinds.endOfStream k) EndOfStream refl
 
   -- ---- by the outcomes' numbers
 
@@ -294,36 +294,36 @@ module _ (st : State) (call : Call) where
 
   leads : {step : Step} → Kind call step → Leads (planOf st arguments step)
   unfolding planOf advances continues advancesAndRequests leaves evicts checks hearsSyncInfo
-  leads (seen.start k) = λ n m. absurd (n k)
-  leads (seen.pick k) = leads-pick k (selectPeer (st .sync .stalledPeers) (arguments .peers))
-  leads (seen.neededModifier k) = λ n m. refl
-  leads (seen.reorg k) = λ n m. refl
-  leads (seen.announcedIds k) = leads-announced (call .peer) (call .typeid) (idsIn (call .ids))
-  leads (seen.syncInfo k) =
+  leads (kinds.start k) = λ n m. absurd (n k)
+  leads (kinds.pick k) = leads-pick k (selectPeer (st .sync .stalledPeers) (arguments .peers))
+  leads (kinds.neededModifier k) = λ n m. refl
+  leads (kinds.reorg k) = λ n m. refl
+  leads (kinds.announcedIds k) = leads-announced (call .peer) (call .typeid) (idsIn (call .ids))
+  leads (kinds.syncInfo k) =
       let heard = heardTip call in
       leads-answers (call .peer) (continuation (eqb (call .parsed) 1) (arguments .chainHeight) heard (call .peer) (idsIn (call .continuation)))
       (raisedTip (st .sync .knownTip) heard) (tipOutcome (eqb (call .peer) (st .sync .syncPeer)) (arguments .chainHeight) heard)
-  leads (seen.otherMessage k) = λ n m. refl
-  leads (seen.lostPeer k) = leads-lost (call .peer)
-  leads (seen.receivedIds k) = λ n m. refl
-  leads (seen.evictedIds k) = λ n m. refl
-  leads (seen.progress k) = leads-progress (isMode (st .mode) syncing) refl
-  leads (seen.check k) = λ n m. refl
-  leads (seen.scheduledTick k) =
+  leads (kinds.otherMessage k) = λ n m. refl
+  leads (kinds.lostPeer k) = leads-lost (call .peer)
+  leads (kinds.receivedIds k) = λ n m. refl
+  leads (kinds.evictedIds k) = λ n m. refl
+  leads (kinds.progress k) = leads-progress (isMode (st .mode) syncing) refl
+  leads (kinds.check k) = λ n m. refl
+  leads (kinds.scheduledTick k) =
       leads-tick (isMode (st .mode) syncing) (settings.stalled (st .settings) (arguments .clock) (st .sync .lastProgress)) (firstOf (arguments .peers)) refl
-  leads (seen.sectionTick k) = λ n m. refl
-  leads (seen.sendFailure k) = refl
-  leads (seen.endOfStream k) = refl
+  leads (kinds.sectionTick k) = λ n m. refl
+  leads (kinds.sendFailure k) = refl
+  leads (kinds.endOfStream k) = refl
 
   -- a pick: with nobody listed nobody is chosen, else somebody is
   picks-nobody : call .kind ≡ numbers.pick → peersIn (call .peers) ≡ [] → plan st arguments .mode ≡ seeking
   unfolding planOf selectPeer firstUnstalled picks argsOf
-  picks-nobody k e = ap (λ (p : Plan). p .mode) (plan-of st call (seen.pick k)) ∙ rw e
+  picks-nobody k e = ap (λ (p : Plan). p .mode) (plan-of st call (kinds.pick k)) ∙ rw e
 
   picks-somebody : call .kind ≡ numbers.pick → (peersIn (call .peers) ≡ [] → ⊥) → plan st arguments .mode ≡ syncing
   unfolding planOf selectPeer picks entersSyncing argsOf
   picks-somebody k n =
-      ap (λ (p : Plan). p .mode) (plan-of st call (seen.pick k))
+      ap (λ (p : Plan). p .mode) (plan-of st call (kinds.pick k))
       ∙ go (peersIn (call .peers)) n (firstUnstalled (st .sync .stalledPeers) (peersIn (call .peers)))
     where
       go : (peers : List ℕ) → (peers ≡ [] → ⊥) → (choice : Option ℕ) → picks st arguments (orElse choice (firstOf peers)) .mode ≡ syncing
@@ -333,7 +333,7 @@ module _ (st : State) (call : Call) where
 
   starts-seeking : call .kind ≡ numbers.start → plan st arguments .mode ≡ seeking
   unfolding planOf advances
-  starts-seeking k = ap (λ (p : Plan). p .mode) (plan-of st call (seen.start k))
+  starts-seeking k = ap (λ (p : Plan). p .mode) (plan-of st call (kinds.start k))
 
 -- the mode at the end of the stream
 ended-from : (mode : Mode) → mode ≡ seeking → cond (isMode mode seeking) ended seeking ≡ ended

@@ -5,16 +5,15 @@ use mathlib.Core.Bool.{Bool, true, false, not, cond, _&&_}
 use mathlib.Core.Logic.{_⊎_, inl, inr, ⊎-elim}
 use mathlib.Core.List.{List, [], _∷_, _++_, map}
 use mathlib.Core.Option.{none}
-use lib.Dec.{eqb}
 use native.Mathlib.Omega.{arith}
 use native.Mathlib.Nat.{eq-or-lt-of-le}
+use lib.Dec.{eqb}
 use borrow.Author.Tests.{eqb-true, eqb-false}
 use Rattle.fields.specs.Facts.{All}
 use Rattle.fields.specs.Filter.{kept}
 use Rattle.fields.specs.Sort.{sorted}
-use Rattle.fields.proofs.OrderLaws.{not-both}
 use Rattle.fields.specs.Order.{before}
-use Rattle.model.proofs.Well.{RisingIds}
+use Rattle.fields.proofs.OrderLaws.{not-both}
 use Rattle.model.specs.Protocol.{Id, isAmong}
 use Rattle.model.specs.Settings as settings
 use Rattle.model.specs.Delivery
@@ -30,39 +29,40 @@ use Rattle.model.specs.Sections.{Item, itemBelow}
 use Rattle.model.specs.Book.{Requested, requestedIn}
 use Rattle.model.specs.Lists.{idsIn, peersIn}
 use Rattle.model.specs.Calls.{Call, stepOf, argsOf}
-use Rattle.model.specs.Promises.Numbers
+use Rattle.model.specs.Promises.Numbers as numbers
 use Rattle.model.specs.Promises.Words.{Seen, Among}
 use Rattle.model.specs.Promises.Pending as pending
 use Rattle.model.specs.Promises.Pending.{Retried, TakenOut, Becomes, asRequested, Entered, Stayed, IdsRise, Pending, Evicted}
+use Rattle.model.proofs.Well.{RisingIds}
 use Rattle.model.proofs.RequestedLaws.{requestedItem, requestedBySendings}
 use Rattle.model.proofs.Promises.SeenLaws as kinds
-use Rattle.model.proofs.Promises.SeenLaws.{seenAs, Finished, Kind, kind-of, numbers-fit, is-check}
-use Rattle.model.proofs.Promises.SparedLaws.{picks-spares, answers-spare, announced-spares, loses-spares, ticks-spares, progresses-spares}
+use Rattle.model.proofs.Promises.SeenLaws.{apart, seenAs, Finished, Kind, kind-of, numbers-fit, is-check}
 use Rattle.model.proofs.Promises.ListLaws.{among-back, among-either, among-kept, all-among, among-map, among-sorted}
 use Rattle.model.proofs.Promises.ModeLaws.{mode-is, mode-is-not}
 use Rattle.model.proofs.Promises.TellsLaws.{tells-as, is-tells}
 use Rattle.model.proofs.Promises.WordLaws.{among-tells}
-use Rattle.model.proofs.Promises.VerdictLaws.{verdict-is, goes-to-only, made-verdict, retried-stays, stamps-past}
-use Rattle.model.proofs.Promises.AskingLaws.{New, Grows, acts-grow}
+use Rattle.model.proofs.Promises.SparedLaws.{picks-spares, answers-spare, announced-spares, loses-spares, ticks-spares, progresses-spares}
 use Rattle.model.proofs.Promises.AskedLaws.{asked-parts, acts-well}
+use Rattle.model.proofs.Promises.VerdictLaws.{verdict-is, goes-to-only, made-verdict, retried-stays, stamps-past}
 use Rattle.model.proofs.Promises.LeftLaws.{Left, left-of, came-from, becomes-id, left-all, left-tested, left-none, left-again, left-still}
 use Rattle.model.proofs.Promises.LeftLaws.{takesOut, untaken, taken-listed, taken-lost}
+use Rattle.model.proofs.Promises.AskingLaws.{New, Grows, acts-grow}
 
 -- ---- the evicted list
 
 -- What becomes of the evicted list in a call.
 record EvictedIn (call : Call) (before now : List Id) : Type 0 where
-  appended : call .kind ≡ Numbers.evictedIds → now ≡ before ++ idsIn (call .ids)
-  handedOut : call .kind ≡ Numbers.check → now ≡ []
-  kept : (call .kind ≡ Numbers.evictedIds → ⊥) → (call .kind ≡ Numbers.check → ⊥) → now ≡ before
+  appended : call .kind ≡ numbers.evictedIds → now ≡ before ++ idsIn (call .ids)
+  handedOut : call .kind ≡ numbers.check → now ≡ []
+  kept : (call .kind ≡ numbers.evictedIds → ⊥) → (call .kind ≡ numbers.check → ⊥) → now ≡ before
 
 -- any other kind
-spared : {call : Call} {before now : List Id} (n : ℕ) → call .kind ≡ n → eqb n Numbers.evictedIds ≡ false → eqb n Numbers.check ≡ false → now ≡ before
+spared : {call : Call} {before now : List Id} (n : ℕ) → call .kind ≡ n → eqb n numbers.evictedIds ≡ false → eqb n numbers.check ≡ false → now ≡ before
     → EvictedIn call before now
 spared n k p q e =
     record {
-      appended = λ h. absurd (eqb-false n Numbers.evictedIds p (sym k ∙ h));
-      handedOut = λ h. absurd (eqb-false n Numbers.check q (sym k ∙ h));
+      appended = λ h. absurd (apart k h p);
+      handedOut = λ h. absurd (apart k h q);
       kept = λ _ _. e;
     }
 
@@ -72,24 +72,24 @@ module _ (st : State) (call : Call) where
 
   evicted-in : (step : Step) → Kind call step → EvictedIn call (st .sync .evicted) (planOf st a step .sync .evicted)
   unfolding planOf advances advancesAndRequests continues leaves hearsSyncInfo checks evicts evictedAfterEviction unmarked withoutPeer
-  evicted-in step (kinds.start k) = spared Numbers.start k refl refl refl
-  evicted-in step (kinds.pick k) = spared Numbers.pick k refl refl (picks-spares st a (selectPeer (st .sync .stalledPeers) (a .peers)) .1)
-  evicted-in step (kinds.neededModifier k) = spared Numbers.neededModifier k refl refl refl
-  evicted-in step (kinds.reorg k) = spared Numbers.reorg k refl refl refl
-  evicted-in step (kinds.announcedIds k) = spared Numbers.announcedIds k refl refl (announced-spares st a (call .peer) (call .typeid) (idsIn (call .ids)) .1)
-  evicted-in step (kinds.syncInfo k) = spared Numbers.syncInfo k refl refl (answers-spare st a (call .peer) _ _ _)
-  evicted-in step (kinds.otherMessage k) = spared Numbers.otherMessage k refl refl refl
-  evicted-in step (kinds.lostPeer k) = spared Numbers.lostPeer k refl refl (loses-spares st a (call .peer) .1)
-  evicted-in step (kinds.receivedIds k) = spared Numbers.receivedIds k refl refl refl
+  evicted-in step (kinds.start k) = spared numbers.start k refl refl refl
+  evicted-in step (kinds.pick k) = spared numbers.pick k refl refl (picks-spares st a (selectPeer (st .sync .stalledPeers) (a .peers)) .1)
+  evicted-in step (kinds.neededModifier k) = spared numbers.neededModifier k refl refl refl
+  evicted-in step (kinds.reorg k) = spared numbers.reorg k refl refl refl
+  evicted-in step (kinds.announcedIds k) = spared numbers.announcedIds k refl refl (announced-spares st a (call .peer) (call .typeid) (idsIn (call .ids)) .1)
+  evicted-in step (kinds.syncInfo k) = spared numbers.syncInfo k refl refl (answers-spare st a (call .peer) _ _ _)
+  evicted-in step (kinds.otherMessage k) = spared numbers.otherMessage k refl refl refl
+  evicted-in step (kinds.lostPeer k) = spared numbers.lostPeer k refl refl (loses-spares st a (call .peer) .1)
+  evicted-in step (kinds.receivedIds k) = spared numbers.receivedIds k refl refl refl
   evicted-in step (kinds.evictedIds k) = record { appended = λ _. refl; handedOut = λ h. let x = k in absurd (omega arith); kept = λ n _. absurd (n k) }
-  evicted-in step (kinds.progress k) = spared Numbers.progress k refl refl (progresses-spares st a (isMode (st .mode) syncing) .1)
+  evicted-in step (kinds.progress k) = spared numbers.progress k refl refl (progresses-spares st a (isMode (st .mode) syncing) .1)
   evicted-in step (kinds.check k) = record { appended = λ h. let x = k in absurd (omega arith); handedOut = λ _. refl; kept = λ _ n. absurd (n k) }
   evicted-in step (kinds.scheduledTick k) =
-      spared Numbers.scheduledTick k refl refl
+      spared numbers.scheduledTick k refl refl
       (ticks-spares st a (isMode (st .mode) syncing) (settings.stalled (st .settings) (a .clock) (st .sync .lastProgress)) (firstOf (a .peers)) .1)
-  evicted-in step (kinds.sectionTick k) = spared Numbers.sectionTick k refl refl refl
-  evicted-in step (kinds.sendFailure k) = spared Numbers.sendFailure k refl refl refl
-  evicted-in step (kinds.endOfStream k) = spared Numbers.endOfStream k refl refl refl
+  evicted-in step (kinds.sectionTick k) = spared numbers.sectionTick k refl refl refl
+  evicted-in step (kinds.sendFailure k) = spared numbers.sendFailure k refl refl refl
+  evicted-in step (kinds.endOfStream k) = spared numbers.endOfStream k refl refl refl
 
 pub evicted-kept : (st : State) (call : Call) → Finished st call → Evicted (seenAs st call)
 unfolding after plan argsOf
@@ -129,38 +129,38 @@ module _ (st : State) (call : Call) (f : Finished st call) where
 
   -- ---- what a step takes out
 
-  no-check : (n : ℕ) → call .kind ≡ n → eqb n Numbers.check ≡ false → (r : Request) → Retried s r → ⊥
-  no-check n k e r m = eqb-false n Numbers.check e (sym k ∙ m .kind)
+  no-check : (n : ℕ) → call .kind ≡ n → eqb n numbers.check ≡ false → (r : Request) → Retried s r → ⊥
+  no-check n k e r m = apart k (m .kind) e
 
   left-whole : (n : ℕ) → call .kind ≡ n → takesOut n ≡ false → Left s (st .pending) (st .pending)
   left-whole n k e =
       let none : takesOut (call .kind) ≡ false = ap takesOut k ∙ e in
       left-all s (λ r m. not-both (takesOut (call .kind)) (ap takesOut (m .kind)) none) (λ r. untaken s r none) (st .pending)
 
-  left-listed : (n : ℕ) → call .kind ≡ n → eqb n Numbers.reorg ≡ false → eqb n Numbers.lostPeer ≡ false → eqb n Numbers.check ≡ false
+  left-listed : (n : ℕ) → call .kind ≡ n → eqb n numbers.reorg ≡ false → eqb n numbers.lostPeer ≡ false → eqb n numbers.check ≡ false
       → ((r : Request) → Among (r .id) given → TakenOut s r) → Left s (st .pending) (kept (λ (r : Request). not (isAmong (r .id) given)) (st .pending))
   left-listed n k a b c takes =
       left-tested s (no-check n k c) (λ (r : Request). not (isAmong (r .id) given))
       (λ r. tells-as (takes r) (taken-listed s r n k a b c) (among-tells (r .id) given)) (st .pending)
 
-  left-lost : call .kind ≡ Numbers.lostPeer
+  left-lost : call .kind ≡ numbers.lostPeer
       → Left s (st .pending) (cond (eqb (call .peer) (st .sync .syncPeer) && isMode (st .mode) syncing) (purgePeer (call .peer) (st .pending)) (st .pending))
   unfolding purgePeer
   left-lost k = go (eqb (call .peer) (st .sync .syncPeer)) (isMode (st .mode) syncing) refl refl
     where
       whole : ((r : Request) → TakenOut s r → ⊥) → Left s (st .pending) (st .pending)
-      whole n = left-all s (no-check Numbers.lostPeer k refl) n (st .pending)
+      whole n = left-all s (no-check numbers.lostPeer k refl) n (st .pending)
 
       go : (t u : Bool) → eqb (call .peer) (st .sync .syncPeer) ≡ t → isMode (st .mode) syncing ≡ u
           → Left s (st .pending) (cond (t && u) (kept (λ (r : Request). not (eqb (r .peer) (call .peer))) (st .pending)) (st .pending))
       go true true e m =
-          left-tested s (no-check Numbers.lostPeer k refl) (λ (r : Request). not (eqb (r .peer) (call .peer)))
+          left-tested s (no-check numbers.lostPeer k refl) (λ (r : Request). not (eqb (r .peer) (call .peer)))
           (λ r. tells-as (pending.orphaned k (mode-is (st .mode) syncing m) (eqb-true (call .peer) (st .sync .syncPeer) e))
           (λ t. taken-lost s r k t .2) (is-tells (r .peer) (call .peer))) (st .pending)
       go true false e m = whole (λ r t. mode-is-not (st .mode) syncing m (taken-lost s r k t .0))
       go false u e m = whole (λ r t. eqb-false (call .peer) (st .sync .syncPeer) e (taken-lost s r k t .1))
 
-  left-check : call .kind ≡ Numbers.check → Left s (st .pending) (markAllRetried retry (checkTimeouts (st .settings) (call .clock) (st .pending)))
+  left-check : call .kind ≡ numbers.check → Left s (st .pending) (markAllRetried retry (checkTimeouts (st .settings) (call .clock) (st .pending)))
   unfolding retries
   left-check k = go (eqb (call .gate) 1) refl
     where
@@ -170,22 +170,22 @@ module _ (st : State) (call : Call) (f : Finished st call) where
 
   left-by : (step : Step) → Kind call step → Left s (st .pending) (middle step)
   unfolding remaining argsOf purgeAll markReceived pendingAfterEviction
-  left-by step (kinds.start k) = left-whole Numbers.start k refl
-  left-by step (kinds.pick k) = left-whole Numbers.pick k refl
-  left-by step (kinds.neededModifier k) = left-whole Numbers.neededModifier k refl
+  left-by step (kinds.start k) = left-whole numbers.start k refl
+  left-by step (kinds.pick k) = left-whole numbers.pick k refl
+  left-by step (kinds.neededModifier k) = left-whole numbers.neededModifier k refl
   left-by step (kinds.reorg k) = left-none s (λ r. pending.purged k) (st .pending)
-  left-by step (kinds.announcedIds k) = left-whole Numbers.announcedIds k refl
-  left-by step (kinds.syncInfo k) = left-whole Numbers.syncInfo k refl
-  left-by step (kinds.otherMessage k) = left-whole Numbers.otherMessage k refl
+  left-by step (kinds.announcedIds k) = left-whole numbers.announcedIds k refl
+  left-by step (kinds.syncInfo k) = left-whole numbers.syncInfo k refl
+  left-by step (kinds.otherMessage k) = left-whole numbers.otherMessage k refl
   left-by step (kinds.lostPeer k) = left-lost k
-  left-by step (kinds.receivedIds k) = left-listed Numbers.receivedIds k refl refl refl (λ r a. pending.received k a)
-  left-by step (kinds.evictedIds k) = left-listed Numbers.evictedIds k refl refl refl (λ r a. pending.evicted k a)
-  left-by step (kinds.progress k) = left-whole Numbers.progress k refl
+  left-by step (kinds.receivedIds k) = left-listed numbers.receivedIds k refl refl refl (λ r a. pending.received k a)
+  left-by step (kinds.evictedIds k) = left-listed numbers.evictedIds k refl refl refl (λ r a. pending.evicted k a)
+  left-by step (kinds.progress k) = left-whole numbers.progress k refl
   left-by step (kinds.check k) = left-check k
-  left-by step (kinds.scheduledTick k) = left-whole Numbers.scheduledTick k refl
-  left-by step (kinds.sectionTick k) = left-whole Numbers.sectionTick k refl
-  left-by step (kinds.sendFailure k) = left-whole Numbers.sendFailure k refl
-  left-by step (kinds.endOfStream k) = left-whole Numbers.endOfStream k refl
+  left-by step (kinds.scheduledTick k) = left-whole numbers.scheduledTick k refl
+  left-by step (kinds.sectionTick k) = left-whole numbers.sectionTick k refl
+  left-by step (kinds.sendFailure k) = left-whole numbers.sendFailure k refl
+  left-by step (kinds.endOfStream k) = left-whole numbers.endOfStream k refl
 
   left : Left s (st .pending) (middle (stepOf call))
   left = left-by (stepOf call) (kind-of st call f)
@@ -223,7 +223,7 @@ module _ (st : State) (call : Call) (f : Finished st call) where
           }
 
   -- What a retry asks for is asked of the target of a request that is retried.
-  retry-due : call .kind ≡ Numbers.check → (i : Item) → Among i retry
+  retry-due : call .kind ≡ numbers.check → (i : Item) → Among i retry
       → (r : Request) × Among r (st .pending) × Retried s r × (call .gate ≡ 1) × (i ≡ retryOf listed r)
   unfolding retries judged
   retry-due k i a = go (eqb (call .gate) 1) refl a
@@ -253,9 +253,9 @@ module _ (st : State) (call : Call) (f : Finished st call) where
   unfolding retried argsOf
   retry-pending i a = go (isCheck (stepOf call)) (is-check st call f) a
     where
-      go : (t : Bool) → eqb (call .kind) Numbers.check ≡ t → Among i (cond t retry []) → (r : Request) × Among r now × (asRequested r ≡ requestedItem i)
+      go : (t : Bool) → eqb (call .kind) numbers.check ≡ t → Among i (cond t retry []) → (r : Request) × Among r now × (asRequested r ≡ requestedItem i)
       go true e b =
-          let k : call .kind ≡ Numbers.check = eqb-true (call .kind) Numbers.check e in
+          let k : call .kind ≡ numbers.check = eqb-true (call .kind) numbers.check e in
           let p = retry-due k i b in
           let q = pending-stays (p .0) (p .1) (retried-stays s (p .0) k (p .2)) in
           (q .0, q .2, moved-on (p .2) (p .3) (q .1) ∙ ap requestedItem (sym (p .4)))

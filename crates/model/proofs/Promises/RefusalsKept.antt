@@ -17,11 +17,11 @@ use Rattle.model.specs.Promises.Refusals.{Unseen, FirstWrong, wrongs, al
 use Rattle.model.proofs.StepLaws.{of-mode}
 use Rattle.model.proofs.EntryLaws.{step-refused}
 use Rattle.model.proofs.Promises.SeenLaws.{number-told}
-use Rattle.model.proofs.Promises.ReadLaws.{unseen, all-seen}
 use Rattle.model.proofs.Promises.TellsLaws.{Tells, tells-itself, le-tells, eq-tells}
 use Rattle.model.proofs.Promises.WrongCallLaws.{call-tells, fits-kind}
 use Rattle.model.proofs.Promises.WrongListLaws.{lists-tell, peers-tell}
 use Rattle.model.proofs.Promises.WrongViewLaws.{view-tells}
+use Rattle.model.proofs.Promises.ReadLaws.{unseen, all-seen}
 
 -- What a chain of tests gives, from one of them on. A record, so that a number is not opened into its cases.
 record Told (number first : ℕ) (Wrongs : List (Type 0)) : Type 0 where

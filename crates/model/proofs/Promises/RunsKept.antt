@@ -26,8 +26,8 @@ use Rattle.model.proofs.StepLaws.{opened-well}
 use Rattle.model.proofs.AgreementLaws.{Agreement}
 use Rattle.model.proofs.Demand3.{InService, called-refused, fresh-in-service, called-in-service}
 use Rattle.model.proofs.Promises.SeenLaws.{Finished, seenAs, number-told, finished, state-after, seen-finished, numbers-fit}
-use Rattle.model.proofs.Promises.SyncInfosKept.{last-send-past, sync-infos-kept, said-due, last-send-rises}
 use Rattle.model.proofs.Promises.CountLaws.{told-abandoned, told-forgotten, told-retried}
+use Rattle.model.proofs.Promises.SyncInfosKept.{last-send-past, sync-infos-kept, said-due, last-send-rises}
 
 -- ---- a run, by the finished steps of the model
 

@@ -20,7 +20,7 @@ use Rattle.model.specs.Requests.{Command}
 use Rattle.model.specs.Steps.{isCheck, after, commands, countOf, freshCount}
 use Rattle.model.specs.Commands.{commandBytes, allCommandBytes}
 use Rattle.model.specs.Calls.{Call, stepOf, argsOf, resultRefusal, callRefusal, stepAnswer, stepBytes}
-use Rattle.model.specs.Promises.Numbers
+use Rattle.model.specs.Promises.Numbers as numbers
 use Rattle.model.specs.Promises.Words.{Seen, Counted}
 use Rattle.model.specs.Promises.Pending.{Overdue}
 use Rattle.model.specs.Promises.Told.{bytesOf, Told}
@@ -131,22 +131,22 @@ module _ (st : State) (call : Call) (f : Finished st call) where
   InTime r = r .stamp ≤ call .clock
 
   -- of what a check alone makes of a request
-  count-told : (what : Verdict) → ((r : Request) → Made s r what → call .kind ≡ Numbers.check)
+  count-told : (what : Verdict) → ((r : Request) → Made s r what → call .kind ≡ numbers.check)
       → Counted (λ r. Made s r what) (st .pending) (countOf st (argsOf call) what)
   unfolding countOf argsOf judged
   count-told what ofCheck = go (isCheck (stepOf call)) (is-check st call f)
     where
-      go : (t : Bool) → eqb (call .kind) Numbers.check ≡ t → Counted (λ r. Made s r what) (st .pending) (cond t (length (those what)) 0)
+      go : (t : Bool) → eqb (call .kind) numbers.check ≡ t → Counted (λ r. Made s r what) (st .pending) (cond t (length (those what)) 0)
       go true e =
-          let k : call .kind ≡ Numbers.check = eqb-true (call .kind) Numbers.check e in
+          let k : call .kind ≡ numbers.check = eqb-true (call .kind) numbers.check e in
           counted-kept (λ r. Made s r what) (isJudged what) (st .pending)
           (all-weaker InTime (λ r. Tells (not (isJudged what r)) (Made s r what)) (λ r h. made-tells s r (verdictOf r) what (made s k r h)) (st .pending)
           (stamps-past st call f))
-      go false e = counted-none (λ r. Made s r what) (λ r m. eqb-false (call .kind) Numbers.check e (ofCheck r m)) (st .pending)
+      go false e = counted-none (λ r. Made s r what) (λ r m. eqb-false (call .kind) numbers.check e (ofCheck r m)) (st .pending)
 
-  count-checked : call .kind ≡ Numbers.check → (what : Verdict) → countOf st (argsOf call) what ≡ length (those what)
+  count-checked : call .kind ≡ numbers.check → (what : Verdict) → countOf st (argsOf call) what ≡ length (those what)
   unfolding countOf argsOf
-  count-checked k what = rw (sym (is-check st call f) ∙ eq-eqb (call .kind) Numbers.check k)
+  count-checked k what = rw (sym (is-check st call f) ∙ eq-eqb (call .kind) numbers.check k)
 
   waiting-told : Counted (λ (r : Request). Overdue s r → ⊥) (st .pending) (length (those Delivery.waiting))
   unfolding judged
@@ -155,7 +155,7 @@ module _ (st : State) (call : Call) (f : Finished st call) where
       (all-weaker InTime (λ r. Tells (not (isJudged Delivery.waiting r)) (Overdue s r → ⊥)) (waits (st .settings) (call .clock)) (st .pending)
       (stamps-past st call f))
 
-  counts-add : call .kind ≡ Numbers.check
+  counts-add : call .kind ≡ numbers.check
       → countOf st (argsOf call) Delivery.retried + countOf st (argsOf call) Delivery.abandoned + countOf st (argsOf call) Delivery.forgotten
       + length (those Delivery.waiting)
       ≡ length (st .pending)
@@ -163,13 +163,13 @@ module _ (st : State) (call : Call) (f : Finished st call) where
       rw (count-checked k Delivery.retried, count-checked k Delivery.abandoned, count-checked k Delivery.forgotten)
       (judged-all (st .settings) (call .clock) (st .pending))
 
-  fresh-told : call .kind ≡ Numbers.check → freshCount st (argsOf call) ≡ length (st .sync .evicted)
+  fresh-told : call .kind ≡ numbers.check → freshCount st (argsOf call) ≡ length (st .sync .evicted)
   unfolding freshCount argsOf
-  fresh-told k = rw (sym (is-check st call f) ∙ eq-eqb (call .kind) Numbers.check k)
+  fresh-told k = rw (sym (is-check st call f) ∙ eq-eqb (call .kind) numbers.check k)
 
-  none-fresh : (call .kind ≡ Numbers.check → ⊥) → freshCount st (argsOf call) ≡ 0
+  none-fresh : (call .kind ≡ numbers.check → ⊥) → freshCount st (argsOf call) ≡ 0
   unfolding freshCount argsOf
-  none-fresh n = rw (sym (is-check st call f) ∙ ne-eqb (call .kind) Numbers.check n)
+  none-fresh n = rw (sym (is-check st call f) ∙ ne-eqb (call .kind) numbers.check n)
 
   bytes-told : length (stepBytes st (argsOf call)) ≡ bytesOf (commands st (argsOf call))
   unfolding stepBytes

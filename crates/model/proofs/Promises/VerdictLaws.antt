@@ -15,7 +15,7 @@ use Rattle.model.specs.Delivery.{Request, Verdict, waiting, retried, aba
 use Rattle.model.specs.State.{State}
 use Rattle.model.specs.Check.{retryTarget}
 use Rattle.model.specs.Calls.{Call}
-use Rattle.model.specs.Promises.Numbers
+use Rattle.model.specs.Promises.Numbers as numbers
 use Rattle.model.specs.Promises.Words.{Seen}
 use Rattle.model.specs.Promises.Pending.{GoesTo, another, again, Overdue, Forgotten, Abandoned, Retried, TakenOut}
 use Rattle.model.specs.Promises.Pending as pending
@@ -115,7 +115,7 @@ pub in-time : (timeout clock stamp : ℕ) → leb timeout (clock - stamp) ≡ fa
 in-time timeout clock stamp e h = let l : clock - stamp < timeout = leb-false timeout (clock - stamp) e in absurd (omega arith)
 
 -- of a check, whose clock no stamp is after
-module _ (s : Seen) (check : s .call .kind ≡ Numbers.check) (r : Request) (stamp : r .stamp ≤ s .call .clock) where
+module _ (s : Seen) (check : s .call .kind ≡ numbers.check) (r : Request) (stamp : r .stamp ≤ s .call .clock) where
   pub made : Made s r (judgement s r)
   unfolding verdict expired patience givenUp isTransaction
   made = go (leb timeout (s .call .clock - r .stamp)) (eqb (r .typeId) transactionType) (leb limit (suc (r .checks))) refl refl refl
@@ -157,7 +157,7 @@ module _ (s : Seen) (check : s .call .kind ≡ Numbers.check) (r : Request) (sta
   made-verdict v e = subst (Made s r) e made
 
 -- A check takes out what it abandons or forgets, and nothing else.
-taken-by-check : (s : Seen) (r : Request) → s .call .kind ≡ Numbers.check → TakenOut s r → Abandoned s r ⊎ Forgotten s r
+taken-by-check : (s : Seen) (r : Request) → s .call .kind ≡ numbers.check → TakenOut s r → Abandoned s r ⊎ Forgotten s r
 taken-by-check s r check (pending.received e among) = absurd (omega (arith, e, check))
 taken-by-check s r check (pending.evicted e among) = absurd (omega (arith, e, check))
 taken-by-check s r check (pending.purged e) = absurd (omega (arith, e, check))
@@ -165,10 +165,10 @@ taken-by-check s r check (pending.orphaned e mode lost peer) = absurd (omega (ar
 taken-by-check s r check (pending.forgotten f) = inr f
 taken-by-check s r check (pending.abandoned a) = inl a
 
-pub waiting-stays : (s : Seen) (r : Request) → s .call .kind ≡ Numbers.check → (Overdue s r → ⊥) → TakenOut s r → ⊥
+pub waiting-stays : (s : Seen) (r : Request) → s .call .kind ≡ numbers.check → (Overdue s r → ⊥) → TakenOut s r → ⊥
 waiting-stays s r check m out = ⊎-elim (λ a. m (a .overdue)) (λ f. m (f .overdue)) (taken-by-check s r check out)
 
-pub retried-stays : (s : Seen) (r : Request) → s .call .kind ≡ Numbers.check → Retried s r → TakenOut s r → ⊥
+pub retried-stays : (s : Seen) (r : Request) → s .call .kind ≡ numbers.check → Retried s r → TakenOut s r → ⊥
 retried-stays s r check m out =
     ⊎-elim (λ a. let x = m .another in let y = a .last in absurd (omega arith)) (λ f. m .noTransaction (f .transaction)) (taken-by-check s r check out)
 
