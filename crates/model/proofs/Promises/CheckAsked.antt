@@ -7,7 +7,6 @@ use mathlib.Core.List.{List, [], _∷_, _++_, map, map-map}
 use lib.Dec.{eqb}
 use borrow.Author.Tests.{eqb-true, eq-eqb}
 use Rattle.fields.specs.Facts.{All}
-use Rattle.fields.specs.Order.{before}
 use Rattle.fields.specs.Filter.{consIf, kept}
 use Rattle.fields.specs.Sort.{sorted}
 use Rattle.fields.proofs.OrderLaws.{and-left, and-right}
@@ -28,7 +27,6 @@ use Rattle.model.specs.Calls.{Call, argsOf}
 use Rattle.model.specs.Book.{Requested, requestedIn}
 use Rattle.model.specs.Promises.Numbers as numbers
 use Rattle.model.specs.Promises.Words.{Seen, peers, stored, LeftOf}
-use Rattle.model.specs.Promises.Pending as pending
 use Rattle.model.specs.Promises.Pending.{GoesTo}
 use Rattle.model.specs.Promises.Asked.{ofPeer, PendingId, StoredAs, GoesAgain, TargetsRise, StillPending, AsksFresh, AsksAgain}
 use Rattle.model.proofs.RequestedLaws.{requestedItem, requestedBySendings}

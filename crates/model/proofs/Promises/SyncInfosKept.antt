@@ -13,9 +13,9 @@ use Rattle.fields.proofs.AllLaws.{all-append, all-weaker}
 use Rattle.model.specs.Settings.{Settings, throttled}
 use Rattle.model.specs.State.{Mode, seeking, syncing, synced, SendClock, State}
 use Rattle.model.specs.Peers.{sendSyncInfo, resetSends}
-use Rattle.model.specs.Requests.{Sending, announcement, syncInfo, Command, commandsFrom}
+use Rattle.model.specs.Requests.{Sending, announcement, Command, commandsFrom}
 use Rattle.model.specs.Steps
-use Rattle.model.specs.Steps.{entersSyncing, picks, answers, ticksSyncing, ticksSynced, progresses, unmarked, withoutPeer, Plan, planOf, after, commands}
+use Rattle.model.specs.Steps.{entersSyncing, picks, answers, ticksSyncing, ticksSynced, progresses, unmarked, withoutPeer, Plan, planOf, commands}
 use Rattle.model.specs.Calls.{Call, argsOf, stepOf}
 use Rattle.model.specs.Promises.Numbers as numbers
 use Rattle.model.specs.Promises.Words.{Seen, peers, Among, First}
