@@ -1,11 +1,12 @@
 -- What a step asks for, read from its plan: the list of all requested ids is that of its acts, behind that of its retries.
 use Prim.Native.Nat.{ℕ}
-use mathlib.Core.Path.{_≡_, refl, ap, _∙_, subst}
+use mathlib.Core.Path.{_≡_, refl, sym, ap, _∙_, subst}
 use mathlib.Core.Bool.{Bool, true, false, cond, _&&_}
 use mathlib.Core.List.{List, [], _∷_, _++_, map, append-nil}
 use mathlib.Core.Option.{Option, none, some}
 use lib.Dec.{ltb}
 use Rattle.fields.specs.Facts.{All}
+use Rattle.fields.specs.Sort.{sorted}
 use Rattle.fields.proofs.AllLaws.{all-append, either}
 use Rattle.model.specs.Protocol.{Id}
 use Rattle.model.specs.Settings.{Settings, throttled}
@@ -13,7 +14,7 @@ use Rattle.model.specs.Delivery.{Request}
 use Rattle.model.specs.State.{SendClock, Sync, State}
 use Rattle.model.specs.Peers.{firstOf, resetSends}
 use Rattle.model.specs.Requests.{Pair, request, announcement, syncInfo, Act, ask, send, syncInfoTo, wanted, requestOf, perform, performAll}
-use Rattle.model.specs.Sections.{Item, batchesOf}
+use Rattle.model.specs.Sections.{Item, itemBelow}
 use Rattle.model.specs.Check.{retries, markAllRetried, retrySendings}
 use Rattle.model.specs.Events.{Outcome, notAbove, announce, continuation}
 use Rattle.model.specs.Steps.{Step, Args, isCheck, sayTo, leaves, entersSyncing, picks, ticksSyncing, ticksSynced}
@@ -22,7 +23,7 @@ use Rattle.model.specs.Calls.{Call, argsOf}
 use Rattle.model.specs.Book.{Requested, requestedIn}
 use Rattle.model.proofs.Widths.{WellAct}
 use Rattle.model.proofs.PlanLaws.{plan-well}
-use Rattle.model.proofs.RequestedLaws.{requested, requestedBySendings, requested-append, requested-commands}
+use Rattle.model.proofs.RequestedLaws.{requested, requestedItem, requestedBySendings, requested-append, requested-commands, requested-retries}
 use Rattle.model.proofs.Promises.SeenLaws.{Finished, mode-of}
 
 -- ---- acts that ask for nothing
@@ -34,7 +35,7 @@ Says (send (request typeId peer ids)) = ⊥
 Says (send (announcement peer ids)) = Unit {0}
 Says (send (syncInfo peer)) = Unit {0}
 
-pub sync-info-says : (settings : Settings) (clock : ℕ) (sendClock : SendClock) (peer : ℕ) → All Says (syncInfoTo settings clock sendClock peer)
+sync-info-says : (settings : Settings) (clock : ℕ) (sendClock : SendClock) (peer : ℕ) → All Says (syncInfoTo settings clock sendClock peer)
 unfolding syncInfoTo
 sync-info-says settings clock sendClock peer =
     either (All Says) (throttled settings clock (sendClock .lastSend)) [] (send (syncInfo peer) ∷ []) tt (tt, tt)
@@ -88,16 +89,23 @@ module _ (gate : Bool) (clock : ℕ) where
       → askedBy (act ∷ acts) rs ≡ requestedBySendings (perform gate clock act rs .sendings) ++ askedBy acts (perform gate clock act rs .pending)
   asked-cons act acts rs = requested-append (perform gate clock act rs .sendings) (performAll gate clock acts (perform gate clock act rs .pending) .sendings)
 
-  said-asks-nothing : (act : Act) (rs : List Request) → Says act → requestedBySendings (perform gate clock act rs .sendings) ≡ []
-  said-asks-nothing (ask typeId peer pairs ids) rs h = absurd h
-  said-asks-nothing (send (request typeId peer ids)) rs h = absurd h
-  said-asks-nothing (send (announcement peer ids)) rs h = refl
-  said-asks-nothing (send (syncInfo peer)) rs h = refl
+  -- what is said first, and what is said last, asks for nothing
+  pub says-front : (said acts : List Act) (rs : List Request) → All Says said → askedBy (said ++ acts) rs ≡ askedBy acts rs
+  says-front [] acts rs h = refl
+  says-front (ask typeId peer pairs ids ∷ said) acts rs h = absurd (h .0)
+  says-front (send (request typeId peer ids) ∷ said) acts rs h = absurd (h .0)
+  says-front (send (announcement peer ids) ∷ said) acts rs h = says-front said acts rs (h .1)
+  says-front (send (syncInfo peer) ∷ said) acts rs h = says-front said acts rs (h .1)
 
-  pub says-ask-nothing : (acts : List Act) (rs : List Request) → All Says acts → askedBy acts rs ≡ []
-  says-ask-nothing [] rs h = refl
-  says-ask-nothing (act ∷ acts) rs h =
-      rw (asked-cons act acts rs, said-asks-nothing act rs (h .0)) (says-ask-nothing acts (perform gate clock act rs .pending) (h .1))
+  pub says-ask-nothing : (said : List Act) (rs : List Request) → All Says said → askedBy said rs ≡ []
+  says-ask-nothing said rs h = ap (λ (acts : List Act). askedBy acts rs) (sym (append-nil said)) ∙ says-front said [] rs h
+
+  pub says-back : (acts said : List Act) (rs : List Request) → All Says said → askedBy (acts ++ said) rs ≡ askedBy acts rs
+  says-back [] said rs h = says-ask-nothing said rs h
+  says-back (act ∷ acts) said rs h =
+      asked-cons act (acts ++ said) rs
+      ∙ ap (λ (l : List Requested). requestedBySendings (perform gate clock act rs .sendings) ++ l) (says-back acts said (perform gate clock act rs .pending) h)
+      ∙ sym (asked-cons act acts rs)
 
 -- "gate shut, nothing"
 shut-asks-nothing : (clock : ℕ) (acts : List Act) (rs : List Request) → All WellAct acts → askedBy false clock acts rs ≡ []
@@ -118,27 +126,24 @@ asked-alone gate clock typeId peer pairs ids rs open' = rw open' (sent (wanted r
 
 -- ---- a step
 
-none-retried : requestedBySendings (retrySendings []) ≡ []
-unfolding retrySendings batchesOf
-none-retried = refl
-
 module _ (st : State) (a : Args) where
+  -- all that it asks for: what it retries, then what its acts ask for
   pub asked-parts : requestedIn (commands st a)
-      ≡ requestedBySendings (retrySendings (retried st a))
-      ++ askedBy (a .gate) (a .clock) (plan st a .acts) (markAllRetried (retried st a) (remaining st a (a .step)))
-  unfolding commands performed
+      ≡ map requestedItem (sorted itemBelow (retried st a)) ++ requestedBySendings (performed st a .sendings)
+  unfolding commands
   asked-parts =
       requested-commands 0 (retrySendings (retried st a) ++ performed st a .sendings)
       ∙ requested-append (retrySendings (retried st a)) (performed st a .sendings)
+      ∙ ap (λ (l : List Requested). l ++ requestedBySendings (performed st a .sendings)) (requested-retries (retried st a))
 
   unretried-asked : retried st a ≡ [] → requestedIn (commands st a) ≡ askedBy (a .gate) (a .clock) (plan st a .acts) (remaining st a (a .step))
+  unfolding performed
   unretried-asked e =
       asked-parts
       ∙ ap
       (λ (items : List Item).
-      requestedBySendings (retrySendings items) ++ askedBy (a .gate) (a .clock) (plan st a .acts) (markAllRetried items (remaining st a (a .step))))
+      map requestedItem (sorted itemBelow items) ++ askedBy (a .gate) (a .clock) (plan st a .acts) (markAllRetried items (remaining st a (a .step))))
       e
-      ∙ ap (λ (l : List Requested). l ++ askedBy (a .gate) (a .clock) (plan st a .acts) (remaining st a (a .step))) none-retried
 
   pub unretried : isCheck (a .step) ≡ false → retried st a ≡ []
   unfolding retried

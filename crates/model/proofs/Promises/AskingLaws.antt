@@ -1,15 +1,17 @@
 -- The acts of a step over the pending requests: what is there stays as it is, what comes was asked for, what is asked for is there.
 use Prim.Native.Nat.{ℕ}
 use mathlib.Core.Path.{_≡_, refl, sym, ap, _∙_, subst}
-use mathlib.Core.Bool.{Bool, true, false, cond}
+use mathlib.Core.Bool.{Bool, true, false, not, cond}
 use mathlib.Core.Logic.{_⊎_, inl, inr, ⊎-elim}
 use mathlib.Core.List.{List, [], _∷_, _++_, map}
 use Rattle.fields.specs.Facts.{All}
-use Rattle.fields.specs.Filter.{consIf, kept}
-use Rattle.fields.specs.Sort.{inserted, sorted}
+use Rattle.fields.specs.Filter.{kept}
+use Rattle.fields.specs.Sort.{inserted}
+use Rattle.fields.proofs.AllLaws.{all-kept, all-pass, all-weaker}
+use Rattle.fields.proofs.OrderLaws.{not-both}
 use Rattle.model.specs.Protocol.{Id}
-use Rattle.model.specs.Delivery.{Request, idsOf, isPending, idBefore, markRequested}
-use Rattle.model.specs.Requests.{Act, ask, send, wanted, Done, perform, performAll}
+use Rattle.model.specs.Delivery.{Request, isPending, idBefore, markRequested}
+use Rattle.model.specs.Requests.{Pair, isStored, Act, ask, send, wanted, Done, perform, performAll}
 use Rattle.model.specs.Requests
 use Rattle.model.specs.Book.{Requested}
 use Rattle.model.specs.Promises.Words.{Among}
@@ -17,79 +19,8 @@ use Rattle.model.specs.Promises.Pending.{asRequested}
 use Rattle.model.proofs.Widths.{WellAct}
 use Rattle.model.proofs.RequestedLaws.{requested, requestedBySendings, requested-append}
 use Rattle.model.proofs.EnteringLaws.{requested-list}
-use Rattle.model.proofs.Promises.WordLaws.{passes-pending, fails-pending}
-
--- ---- lists
-
-module _ {A : Type 0} where
-  pub among-front : (x : A) (xs ys : List A) → Among x xs → Among x (xs ++ ys)
-  among-front x (z ∷ xs) ys (inl e) = inl e
-  among-front x (z ∷ xs) ys (inr a) = inr (among-front x xs ys a)
-
-  pub among-back : (x : A) (xs ys : List A) → Among x ys → Among x (xs ++ ys)
-  among-back x [] ys a = a
-  among-back x (z ∷ xs) ys a = inr (among-back x xs ys a)
-
-  pub among-either : (x : A) (xs ys : List A) → Among x (xs ++ ys) → Among x xs ⊎ Among x ys
-  among-either x [] ys a = inr a
-  among-either x (z ∷ xs) ys (inl e) = inl (inl e)
-  among-either x (z ∷ xs) ys (inr a) = ⊎-elim (λ b. inl (inr b)) (λ b. inr b) (among-either x xs ys a)
-
-  pub among-kept : (test : A → Bool) (x : A) (xs : List A) → Among x (kept test xs) → Among x xs × (test x ≡ true)
-  among-kept test x [] a = absurd a
-  among-kept test x (y ∷ ys) a = go (test y) refl (among-kept test x ys) a
-    where
-      go : (t : Bool) → test y ≡ t → (Among x (kept test ys) → Among x ys × (test x ≡ true)) → Among x (consIf t y (kept test ys))
-          → Among x (y ∷ ys) × (test x ≡ true)
-      go true e rest (inl f) = (inl f, ap test f ∙ e)
-      go true e rest (inr b) = let p = rest b in (inr (p .0), p .1)
-      go false e rest b = let p = rest b in (inr (p .0), p .1)
-
-  pub all-among : (P : A → Type 0) (x : A) (xs : List A) → All P xs → Among x xs → P x
-  all-among P x (y ∷ ys) h (inl e) = subst P (sym e) (h .0)
-  all-among P x (y ∷ ys) h (inr a) = all-among P x ys (h .1) a
-
-pub among-map : {A B : Type 0} (f : A → B) (y : B) (xs : List A) → Among y (map f xs) → (x : A) × Among x xs × (y ≡ f x)
-among-map f y (x ∷ xs) (inl e) = (x, inl refl, e)
-among-map f y (x ∷ xs) (inr a) = let p = among-map f y xs a in (p .0, inr (p .1), p .2)
-
-pub map-among : {A B : Type 0} (f : A → B) (x : A) (xs : List A) → Among x xs → Among (f x) (map f xs)
-map-among f x (y ∷ ys) (inl e) = inl (ap f e)
-map-among f x (y ∷ ys) (inr a) = inr (map-among f x ys a)
-
-module _ {A : Type 0} (below : A → A → Bool) where
-  among-inserted : (x y : A) (ys : List A) → Among x (inserted below y ys) → (x ≡ y) ⊎ Among x ys
-  among-inserted x y [] a = a
-  among-inserted x y (z ∷ zs) a = go (below z y) (among-inserted x y zs) a
-    where
-      go : (t : Bool) → (Among x (inserted below y zs) → (x ≡ y) ⊎ Among x zs) → Among x (cond t (z ∷ inserted below y zs) (y ∷ (z ∷ zs)))
-          → (x ≡ y) ⊎ Among x (z ∷ zs)
-      go true rest (inl e) = inr (inl e)
-      go true rest (inr b) = ⊎-elim (λ e. inl e) (λ c. inr (inr c)) (rest b)
-      go false rest b = b
-
-  inserted-among : (x y : A) (ys : List A) → (x ≡ y) ⊎ Among x ys → Among x (inserted below y ys)
-  inserted-among x y [] a = a
-  inserted-among x y (z ∷ zs) a = go (below z y) (inserted-among x y zs) a
-    where
-      go : (t : Bool) → ((x ≡ y) ⊎ Among x zs → Among x (inserted below y zs)) → (x ≡ y) ⊎ Among x (z ∷ zs)
-          → Among x (cond t (z ∷ inserted below y zs) (y ∷ (z ∷ zs)))
-      go true rest (inl e) = inr (rest (inl e))
-      go true rest (inr (inl e)) = inl e
-      go true rest (inr (inr b)) = inr (rest (inr b))
-      go false rest b = b
-
-  pub among-sorted : (x : A) (xs : List A) → Among x (sorted below xs) → Among x xs
-  among-sorted x [] a = a
-  among-sorted x (y ∷ ys) a = ⊎-elim (λ e. inl e) (λ b. inr (among-sorted x ys b)) (among-inserted x y (sorted below ys) a)
-
--- ---- pending ids
-
-pending-request : (id : Id) (rs : List Request) → isPending id rs ≡ true → (r : Request) × Among r rs × (r .id ≡ id)
-pending-request id rs e = let p = among-map (λ (r : Request). r .id) id rs (passes-pending id rs e) in (p .0, p .1, sym (p .2))
-
-not-pending : (id : Id) (rs : List Request) → isPending id rs ≡ false → (r : Request) → Among r rs → r .id ≡ id → ⊥
-not-pending id rs e r a f = fails-pending id rs e (subst (λ (x : Id). Among x (idsOf rs)) f (map-among (λ (r : Request). r .id) r rs a))
+use Rattle.model.proofs.Promises.ListLaws.{among-front, among-back, among-either, among-inserted, inserted-among}
+use Rattle.model.proofs.Promises.WordLaws.{passes-pending, pending-passes, pending-tells, pending-request, request-pending}
 
 -- ---- requests that are asked for
 
@@ -103,7 +34,7 @@ pub record New (clock : ℕ) (before : List Request) (asked : List Requested) (r
 pub record Grows (clock : ℕ) (before : List Request) (asked : List Requested) (now : List Request) : Type 0 where
   pub stays : (r : Request) → Among r before → Among r now
   pub comes : (r : Request) → Among r now → Among r before ⊎ New clock before asked r
-  pub there : (q : Requested) → Among q asked → (r : Request) × Among r now × (r .id ≡ q .id)
+  pub there : (q : Requested) → Among q asked → (r : Request) × Among r now × (asRequested r ≡ q)
 
 module _ (clock : ℕ) where
   grows-not : (rs : List Request) → Grows clock rs [] rs
@@ -134,39 +65,68 @@ module _ (clock : ℕ) where
     abbrev entering : Id → Request
     entering id = record { id = id; typeId = typeId; peer = peer; stamp = clock; checks = 0 }
 
-    one-grows : (id : Id) (rs : List Request) → Grows clock rs (requested typeId peer id ∷ []) (cond (isPending id rs) rs (inserted idBefore (entering id) rs))
-    one-grows id rs = go (isPending id rs) refl
+    -- whoever has this id was asked for just so
+    abbrev AskedSo : List Request → Id → Type 0
+    AskedSo rs id = (r : Request) → Among r rs → r .id ≡ id → asRequested r ≡ requested typeId peer id
+
+    one-grows : (id : Id) (rs : List Request) → AskedSo rs id
+        → Grows clock rs (requested typeId peer id ∷ []) (cond (isPending id rs) rs (inserted idBefore (entering id) rs))
+    one-grows id rs so = go (isPending id rs) refl
       where
         asked : List Requested
         asked = requested typeId peer id ∷ []
 
-        asked-id : (q : Requested) → Among q asked → id ≡ q .id
-        asked-id q (inl e) = sym (ap (λ (x : Requested). x .id) e)
+        is-asked : (q : Requested) → Among q asked → requested typeId peer id ≡ q
+        is-asked q (inl e) = sym e
 
         go : (t : Bool) → isPending id rs ≡ t → Grows clock rs asked (cond t rs (inserted idBefore (entering id) rs))
         go true e =
-            let p = pending-request id rs e in
-            record { stays = λ r a. a; comes = λ r a. inl a; there = λ q a. (p .0, p .1, p .2 ∙ asked-id q a) }
+            let p = pending-request id rs (passes-pending id rs e) in
+            record { stays = λ r a. a; comes = λ r a. inl a; there = λ q a. (p .0, p .1, so (p .0) (p .1) (p .2) ∙ is-asked q a) }
         go false e =
             record {
               stays = λ r a. inserted-among idBefore r (entering id) rs (inr a);
               comes = λ r a. ⊎-elim (λ f. inr (subst (New clock rs asked) (sym f) new)) (λ b. inl b) (among-inserted idBefore r (entering id) rs a);
-              there = λ q a. (entering id, inserted-among idBefore (entering id) (entering id) rs (inl refl), asked-id q a);
+              there = λ q a. (entering id, inserted-among idBefore (entering id) (entering id) rs (inl refl), is-asked q a);
             }
           where
             new : New clock rs asked (entering id)
-            new = record { requested = inl refl; stamp = refl; checks = refl; notBefore = not-pending id rs e }
+            new =
+                record {
+                  requested = inl refl;
+                  stamp = refl;
+                  checks = refl;
+                  notBefore = λ old a f. not-both (isPending id rs) (pending-passes id rs (request-pending id rs old a f)) e;
+                }
 
-    marks-grow : (ids : List Id) (rs : List Request) → Grows clock rs (map (requested typeId peer) ids) (markRequested clock typeId peer ids rs)
-    marks-grow [] rs = grows-not rs
-    marks-grow (id ∷ ids) rs =
+    -- a request that came for one id is what is asked for, under any other name of it
+    so-after : (id : Id) {rs now : List Request} → Grows clock rs (requested typeId peer id ∷ []) now → (x : Id) → AskedSo rs x → AskedSo now x
+    so-after id g x so r a e = ⊎-elim (λ b. so r b e) (λ n. one (n .requested)) (g .comes r a)
+      where
+        one : Among (asRequested r) (requested typeId peer id ∷ []) → asRequested r ≡ requested typeId peer x
+        one (inl f) = f ∙ ap (requested typeId peer) (sym (ap (λ (q : Requested). q .id) f) ∙ e)
+
+    marks-grow : (ids : List Id) (rs : List Request) → All (AskedSo rs) ids
+        → Grows clock rs (map (requested typeId peer) ids) (markRequested clock typeId peer ids rs)
+    marks-grow [] rs so = grows-not rs
+    marks-grow (id ∷ ids) rs so =
         let one : List Request = cond (isPending id rs) rs (inserted idBefore (entering id) rs) in
-        grows-then (one-grows id rs) (marks-grow ids one)
+        let g = one-grows id rs (so .0) in
+        grows-then g (marks-grow ids one (all-weaker (AskedSo rs) (AskedSo one) (so-after id g) ids (so .1)))
+
+    -- nobody has an id that rule 3 wants
+    wanted-so : (pairs : List Pair) (ids : List Id) (rs : List Request) → All (AskedSo rs) (wanted rs typeId pairs ids)
+    unfolding wanted
+    wanted-so pairs ids rs =
+        all-kept (AskedSo rs) (λ (id : Id). not (isStored pairs typeId id)) (kept (λ (id : Id). not (isPending id rs)) ids)
+        (all-weaker (λ (id : Id). not (isPending id rs) ≡ true) (AskedSo rs)
+        (λ id e r a f. absurd (pending-tells id rs .passed e (request-pending id rs r a f)))
+        (kept (λ (id : Id). not (isPending id rs)) ids) (all-pass (λ (id : Id). not (isPending id rs)) ids))
 
   act-grows : (gate : Bool) (act : Act) (rs : List Request) → WellAct act
       → Grows clock rs (requestedBySendings (perform gate clock act rs .sendings)) (perform gate clock act rs .pending)
   act-grows true (ask typeId peer pairs ids) rs w =
-      rw (requested-list typeId peer (wanted rs typeId pairs ids)) (marks-grow typeId peer (wanted rs typeId pairs ids) rs)
+      rw (requested-list typeId peer (wanted rs typeId pairs ids)) (marks-grow typeId peer (wanted rs typeId pairs ids) rs (wanted-so typeId peer pairs ids rs))
   act-grows false (ask typeId peer pairs ids) rs w = grows-not rs
   act-grows gate (send (Requests.request typeId peer ids)) rs w = absurd w
   act-grows gate (send (Requests.announcement peer ids)) rs w = grows-not rs

@@ -1,21 +1,19 @@
 -- Who is asked for what, kept: nothing behind a shut gate, nothing by steps that may not ask, announced ids and needed modifiers.
-use Prim.Native.Nat.{ℕ, _+_, _≤_, min}
-use mathlib.Core.Path.{_≡_, refl, sym, ap, _∙_}
-use mathlib.Core.Bool.{Bool, true, false, cond, _&&_, false≢true}
-use mathlib.Core.List.{List, [], _∷_, _++_, map}
-use mathlib.Core.Option.{Option, none, some, Option·some-injective}
+use Prim.Native.Nat.{ℕ, min}
+use mathlib.Core.Path.{_≡_, refl, sym, ap, _∙_, subst}
+use mathlib.Core.Bool.{Bool, true, false, cond}
+use mathlib.Core.List.{List, [], _∷_, _++_, map, cons≢nil}
+use mathlib.Core.Option.{Option, none, some}
 use native.Mathlib.Omega.{arith}
-use lib.ListN.{length}
-use lib.Dec.{eqb, leb, ltb}
-use borrow.Author.Tests.{eqb-true, leb-true}
+use lib.Dec.{eqb}
+use borrow.Author.Tests.{eqb-true}
 use Rattle.fields.specs.Facts.{All}
-use Rattle.fields.proofs.OrderLaws.{and-left, and-right}
 use Rattle.fields.proofs.AllLaws.{all-append, either}
 use Rattle.model.specs.Protocol.{Id, headerType, isAnnounceable}
 use Rattle.model.specs.Settings as settings
 use Rattle.model.specs.Delivery.{Request}
-use Rattle.model.specs.State.{State, Mode, new, seeking, syncing, synced, ended, isMode, withKnownTip, withStalledPeers}
-use Rattle.model.specs.Peers.{firstOf, isSome, selectPeer}
+use Rattle.model.specs.State.{State, seeking, syncing, isMode, withKnownTip, withStalledPeers}
+use Rattle.model.specs.Peers.{firstOf, selectPeer}
 use Rattle.model.specs.Requests.{Act, ask, wanted}
 use Rattle.model.specs.Sections.{View, requestSectionsFrom, requestNextSections}
 use Rattle.model.specs.Events.{Outcome, Continue, Synced, BehindPeer, SyncPeerGone, Stalled, EndOfStream, outcomeNumber}
@@ -27,63 +25,27 @@ use Rattle.model.specs.Steps.{planOf, plan, remaining, commands}
 use Rattle.model.specs.Lists.{idsIn, peersIn, pairsIn, viewOf}
 use Rattle.model.specs.Calls.{Call, stepOf, argsOf, stepAnswer}
 use Rattle.model.specs.Book.{requestedIn}
-use Rattle.model.specs.Promises.Outcomes.{NothingAhead, noHeaders, tipReached}
+use Rattle.model.specs.Promises.Numbers as numbers
+use Rattle.model.specs.Promises.Outcomes.{NothingAhead, noHeaders}
 use Rattle.model.specs.Promises.Asked.{AsksFor, Announceable, NextSections, inReorg, onProgress, atSectionTick, onEntry, Orphans}
 use Rattle.model.specs.Promises.Asked.{MayAsk, announced, needed, sections, orphans, checks}
 use Rattle.model.proofs.RequestedLaws.{requested}
-use Rattle.model.proofs.Promises.SeenLaws as seen
-use Rattle.model.proofs.Promises.SeenLaws.{seenAs, Finished, Kind, kind-of}
+use Rattle.model.proofs.Promises.SeenLaws as kinds
+use Rattle.model.proofs.Promises.SeenLaws.{seenAs, Finished, Kind, heardTip, step-of, kind-of}
+use Rattle.model.proofs.Promises.ModeLaws.{mode-is}
 use Rattle.model.proofs.Promises.WordLaws.{left-wanted, announceable-passes, passes-announceable}
 use Rattle.model.proofs.Promises.AskedLaws.{Says, continuation-says, say-to-says, enters-says, picks-say, ticks-say}
 use Rattle.model.proofs.Promises.AskedLaws.{askedBy, says-ask-nothing, asked-alone, asked-by, shut-asked, acts-well}
+use Rattle.model.proofs.Promises.OutcomesKept.{Why, why-info}
 
 -- ---- over plain variables
-
-cons-not-nil {ℓ} : {A : Type ℓ} (x : A) (xs : List A) → x ∷ xs ≡ [] → ⊥
-cons-not-nil x xs e = let n : length (x ∷ xs) ≡ 0 = ap length e in absurd (omega arith)
-
-is-syncing : (mode : Mode) → isMode mode syncing ≡ true → mode ≡ syncing
-is-syncing new e = absurd (false≢true e)
-is-syncing seeking e = absurd (false≢true e)
-is-syncing syncing e = refl
-is-syncing synced e = absurd (false≢true e)
-is-syncing ended e = absurd (false≢true e)
 
 -- With nobody listed no sections are asked for.
 unlisted-sections : (view : View) (chainHeight height : ℕ) (peers : List ℕ) → ((peers ≡ [] → ⊥) → ⊥)
     → All Says (requestNextSections view chainHeight height peers .acts)
 unfolding requestNextSections requestSectionsFrom
 unlisted-sections view chainHeight height [] h = tt
-unlisted-sections view chainHeight height (p ∷ ps) h = absurd (h (cons-not-nil p ps))
-
--- Synced is said at a tip that is not above ours.
-record AtTip (fromSyncPeer : Bool) (ours : ℕ) (known : Option ℕ) : Type 0 where
-  tip : ℕ
-  names : known ≡ some tip
-  ofSyncPeer : fromSyncPeer ≡ true
-  reached : tip ≤ ours
-
-at-tip : (fromSyncPeer : Bool) (ours : ℕ) (known : Option ℕ) → tipOutcome fromSyncPeer ours known ≡ Synced → AtTip fromSyncPeer ours known
-unfolding tipOutcome
-at-tip fromSyncPeer ours none e = let n : outcomeNumber Continue ≡ outcomeNumber Synced = ap outcomeNumber e in absurd (omega arith)
-at-tip fromSyncPeer ours (some tip) e = go (fromSyncPeer && leb tip ours) (ltb (ours + 1) tip) refl e
-  where
-    go : (s b : Bool) → fromSyncPeer && leb tip ours ≡ s → cond s Synced (cond b BehindPeer Continue) ≡ Synced → AtTip fromSyncPeer ours (some tip)
-    go true b t e =
-        record {
-          tip = tip;
-          names = refl;
-          ofSyncPeer = and-left fromSyncPeer (leb tip ours) t;
-          reached = leb-true tip ours (and-right fromSyncPeer (leb tip ours) t);
-        }
-    go false true t e = let n : outcomeNumber BehindPeer ≡ outcomeNumber Synced = ap outcomeNumber e in absurd (omega arith)
-    go false false t e = let n : outcomeNumber Continue ≡ outcomeNumber Synced = ap outcomeNumber e in absurd (omega arith)
-
--- a tip is known if parsing worked and it is there
-tip-named : (parsed named : Bool) (n tip : ℕ) → cond parsed (cond named (some n) none) none ≡ some tip → (parsed ≡ true) × (named ≡ true) × (n ≡ tip)
-tip-named true true n tip e = (refl, refl, Option·some-injective n tip e)
-tip-named true false n tip e = absurd (false≢true (ap isSome e))
-tip-named false named n tip e = absurd (false≢true (ap isSome e))
+unlisted-sections view chainHeight height (p ∷ ps) h = absurd (h cons≢nil)
 
 -- ---- a finished call
 
@@ -97,22 +59,14 @@ module _ (st : State) (call : Call) (f : Finished st call) where
 
   -- ---- announced ids and needed modifiers
 
-  needed-step : call .kind ≡ 3 → stepOf call ≡ Steps.neededModifier (call .typeid) (idsIn (call .ids))
-  unfolding stepOf
-  needed-step e = rw e
-
-  announced-step : call .kind ≡ 5 → stepOf call ≡ Steps.announced (call .peer) (call .typeid) (idsIn (call .ids))
-  unfolding stepOf
-  announced-step e = rw e
-
-  pub needed-asked : call .gate ≡ 1 → call .kind ≡ 3 → AsksFor (seenAs st call) (call .typeid) (st .sync .syncPeer) (idsIn (call .ids))
+  pub needed-asked : call .gate ≡ 1 → call .kind ≡ numbers.neededModifier → AsksFor (seenAs st call) (call .typeid) (st .sync .syncPeer) (idsIn (call .ids))
   unfolding argsOf planOf continues remaining
   needed-asked open' k =
       record {
         left = wanted (st .pending) (call .typeid) (pairsIn (call .stored)) (idsIn (call .ids));
         unknown = left-wanted (st .pending) (call .typeid) (pairsIn (call .stored)) (idsIn (call .ids));
         requested =
-            asked-by st (argsOf call) (Steps.neededModifier (call .typeid) (idsIn (call .ids))) (needed-step k) refl
+            asked-by st (argsOf call) (Steps.neededModifier (call .typeid) (idsIn (call .ids))) (step-of call (kinds.neededModifier k)) refl
             ∙ asked-alone (eqb (call .gate) 1) (call .clock) (call .typeid) (st .sync .syncPeer) (pairsIn (call .stored)) (idsIn (call .ids)) (st .pending)
             (ap (λ (gate : ℕ). eqb gate 1) open');
       }
@@ -131,12 +85,12 @@ module _ (st : State) (call : Call) (f : Finished st call) where
       ap (λ (t : Bool). askedBy (a .gate) (a .clock) (cond t (ask typeId peer (a .stored) (id ∷ ids) ∷ []) []) rs) known
       ∙ asked-alone (a .gate) (a .clock) typeId peer (a .stored) (id ∷ ids) rs open'
 
-  pub announced-asked : call .gate ≡ 1 → call .kind ≡ 5 → stepAnswer st (argsOf call) .outcome ≡ 0 → Announceable (call .typeid)
+  pub announced-asked : call .gate ≡ 1 → call .kind ≡ numbers.announcedIds → stepAnswer st (argsOf call) .outcome ≡ 0 → Announceable (call .typeid)
       → AsksFor (seenAs st call) (call .typeid) (call .peer) (idsIn (call .ids))
   unfolding argsOf planOf plan stepAnswer remaining
   announced-asked open' k o known =
       let step : Step = Steps.announced (call .peer) (call .typeid) (idsIn (call .ids)) in
-      let e : stepOf call ≡ step = announced-step k in
+      let e : stepOf call ≡ step = step-of call (kinds.announcedIds k) in
       record {
         left = wanted (st .pending) (call .typeid) (pairsIn (call .stored)) (idsIn (call .ids));
         unknown = left-wanted (st .pending) (call .typeid) (pairsIn (call .stored)) (idsIn (call .ids));
@@ -160,7 +114,8 @@ module _ (st : State) (call : Call) (f : Finished st call) where
         go : (t : Bool) → isMode (st .mode) syncing ≡ t
             → All Says (acts ++ (cond t (sectionsFrom st a (st .sync .downloaded)) (record { acts = []; inView = true })) .acts)
         go true e =
-            all-append Says acts (sectionsFrom st a (st .sync .downloaded) .acts) w (sections-say (st .sync .downloaded) (onEntry h (is-syncing (st .mode) e)))
+            all-append Says acts (sectionsFrom st a (st .sync .downloaded) .acts) w
+            (sections-say (st .sync .downloaded) (onEntry h (mode-is (st .mode) syncing e)))
         go false e = all-append Says acts [] w tt
 
     answers-says : (peer : ℕ) (acts : List Act) (tip : ℕ) (outcome : Outcome) → All Says acts → (outcome ≡ Synced → NothingAhead (seenAs st call))
@@ -173,28 +128,18 @@ module _ (st : State) (call : Call) (f : Finished st call) where
     answers-says peer acts tip Stalled w h = tt
     answers-says peer acts tip EndOfStream w h = tt
 
-    -- the tip that a sync info's call names
-    abbrev known : Option ℕ
-    known = cond (eqb (call .parsed) 1) (cond (eqb (call .hastip) 1) (some (call .tip)) none) none
-
-    synced-ahead : call .kind ≡ 6 → tipOutcome (eqb (call .peer) (st .sync .syncPeer)) (call .height) known ≡ Synced → NothingAhead (seenAs st call)
-    synced-ahead k e =
-        let t = at-tip (eqb (call .peer) (st .sync .syncPeer)) (call .height) known e in
-        let n = tip-named (eqb (call .parsed) 1) (eqb (call .hastip) 1) (call .tip) (t .tip) (t .names) in
-        tipReached (t .tip)
-        (record { kind = k; parsed = eqb-true (call .parsed) 1 (n .0); named = eqb-true (call .hastip) 1 (n .1); names = n .2 })
-        (eqb-true (call .peer) (st .sync .syncPeer) (t .ofSyncPeer)) (t .reached)
-
-    sync-info-heard-says : call .kind ≡ 6
+    sync-info-heard-says : call .kind ≡ numbers.syncInfo
         → All Says
         (hearsSyncInfo st a (call .peer) (eqb (call .parsed) 1) (cond (eqb (call .hastip) 1) (some (call .tip)) none) (idsIn (call .continuation)) .acts)
     unfolding hearsSyncInfo argsOf
     sync-info-heard-says k =
+        let known : Option ℕ = heardTip call in
         answers-says (call .peer) (continuation (eqb (call .parsed) 1) (call .height) known (call .peer) (idsIn (call .continuation)))
         (raisedTip (st .sync .knownTip) known) (tipOutcome (eqb (call .peer) (st .sync .syncPeer)) (call .height) known)
-        (continuation-says (eqb (call .parsed) 1) (call .height) known (call .peer) (idsIn (call .continuation))) (synced-ahead k)
+        (continuation-says (eqb (call .parsed) 1) (call .height) known (call .peer) (idsIn (call .continuation)))
+        (λ e. subst (Why (seenAs st call)) e (why-info st call k))
 
-    announced-says : call .kind ≡ 5 → (ids : List Id) → idsIn (call .ids) ≡ ids
+    announced-says : call .kind ≡ numbers.announcedIds → (ids : List Id) → idsIn (call .ids) ≡ ids
         → (outcomeNumber (hearsAnnounced st a (call .peer) (call .typeid) ids .outcome) ≡ 0 → stepAnswer st (argsOf call) .outcome ≡ 0)
         → All Says (hearsAnnounced st a (call .peer) (call .typeid) ids .acts)
     unfolding hearsAnnounced continues
@@ -212,20 +157,21 @@ module _ (st : State) (call : Call) (f : Finished st call) where
     orphans-say : Orphans (seenAs st call) → (peers : List ℕ) → peersIn (call .peers) ≡ peers → All Says (askOrphans st a (call .peer) (firstOf peers))
     unfolding askOrphans
     orphans-say h [] e = tt
-    orphans-say h (p ∷ ps) e = absurd (barred (orphans h (λ n. cons-not-nil p ps (sym e ∙ n))))
+    orphans-say h (p ∷ ps) e = absurd (barred (orphans h (λ n. cons≢nil (sym e ∙ n))))
 
-    loses-says : call .kind ≡ 8 → All Says (loses st a (call .peer) .acts)
+    loses-says : call .kind ≡ numbers.lostPeer → All Says (loses st a (call .peer) .acts)
     unfolding loses leaves continues argsOf
     loses-says k = go (eqb (call .peer) (st .sync .syncPeer)) (isMode (st .mode) syncing) refl refl
       where
         go : (t m : Bool) → eqb (call .peer) (st .sync .syncPeer) ≡ t → isMode (st .mode) syncing ≡ m
             → All Says ((cond t (leaves st a SyncPeerGone seeking (cond m (askOrphans st a (call .peer) (firstOf (a .peers))) [])) (continues st a [])) .acts)
         go true true e h =
-            orphans-say (record { kind = k; mode = is-syncing (st .mode) h; lost = eqb-true (call .peer) (st .sync .syncPeer) e }) (peersIn (call .peers)) refl
+            orphans-say (record { kind = k; mode = mode-is (st .mode) syncing h; lost = eqb-true (call .peer) (st .sync .syncPeer) e })
+            (peersIn (call .peers)) refl
         go true false e h = tt
         go false m e h = tt
 
-    progresses-says : call .kind ≡ 11 → (isSyncing : Bool) → All Says (progresses st a isSyncing .acts)
+    progresses-says : call .kind ≡ numbers.progress → (isSyncing : Bool) → All Says (progresses st a isSyncing .acts)
     unfolding progresses
     progresses-says k false = sections-say (st .sync .downloaded) (onProgress k)
     progresses-says k true =
@@ -237,23 +183,23 @@ module _ (st : State) (call : Call) (f : Finished st call) where
     only-says : {step : Step} → Kind call step → (outcomeNumber (planOf st a step .outcome) ≡ 0 → stepAnswer st (argsOf call) .outcome ≡ 0)
         → (isCheck step ≡ false) × All Says (planOf st a step .acts)
     unfolding planOf continues leaves advances advancesAndRequests evicts
-    only-says (seen.start k) o = (refl, tt)
-    only-says (seen.pick k) o = (refl, picks-say st a (selectPeer (st .sync .stalledPeers) (a .peers)))
-    only-says (seen.neededModifier k) o = absurd (barred (needed k))
-    only-says (seen.reorg k) o = (refl, sections-say (advanceFrom st a (min (st .sync .downloaded) (call .fork)) .height) (inReorg k))
-    only-says (seen.announcedIds k) o = (refl, announced-says k (idsIn (call .ids)) refl o)
-    only-says (seen.syncInfo k) o = (refl, sync-info-heard-says k)
-    only-says (seen.otherMessage k) o = (refl, tt)
-    only-says (seen.lostPeer k) o = (refl, loses-says k)
-    only-says (seen.receivedIds k) o = (refl, tt)
-    only-says (seen.evictedIds k) o = (refl, tt)
-    only-says (seen.progress k) o = (refl, progresses-says k (isMode (st .mode) syncing))
-    only-says (seen.check k) o = absurd (barred (checks k))
-    only-says (seen.scheduledTick k) o =
+    only-says (kinds.start k) o = (refl, tt)
+    only-says (kinds.pick k) o = (refl, picks-say st a (selectPeer (st .sync .stalledPeers) (a .peers)))
+    only-says (kinds.neededModifier k) o = absurd (barred (needed k))
+    only-says (kinds.reorg k) o = (refl, sections-say (advanceFrom st a (min (st .sync .downloaded) (call .fork)) .height) (inReorg k))
+    only-says (kinds.announcedIds k) o = (refl, announced-says k (idsIn (call .ids)) refl o)
+    only-says (kinds.syncInfo k) o = (refl, sync-info-heard-says k)
+    only-says (kinds.otherMessage k) o = (refl, tt)
+    only-says (kinds.lostPeer k) o = (refl, loses-says k)
+    only-says (kinds.receivedIds k) o = (refl, tt)
+    only-says (kinds.evictedIds k) o = (refl, tt)
+    only-says (kinds.progress k) o = (refl, progresses-says k (isMode (st .mode) syncing))
+    only-says (kinds.check k) o = absurd (barred (checks k))
+    only-says (kinds.scheduledTick k) o =
         (refl, ticks-say st a (isMode (st .mode) syncing) (settings.stalled (st .settings) (a .clock) (st .sync .lastProgress)))
-    only-says (seen.sectionTick k) o = (refl, sections-say (advanceFrom st a (st .sync .downloaded) .height) (atSectionTick k))
-    only-says (seen.sendFailure k) o = (refl, tt)
-    only-says (seen.endOfStream k) o = (refl, tt)
+    only-says (kinds.sectionTick k) o = (refl, sections-say (advanceFrom st a (st .sync .downloaded) .height) (atSectionTick k))
+    only-says (kinds.sendFailure k) o = (refl, tt)
+    only-says (kinds.endOfStream k) o = (refl, tt)
 
   pub others-ask-nothing : (MayAsk (seenAs st call) → ⊥) → requestedIn (commands st (argsOf call)) ≡ []
   unfolding argsOf plan stepAnswer

@@ -1,44 +1,37 @@
 -- Batches and runs, kept: requests of 1 to 400 ids, batches numbered from 0 without a gap, no list in two batches.
-use Prim.Native.Nat.{ℕ, zero, suc, _+_, _-_, _≤_, min}
+use Prim.Native.Nat.{ℕ, zero, suc, _≤_}
 use mathlib.Core.Path.{_≡_, refl, sym, ap, _∙_, subst}
-use mathlib.Core.Bool.{Bool, true, false, cond, _&&_}
+use mathlib.Core.Bool.{Bool, true, false}
 use mathlib.Core.Logic.{inl, inr}
-use mathlib.Core.List.{List, [], _∷_, _++_, map, append-assoc}
-use mathlib.Core.Option.{Option, none, some}
+use mathlib.Core.List.{List, [], _∷_, _++_, map}
 use native.Mathlib.Omega.{arith}
 use lib.ListN.{length, take, drop, length-take, length-drop}
-use lib.Dec.{eqb}
 use borrow.Author.Tests.{ne-eqb}
 use Rattle.fields.specs.Facts.{All}
-use Rattle.fields.specs.Sort.{sorted}
-use Rattle.fields.proofs.AllLaws.{all-append, all-map, all-both, either}
-use Rattle.model.specs.Protocol.{Id, headerType, requestSize, isAnnounceable, windowSize}
-use Rattle.model.specs.Settings as settings
-use Rattle.model.specs.Delivery.{Request, orphansOf, markRequested}
-use Rattle.model.specs.State.{State, seeking, syncing, isMode, Sync, withKnownTip, withStalledPeers}
-use Rattle.model.specs.Peers.{firstOf, selectPeer}
+use Rattle.fields.proofs.AllLaws.{all-append, all-map, all-both}
+use Rattle.model.specs.Protocol.{Id, headerType, requestSize}
+use Rattle.model.specs.Delivery.{Request, markRequested}
+use Rattle.model.specs.State.{State}
 use Rattle.model.specs.Requests.{Sending, request, announcement, syncInfo, Command, runsWithin, runs, commandsOf, commandsFrom}
 use Rattle.model.specs.Requests.{Pair, Act, ask, send, wanted, requestOf, perform, performAll}
-use Rattle.model.specs.Sections.{View, Item, itemBelow, Batch, join, adjacent, batchesOf, windowWithin, requestSectionsFrom, requestNextSections}
-use Rattle.model.specs.Check.{retrySendings, markAllRetried, askFresh}
-use Rattle.model.specs.Events.{Outcome, Continue, Synced, BehindPeer, SyncPeerGone, Stalled, EndOfStream, tipOutcome, raisedTip, continuation}
-use Rattle.model.specs.Steps
-use Rattle.model.specs.Steps.{Step, Args, isCheck, planOf, plan, remaining, retried, performed, commands}
+use Rattle.model.specs.Sections.{Item, Batch, batchesOf}
+use Rattle.model.specs.Check.{retrySendings, markAllRetried}
+use Rattle.model.specs.Steps.{Args, isCheck, plan, remaining, retried, performed, commands}
 use Rattle.model.specs.Calls.{Call, stepOf, argsOf}
-use Rattle.model.specs.Book.{requestedIn}
-use Rattle.model.specs.Promises.Numbers
+use Rattle.model.specs.Promises.Numbers as numbers
 use Rattle.model.specs.Promises.Words.{peers}
 use Rattle.model.specs.Promises.Asked.{AsksFresh}
 use Rattle.model.specs.Promises.Batches.{Alike, Follows, EachNext, StartsAt, OneBatch, Uncut, Batches}
 use Rattle.model.proofs.Widths.{WellAct}
-use Rattle.model.proofs.RequestedLaws.{requestedBySendings, requested-commands}
-use Rattle.model.proofs.StepKindLaws.{check-of-kind}
-use Rattle.model.proofs.Promises.SeenLaws.{seenAs, Finished, numbers-fit}
+use Rattle.model.proofs.RequestedLaws.{requested-commands}
+use Rattle.model.proofs.Promises.SeenLaws.{seenAs, Finished, is-check}
+use Rattle.model.proofs.Promises.ListLaws.{all-of, all-mapped, Pairwise, pairwise-map, pairwise-next}
+use Rattle.model.proofs.Promises.ListLaws.{OfFirst, Neighbours, next-of, next-append, next-map}
+use Rattle.model.proofs.Promises.ItemLaws.{batches-each, BatchBelow, batches-rise, below-differ}
+use Rattle.model.proofs.Promises.AskedLaws.{unretried, acts-well}
+use Rattle.model.proofs.Promises.PartLaws.{performed-each, Differs, batchAfter, commands-append, parts-differ}
+use Rattle.model.proofs.Promises.CourseLaws.{course-acts, told}
 use Rattle.model.proofs.Promises.CheckAsked.{fresh-performed}
-use Rattle.model.proofs.Promises.PairLaws.{Pairwise, all-of, pairwise-append, pairwise-map, pairwise-next}
-use Rattle.model.proofs.Promises.PairLaws.{OfFirst, Neighbours, next-of, next-append, next-map}
-use Rattle.model.proofs.Promises.ItemLaws.{BatchBelow, batches-keyed, batches-rise}
-use Rattle.model.proofs.Promises.AskedLaws.{Says, continuation-says, say-to-says, enters-says, picks-say, ticks-say, unretried, acts-well}
 
 -- ---- a sending as a header and its runs
 
@@ -129,44 +122,16 @@ first-command P batch (request typeId peer (id ∷ ids)) others h f = f (take re
 first-command P batch (announcement peer ids) others h f = f ids
 first-command P batch (syncInfo peer) others h f = f []
 
-join-not-empty : (i : Item) (bs : List Batch) → All (λ (b : Batch). NotEmpty (b .ids)) bs → All (λ (b : Batch). NotEmpty (b .ids)) (join i bs)
-join-not-empty i [] h = (tt, tt)
-join-not-empty i (b ∷ bs) h = go (eqb (i .typeId) (b .typeId) && eqb (i .peer) (b .peer))
-  where
-    go : (t : Bool) → All (λ (b : Batch). NotEmpty (b .ids))
-        (cond t (record { typeId = b .typeId; peer = b .peer; ids = i .id ∷ b .ids } ∷ bs)
-        (record { typeId = i .typeId; peer = i .peer; ids = i .id ∷ [] } ∷ (b ∷ bs)))
-    go true = (tt, h .1)
-    go false = (tt, h)
-
-adjacent-not-empty : (items : List Item) → All (λ (b : Batch). NotEmpty (b .ids)) (adjacent items)
-adjacent-not-empty [] = tt
-adjacent-not-empty (i ∷ items) = join-not-empty i (adjacent items) (adjacent-not-empty items)
-
 retries-send : (items : List Item) → All Sends (retrySendings items)
-unfolding retrySendings batchesOf
+unfolding retrySendings
 retries-send items =
-    all-map (λ (b : Batch). NotEmpty (b .ids)) Sends (λ (b : Batch). request (b .typeId) (b .peer) (b .ids)) (λ b h. h)
-    (adjacent (sorted itemBelow items)) (adjacent-not-empty (sorted itemBelow items))
+    all-map (λ (b : Batch). NotEmpty (b .ids)) Sends (λ (b : Batch). request (b .typeId) (b .peer) (b .ids)) (λ b h. h) (batchesOf items)
+    (batches-each (λ (b : Batch). NotEmpty (b .ids)) (λ i b h. tt) items (all-of (λ (i : Item). Unit {0}) (λ i. tt) items))
 
 -- ---- what acts send
 
--- Two lists are of different types or go to different peers.
-abbrev Differs : Act → Act → Type 0
-Differs (ask typeId peer pairs ids) (ask typeId′ peer′ pairs′ ids′) = typeId ≡ typeId′ → peer ≡ peer′ → ⊥
-Differs (ask typeId peer pairs ids) (send s) = Unit {0}
-Differs (send s) act = Unit {0}
-
 abbrev Apart : Sending → Sending → Type 0
 Apart s t = kindOf s ≡ 1 → kindOf t ≡ 1 → typeOf s ≡ typeOf t → peerOf s ≡ peerOf t → ⊥
-
-module _ (gate : Bool) (clock : ℕ) where
-  performed-each : (P : Act → Type 0) (Q : Sending → Type 0) → ((act : Act) (rs : List Request) → P act → All Q (perform gate clock act rs .sendings))
-      → (acts : List Act) (rs : List Request) → All P acts → All Q (performAll gate clock acts rs .sendings)
-  performed-each P Q f [] rs h = tt
-  performed-each P Q f (act ∷ acts) rs h =
-      all-append Q (perform gate clock act rs .sendings) (performAll gate clock acts (perform gate clock act rs .pending) .sendings)
-      (f act rs (h .0)) (performed-each P Q f acts (perform gate clock act rs .pending) (h .1))
 
 request-sends : (typeId peer : ℕ) (ids : List Id) → All Sends (requestOf typeId peer ids)
 request-sends typeId peer [] = tt
@@ -218,149 +183,6 @@ performed-apart gate clock (send (syncInfo peer) ∷ acts) rs w d = (
   performed-apart gate clock acts rs (w .1) (d .1),
 )
 
--- ---- a step's lists differ
-
-says-differ : (act : Act) (acts : List Act) → All Says acts → All (Differs act) acts
-says-differ (ask typeId peer pairs ids) [] h = tt
-says-differ (ask typeId peer pairs ids) (ask typeId′ peer′ pairs′ ids′ ∷ acts) h = absurd (h .0)
-says-differ (ask typeId peer pairs ids) (send s ∷ acts) h = (tt, says-differ (ask typeId peer pairs ids) acts (h .1))
-says-differ (send s) acts h = all-of (Differs (send s)) (λ act. tt) acts
-
-says-pairwise : (acts : List Act) → All Says acts → Pairwise Differs acts
-says-pairwise [] h = tt
-says-pairwise (act ∷ acts) h = (says-differ act acts (h .1), says-pairwise acts (h .1))
-
--- what is said first, and what is said last, changes nothing
-said-before : (acts others : List Act) → All Says acts → Pairwise Differs others → Pairwise Differs (acts ++ others)
-said-before [] others h d = d
-said-before (ask typeId peer pairs ids ∷ acts) others h d = absurd (h .0)
-said-before (send s ∷ acts) others h d = (all-of (Differs (send s)) (λ act. tt) (acts ++ others), said-before acts others (h .1) d)
-
-said-behind : (acts others : List Act) → Pairwise Differs acts → All Says others → Pairwise Differs (acts ++ others)
-said-behind acts others d h =
-    pairwise-append Differs acts others d (says-pairwise others h) (all-of (λ (act : Act). All (Differs act) others) (λ act. says-differ act others h) acts)
-
--- batches rise, so no two are of one type and peer
-below-differ : (b c : Batch) → BatchBelow b c → b .typeId ≡ c .typeId → b .peer ≡ c .peer → ⊥
-below-differ b c (inl l) t p = omega arith
-below-differ b c (inr h) t p = omega (arith, h .1)
-
-sections-differ : (view : View) (chainHeight height : ℕ) (peers : List ℕ) → Pairwise Differs (requestNextSections view chainHeight height peers .acts)
-unfolding requestNextSections requestSectionsFrom
-sections-differ view chainHeight height [] = tt
-sections-differ view chainHeight height (peer ∷ peers) =
-    pairwise-map (λ (b : Batch). ask (b .typeId) (b .peer) [] (b .ids)) BatchBelow Differs below-differ
-    (batchesOf (windowWithin (min (height + windowSize) chainHeight - height) view peer height .items))
-    (batches-rise (windowWithin (min (height + windowSize) chainHeight - height) view peer height .items))
-
--- of one peer, no two are of one type
-one-peer-differ : (peer : ℕ) (bs : List Batch) → All (λ (b : Batch). b .peer ≡ peer) bs → Pairwise BatchBelow bs
-    → Pairwise (λ (b c : Batch). b .typeId ≡ c .typeId → ⊥) bs
-one-peer-differ peer [] p r = tt
-one-peer-differ peer (b ∷ bs) p r = (go bs (p .1) (r .0), one-peer-differ peer bs (p .1) (r .1))
-  where
-    go : (cs : List Batch) → All (λ (c : Batch). c .peer ≡ peer) cs → All (BatchBelow b) cs → All (λ (c : Batch). b .typeId ≡ c .typeId → ⊥) cs
-    go [] q l = tt
-    go (c ∷ cs) q l = ((λ t. below-differ b c (l .0) t (p .0 ∙ sym (q .0))), go cs (q .1) (l .1))
-
-module _ (st : State) (a : Args) where
-  sections-from-differ : (height : ℕ) → Pairwise Differs (Steps.sectionsFrom st a height .acts)
-  unfolding Steps.sectionsFrom
-  sections-from-differ height = sections-differ (a .view) (a .chainHeight) height (a .peers)
-
-  orphans-differ : (lost : ℕ) (peer : Option ℕ) → Pairwise Differs (Steps.askOrphans st a lost peer)
-  unfolding Steps.askOrphans
-  orphans-differ lost none = tt
-  orphans-differ lost (some peer) =
-      let orphan : Request → Item = λ (r : Request). record { id = r .id; typeId = r .typeId; peer = peer } in
-      let items : List Item = map orphan (orphansOf lost (st .pending)) in
-      let one : All (λ (b : Batch). b .peer ≡ peer) (batchesOf items) =
-      batches-keyed (λ (p t : ℕ). p ≡ peer) items
-      (all-map (λ (r : Request). Unit {0}) (λ (i : Item). i .peer ≡ peer) orphan (λ r u. refl) (orphansOf lost (st .pending))
-      (all-of (λ (r : Request). Unit {0}) (λ r. tt) (orphansOf lost (st .pending))))
-      in
-      pairwise-map (λ (b : Batch). ask (b .typeId) peer (a .stored) (b .ids)) (λ (b c : Batch). b .typeId ≡ c .typeId → ⊥) Differs
-      (λ b c n t p. n t) (batchesOf items) (one-peer-differ peer (batchesOf items) one (batches-rise items))
-
-  at-tip-differ : (acts : List Act) (tip : ℕ) → All Says acts → Pairwise Differs (Steps.isAtTip st a acts tip .acts)
-  unfolding Steps.isAtTip
-  at-tip-differ acts tip w = go (isMode (st .mode) syncing)
-    where
-      go : (t : Bool) → Pairwise Differs (acts ++ (cond t (Steps.sectionsFrom st a (st .sync .downloaded)) (record { acts = []; inView = true })) .acts)
-      go true = said-before acts (Steps.sectionsFrom st a (st .sync .downloaded) .acts) w (sections-from-differ (st .sync .downloaded))
-      go false = said-before acts [] w tt
-
-  answers-differ : (peer : ℕ) (acts : List Act) (tip : ℕ) (outcome : Outcome) → All Says acts
-      → Pairwise Differs (Steps.answers st a peer acts tip outcome .acts)
-  unfolding Steps.answers Steps.continues
-  answers-differ peer acts tip Continue w = said-before acts (Steps.sayTo st a peer) w (says-pairwise (Steps.sayTo st a peer) (say-to-says st a peer))
-  answers-differ peer acts tip Synced w = at-tip-differ acts tip w
-  answers-differ peer acts tip BehindPeer w =
-      let sync : Sync = withKnownTip (withStalledPeers (Steps.unmarked st a) []) tip in
-      says-pairwise (Steps.entersSyncing st a BehindPeer peer acts sync .acts) (enters-says st a BehindPeer peer acts sync w)
-  answers-differ peer acts tip SyncPeerGone w = tt
-  answers-differ peer acts tip Stalled w = tt
-  answers-differ peer acts tip EndOfStream w = tt
-
-  announced-differ : (peer typeId : ℕ) (ids : List Id) → Pairwise Differs (Steps.hearsAnnounced st a peer typeId ids .acts)
-  unfolding Steps.hearsAnnounced Steps.continues
-  announced-differ peer typeId [] =
-      either (λ (p : Steps.Plan). Pairwise Differs (p .acts)) (eqb typeId headerType) (Steps.isAtTip st a [] (st .sync .knownTip)) (Steps.continues st a [])
-      (at-tip-differ [] (st .sync .knownTip) tt) tt
-  announced-differ peer typeId (id ∷ ids) =
-      either (Pairwise Differs) (isAnnounceable typeId) (ask typeId peer (a .stored) (id ∷ ids) ∷ []) [] (tt, tt) tt
-
-  loses-differ : (peer : ℕ) → Pairwise Differs (Steps.loses st a peer .acts)
-  unfolding Steps.loses Steps.leaves Steps.continues
-  loses-differ peer =
-      let asks : List Act = Steps.askOrphans st a peer (firstOf (a .peers)) in
-      let acts : List Act = cond (isMode (st .mode) syncing) asks [] in
-      either (λ (p : Steps.Plan). Pairwise Differs (p .acts)) (eqb peer (st .sync .syncPeer))
-      (Steps.leaves st a SyncPeerGone seeking acts) (Steps.continues st a [])
-      (either (Pairwise Differs) (isMode (st .mode) syncing) asks [] (orphans-differ peer (firstOf (a .peers))) tt) tt
-
-  progresses-differ : (isSyncing : Bool) → Pairwise Differs (Steps.progresses st a isSyncing .acts)
-  unfolding Steps.progresses
-  progresses-differ false = sections-from-differ (st .sync .downloaded)
-  progresses-differ true =
-      let say : List Act = Steps.sayTo st a (st .sync .syncPeer) in
-      said-behind (Steps.sectionsFrom st a (st .sync .downloaded) .acts) (cond (st .sync .progressUsed) [] say) (sections-from-differ (st .sync .downloaded))
-      (either (All Says) (st .sync .progressUsed) [] say tt (say-to-says st a (st .sync .syncPeer)))
-
-  ticks-differ : (isSyncing late : Bool)
-      → Pairwise Differs ((cond isSyncing (Steps.ticksSyncing st a late) (Steps.ticksSynced st a (firstOf (a .peers)))) .acts)
-  ticks-differ isSyncing late =
-      says-pairwise ((cond isSyncing (Steps.ticksSyncing st a late) (Steps.ticksSynced st a (firstOf (a .peers)))) .acts) (ticks-say st a isSyncing late)
-
-  -- the lists that a step asks for
-  plan-differ : (step : Step) → Pairwise Differs (planOf st a step .acts)
-  unfolding planOf Steps.continues Steps.leaves Steps.advances Steps.advancesAndRequests Steps.evicts Steps.hearsSyncInfo Steps.checks
-  plan-differ Steps.start = tt
-  plan-differ Steps.pick =
-      let peer : Option ℕ = selectPeer (st .sync .stalledPeers) (a .peers) in
-      says-pairwise (Steps.picks st a peer .acts) (picks-say st a peer)
-  plan-differ Steps.progress = progresses-differ (isMode (st .mode) syncing)
-  plan-differ Steps.check = go (firstOf (a .peers))
-    where
-      go : (peer : Option ℕ) → Pairwise Differs (askFresh peer (a .stored) (st .sync .evicted))
-      go none = tt
-      go (some peer) = (tt, tt)
-  plan-differ Steps.scheduledTick = ticks-differ (isMode (st .mode) syncing) (settings.stalled (st .settings) (a .clock) (st .sync .lastProgress))
-  plan-differ Steps.sectionTick = sections-from-differ (Steps.advanceFrom st a (st .sync .downloaded) .height)
-  plan-differ Steps.sendFailure = tt
-  plan-differ Steps.endOfStream = tt
-  plan-differ Steps.otherMessage = tt
-  plan-differ (Steps.neededModifier typeId ids) = (tt, tt)
-  plan-differ (Steps.reorg fork) = sections-from-differ (Steps.advanceFrom st a (min (st .sync .downloaded) fork) .height)
-  plan-differ (Steps.announced peer typeId ids) = announced-differ peer typeId ids
-  plan-differ (Steps.syncInfo peer parsed tip ids) =
-      let known : Option ℕ = cond parsed tip none in
-      answers-differ peer (continuation parsed (a .chainHeight) known peer ids) (raisedTip (st .sync .knownTip) known)
-      (tipOutcome (eqb peer (st .sync .syncPeer)) (a .chainHeight) known) (continuation-says parsed (a .chainHeight) known peer ids)
-  plan-differ (Steps.lostPeer peer) = loses-differ peer
-  plan-differ (Steps.received ids) = tt
-  plan-differ (Steps.evicted ids) = tt
-
 -- ---- commands
 
 sending-sized : (batch : ℕ) (s : Sending) → All (λ (c : Command). c .kind ≡ 1 → (1 ≤ length (c .ids)) × (length (c .ids) ≤ 400)) (commandsOf batch s)
@@ -401,8 +223,8 @@ module _ (P : Command → Command → Type 0) (Q : Sending → Sending → Type 
       (next-append P (map (headed batch s) (runsOf s)) (commandsFrom (suc batch) ss)
       (next-map (headed batch s) (λ (run next : List Id). (kindOf s ≡ 1) × (length run ≡ 400)) P (within batch s) (runsOf s) (sending-full s))
       (commands-next (suc batch) ss (q .1) (h .1))
-      (all-map (λ (run : List Id). Unit {0}) (λ (c : Command). OfFirst (P c) (commandsFrom (suc batch) ss)) (headed batch s)
-      (λ run u. next-sending batch s ss run (q .0) (h .1)) (runsOf s) (all-of (λ (run : List Id). Unit {0}) (λ run. tt) (runsOf s))))
+      (all-mapped (λ (c : Command). OfFirst (P c) (commandsFrom (suc batch) ss)) (headed batch s)
+      (λ run. next-sending batch s ss run (q .0) (h .1)) (runsOf s)))
 
 -- ---- a finished call
 
@@ -444,21 +266,13 @@ module _ (st : State) (call : Call) (f : Finished st call) where
   sendings-send = all-append Sends (retrySendings (retried st a)) (performed st a .sendings) (retries-send (retried st a)) performed-send
 
   performed-next : Neighbours Apart (performed st a .sendings)
-  unfolding performed plan
+  unfolding performed plan argsOf
   performed-next =
       pairwise-next Apart (performed st a .sendings)
       (performed-apart (a .gate) (a .clock) (plan st a .acts) (markAllRetried (retried st a) (remaining st a (a .step))) (acts-well st call f)
-      (plan-differ st a (a .step)))
+      (parts-differ (course-acts st call (told st call f .course))))
 
 -- ---- what is sent again, and what is asked for anew
-
-commands-append : (batch : ℕ) (ss ts : List Sending) → (behind : ℕ) × (commandsFrom batch (ss ++ ts) ≡ commandsFrom batch ss ++ commandsFrom behind ts)
-commands-append batch [] ts = (batch, refl)
-commands-append batch (s ∷ ss) ts =
-    let (behind, e) = commands-append (suc batch) ss ts in (
-      behind,
-      ap (λ (l : List Command). commandsOf batch s ++ l) e ∙ sym (append-assoc (commandsOf batch s) (commandsFrom (suc batch) ss) (commandsFrom behind ts)),
-    )
 
 retries-next : (items : List Item) → Neighbours Apart (retrySendings items)
 unfolding retrySendings
@@ -468,11 +282,10 @@ retries-next items =
     (batchesOf items) (batches-rise items))
 
 -- a step other than a check sends nothing again
-none-again : (st : State) (call : Call) → Finished st call → (call .kind ≡ Numbers.check → ⊥) → commandsFrom 0 (retrySendings (retried st (argsOf call))) ≡ []
+none-again : (st : State) (call : Call) → Finished st call → (call .kind ≡ numbers.check → ⊥) → commandsFrom 0 (retrySendings (retried st (argsOf call))) ≡ []
 unfolding argsOf retrySendings batchesOf
 none-again st call f n =
-    let fit = numbers-fit st call f in
-    let e : isCheck (stepOf call) ≡ false = sym (check-of-kind call (fit .kindLow) (fit .kindHigh)) ∙ ne-eqb (call .kind) Numbers.check n in
+    let e : isCheck (stepOf call) ≡ false = sym (is-check st call f) ∙ ne-eqb (call .kind) numbers.check n in
     ap (λ (items : List Item). commandsFrom 0 (retrySendings items)) (unretried st (argsOf call) e)
 
 uncut : (st : State) (call : Call) → Finished st call → Uncut (seenAs st call)
@@ -480,11 +293,11 @@ unfolding commands
 uncut st call f =
     let again : List Sending = retrySendings (retried st (argsOf call)) in
     let anew : List Sending = performed st (argsOf call) .sendings in
-    let (behind, e) = commands-append 0 again anew in
+    let behind : ℕ = batchAfter 0 again in
     record {
       again = commandsFrom 0 again;
       anew = commandsFrom behind anew;
-      parts = e;
+      parts = commands-append 0 again anew;
       oneAgain =
           each-next OneBatch (commandsFrom 0 again)
           (commands-together 0 again (retries-next (retried st (argsOf call))) (retries-send (retried st (argsOf call))));

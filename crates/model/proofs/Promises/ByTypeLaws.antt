@@ -6,41 +6,29 @@ use mathlib.Core.Logic.{_⊎_, inl, inr, ⊎-elim}
 use mathlib.Core.List.{List, [], _∷_, _++_, map, append-nil}
 use native.Mathlib.Nat.{lt-irrefl}
 use native.Mathlib.Omega.{arith}
-use lib.Dec.{eqb, ltb}
-use borrow.Author.Tests.{eqb-true, eqb-false, eq-eqb, ne-eqb, ltb-true, ltb-false, le-ltb}
+use lib.Dec.{eqb}
+use borrow.Author.Tests.{eqb-true, eqb-false, eq-eqb, ne-eqb}
 use Rattle.fields.specs.Facts.{All}
 use Rattle.fields.specs.Order.{same}
+use Rattle.fields.specs.Filter.{consIf, kept}
 use Rattle.fields.specs.Sort.{inserted, sorted}
 use Rattle.fields.proofs.AllLaws.{all-append, all-weaker}
 use Rattle.fields.proofs.OrderLaws.{trichotomy, or-left, or-right, same-eq, same-refl}
-use Rattle.fields.proofs.SortLaws.{all-inserted, all-sorted}
+use Rattle.fields.proofs.SortLaws.{all-sorted}
 use Rattle.model.specs.Protocol.{Id, isAmong}
 use Rattle.model.specs.Delivery.{Request, idsOf, isPending, idBefore, markRequested}
-use Rattle.model.specs.State.{State}
-use Rattle.model.specs.Requests
-use Rattle.model.specs.Requests.{Pair, Act, ask, send, Done, wanted, perform, performAll}
+use Rattle.model.specs.Requests.{Pair, Act, ask, Done, wanted, perform, performAll}
 use Rattle.model.specs.Sections.{Item, itemBelow, Batch, join, adjacent, batchesOf}
-use Rattle.model.specs.Check.{retrySendings}
-use Rattle.model.specs.Steps.{Args, isCheck, plan, remaining, retried, performed, commands}
-use Rattle.model.specs.Book.{Requested, requestedIn}
+use Rattle.model.specs.Book.{Requested}
 use Rattle.model.specs.Promises.Words.{Among, LeftOf}
 use Rattle.model.specs.Promises.Asked.{under, PendingId, TypesRise}
 use Rattle.model.proofs.IdLaws.{among-inserted}
-use Rattle.model.proofs.RequestedLaws.{requested, requestedBySendings, requested-append, requested-commands}
+use Rattle.model.proofs.RequestedLaws.{requested, requested-append}
 use Rattle.model.proofs.EnteringLaws.{requested-list}
+use Rattle.model.proofs.Promises.ListLaws.{among-back, among-either, all-mapped, kept-sorted, Pairwise}
 use Rattle.model.proofs.Promises.WordLaws.{among-passes, passes-among, pending-passes, passes-pending, pairOf, left-same, left-wanted}
-
--- ---- lists
-
-module _ {A : Type 0} (x : A) where
-  pub among-back : (xs ys : List A) → Among x ys → Among x (xs ++ ys)
-  among-back [] ys h = h
-  among-back (y ∷ xs) ys h = inr (among-back xs ys h)
-
-  pub among-either : (xs ys : List A) → Among x (xs ++ ys) → Among x xs ⊎ Among x ys
-  among-either [] ys h = inr h
-  among-either (y ∷ xs) ys (inl e) = inl (inl e)
-  among-either (y ∷ xs) ys (inr h) = ⊎-elim (λ f. inl (inr f)) inr (among-either xs ys h)
+use Rattle.model.proofs.Promises.ItemLaws.{together, alone, isOf, of-alike, OfPeer, LowerType, batches-types}
+use Rattle.model.proofs.Promises.AskedLaws.{askedBy}
 
 -- the same lists
 left-as : {A : Type 0} (Out : A → Type 0) (xs xs′ left left′ : List A) → xs ≡ xs′ → left ≡ left′ → LeftOf Out xs′ left′ → LeftOf Out xs left
@@ -50,20 +38,12 @@ left-as Out xs xs′ left left′ p q h = rw (p, q) h
 
 -- among items, in their order
 abbrev pub ofType : ℕ → List Item → List Id
-ofType typeId [] = []
-ofType typeId (i ∷ items) = cond (eqb (i .typeId) typeId) (i .id ∷ ofType typeId items) (ofType typeId items)
+ofType typeId items = map (λ (i : Item). i .id) (kept (λ (i : Item). eqb (i .typeId) typeId) items)
 
 -- among batches
 abbrev inBatches : ℕ → List Batch → List Id
 inBatches typeId [] = []
 inBatches typeId (b ∷ batches) = cond (eqb (b .typeId) typeId) (b .ids ++ inBatches typeId batches) (inBatches typeId batches)
-
--- an item joined to a batch of its peer and type, and one that begins a batch
-abbrev together : Item → Batch → Batch
-together i b = record { typeId = b .typeId; peer = b .peer; ids = i .id ∷ b .ids }
-
-abbrev alone : Item → Batch
-alone i = record { typeId = i .typeId; peer = i .peer; ids = i .id ∷ [] }
 
 joined-ids : (typeId : ℕ) (i : Item) (bs : List Batch)
     → inBatches typeId (join i bs) ≡ cond (eqb (i .typeId) typeId) (i .id ∷ inBatches typeId bs) (inBatches typeId bs)
@@ -84,126 +64,30 @@ joined-ids typeId i (b ∷ bs) = go (eqb (i .typeId) (b .typeId)) (eqb (i .peer)
 adjacent-ids : (typeId : ℕ) (items : List Item) → inBatches typeId (adjacent items) ≡ ofType typeId items
 adjacent-ids typeId [] = refl
 adjacent-ids typeId (i ∷ items) =
-    joined-ids typeId i (adjacent items) ∙ ap (λ (l : List Id). cond (eqb (i .typeId) typeId) (i .id ∷ l) l) (adjacent-ids typeId items)
-
--- ---- items of one peer: their types rise when sorted, and items of one type keep their order
-
-abbrev pub OfPeer : ℕ → List Item → Type 0
-OfPeer peer items = All (λ (i : Item). i .peer ≡ peer) items
-
-below-type : (peer : ℕ) (x y : Item) → x .peer ≡ peer → y .peer ≡ peer → itemBelow x y ≡ ltb (x .typeId) (y .typeId)
-unfolding itemBelow
-below-type peer x y p q = rw (le-ltb (x .peer) (y .peer) (omega (arith, p, q)), eq-eqb (x .peer) (y .peer) (p ∙ sym q))
-
--- types do not fall
-abbrev Climbing : List Item → Type 0
-Climbing [] = Unit {0}
-Climbing (i ∷ items) = All (λ (later : Item). i .typeId ≤ later .typeId) items × Climbing items
-
-join-above : (low : ℕ) (i : Item) (bs : List Batch) → low ≤ i .typeId → All (λ (b : Batch). low ≤ b .typeId) bs
-    → All (λ (b : Batch). low ≤ b .typeId) (join i bs)
-join-above low i [] l h = (l, tt)
-join-above low i (b ∷ bs) l h = go (eqb (i .typeId) (b .typeId) && eqb (i .peer) (b .peer))
+    joined-ids typeId i (adjacent items)
+    ∙ rw (adjacent-ids typeId items) (go (eqb (i .typeId) typeId) (kept (λ (j : Item). eqb (j .typeId) typeId) items))
   where
-    go : (t : Bool) → All (λ (c : Batch). low ≤ c .typeId)
-        (cond t (together i b ∷ bs) (alone i ∷ (b ∷ bs)))
-    go true = h
-    go false = (l, h)
+    go : (t : Bool) (l : List Item)
+        → cond t (i .id ∷ map (λ (j : Item). j .id) l) (map (λ (j : Item). j .id) l) ≡ map (λ (j : Item). j .id) (consIf t i l)
+    go true l = refl
+    go false l = refl
 
-adjacent-above : (low : ℕ) (items : List Item) → All (λ (i : Item). low ≤ i .typeId) items → All (λ (b : Batch). low ≤ b .typeId) (adjacent items)
-adjacent-above low [] h = tt
-adjacent-above low (i ∷ items) h = join-above low i (adjacent items) (h .0) (adjacent-above low items (h .1))
+-- of items of one peer, a type says whether they are of this peer and type
+kept-of : (peer typeId : ℕ) (items : List Item) → OfPeer peer items → kept (λ (i : Item). eqb (i .typeId) typeId) items ≡ kept (isOf peer typeId) items
+kept-of peer typeId [] ps = refl
+kept-of peer typeId (i ∷ items) ps = rw (eq-eqb (i .peer) peer (ps .0), kept-of peer typeId items (ps .1))
 
-module _ (peer : ℕ) where
-  module _ (typeId : ℕ) where
-    inserted-ids : (x : Item) (items : List Item) → x .peer ≡ peer → OfPeer peer items
-        → ofType typeId (inserted itemBelow x items) ≡ cond (eqb (x .typeId) typeId) (x .id ∷ ofType typeId items) (ofType typeId items)
-    inserted-ids x [] p ps = refl
-    inserted-ids x (y ∷ items) p ps =
-        rw (below-type peer y x (ps .0) p) (go (ltb (y .typeId) (x .typeId)) refl (inserted-ids x items p (ps .1)))
-      where
-        swapped : (s t : Bool) (l : List Id) → (s ≡ true → t ≡ true → ⊥)
-            → cond t (y .id ∷ cond s (x .id ∷ l) l) (cond s (x .id ∷ l) l) ≡ cond s (x .id ∷ cond t (y .id ∷ l) l) (cond t (y .id ∷ l) l)
-        swapped true true l n = absurd (n refl refl)
-        swapped true false l n = refl
-        swapped false t l n = refl
-
-        go : (t : Bool) → ltb (y .typeId) (x .typeId) ≡ t
-            → ofType typeId (inserted itemBelow x items) ≡ cond (eqb (x .typeId) typeId) (x .id ∷ ofType typeId items) (ofType typeId items)
-            → ofType typeId (cond t (y ∷ inserted itemBelow x items) (x ∷ (y ∷ items)))
-            ≡ cond (eqb (x .typeId) typeId) (x .id ∷ ofType typeId (y ∷ items)) (ofType typeId (y ∷ items))
-        go true e rest =
-            rw rest
-            (swapped (eqb (x .typeId) typeId) (eqb (y .typeId) typeId) (ofType typeId items)
-            (λ s t. lt-irrefl typeId (omega (arith, ltb-true (y .typeId) (x .typeId) e, eqb-true (x .typeId) typeId s, eqb-true (y .typeId) typeId t))))
-        go false e rest = refl
-
-    sorted-ids : (items : List Item) → OfPeer peer items → ofType typeId (sorted itemBelow items) ≡ ofType typeId items
-    sorted-ids [] ps = refl
-    sorted-ids (x ∷ items) ps =
-        inserted-ids x (sorted itemBelow items) (ps .0) (all-sorted itemBelow (λ (i : Item). i .peer ≡ peer) items (ps .1))
-        ∙ ap (λ (l : List Id). cond (eqb (x .typeId) typeId) (x .id ∷ l) l) (sorted-ids items (ps .1))
-
-    batch-ids : (items : List Item) → OfPeer peer items → inBatches typeId (batchesOf items) ≡ ofType typeId items
-    unfolding batchesOf
-    batch-ids items ps = adjacent-ids typeId (sorted itemBelow items) ∙ sorted-ids items ps
-
-  inserted-climbs : (x : Item) (items : List Item) → x .peer ≡ peer → OfPeer peer items → Climbing items → Climbing (inserted itemBelow x items)
-  inserted-climbs x [] p ps c = (tt, tt)
-  inserted-climbs x (y ∷ items) p ps c =
-      rw (below-type peer y x (ps .0) p) (go (ltb (y .typeId) (x .typeId)) refl (inserted-climbs x items p (ps .1) (c .1)))
-    where
-      go : (t : Bool) → ltb (y .typeId) (x .typeId) ≡ t → Climbing (inserted itemBelow x items)
-          → Climbing (cond t (y ∷ inserted itemBelow x items) (x ∷ (y ∷ items)))
-      go true e rest =
-          let l = ltb-true (y .typeId) (x .typeId) e in
-          (all-inserted itemBelow (λ (later : Item). y .typeId ≤ later .typeId) x items (omega arith) (c .0), rest)
-      go false e rest =
-          let l = ltb-false (y .typeId) (x .typeId) e in
-          ((l, all-weaker (λ (i : Item). y .typeId ≤ i .typeId) (λ (i : Item). x .typeId ≤ i .typeId) (λ i h. omega arith) items (c .0)), c)
-
-  sorted-climbs : (items : List Item) → OfPeer peer items → Climbing (sorted itemBelow items)
-  sorted-climbs [] ps = tt
-  sorted-climbs (x ∷ items) ps =
-      inserted-climbs x (sorted itemBelow items) (ps .0) (all-sorted itemBelow (λ (i : Item). i .peer ≡ peer) items (ps .1)) (sorted-climbs items (ps .1))
-
-  -- batches of this peer, each of a type of its own, types rising
-  abbrev pub Stepwise : List Batch → Type 0
-  Stepwise [] = Unit {0}
-  Stepwise (b ∷ batches) = (b .peer ≡ peer) × All (λ (later : Batch). b .typeId < later .typeId) batches × Stepwise batches
-
-  joined-stepwise : (i : Item) (bs : List Batch) → i .peer ≡ peer → All (λ (b : Batch). i .typeId ≤ b .typeId) bs → Stepwise bs → Stepwise (join i bs)
-  joined-stepwise i [] p l s = (p, tt, tt)
-  joined-stepwise i (b ∷ bs) p l s = rw (eq-eqb (i .peer) (b .peer) (p ∙ sym (s .0))) (go (eqb (i .typeId) (b .typeId)) refl)
-    where
-      lower : {m n : ℕ} → (m < n) ⊎ ((m ≡ n) ⊎ (n < m)) → m ≤ n → (m ≡ n → ⊥) → m < n
-      lower (inl h) l n = h
-      lower (inr (inl h)) l n = absurd (n h)
-      lower (inr (inr h)) l n = omega arith
-
-      go : (t : Bool) → eqb (i .typeId) (b .typeId) ≡ t
-          → Stepwise (cond (t && true) (together i b ∷ bs) (alone i ∷ (b ∷ bs)))
-      go true e = s
-      go false e =
-          let first : i .typeId < b .typeId = lower (trichotomy (i .typeId) (b .typeId)) (l .0) (eqb-false (i .typeId) (b .typeId) e) in
-          (p, (first, all-weaker (λ (c : Batch). b .typeId < c .typeId) (λ (c : Batch). i .typeId < c .typeId) (λ c h. omega arith) bs (s .1)), s)
-
-  adjacent-stepwise : (items : List Item) → OfPeer peer items → Climbing items → Stepwise (adjacent items)
-  adjacent-stepwise [] ps c = tt
-  adjacent-stepwise (i ∷ items) ps c =
-      joined-stepwise i (adjacent items) (ps .0) (adjacent-above (i .typeId) items (c .0)) (adjacent-stepwise items (ps .1) (c .1))
-
-  pub batches-stepwise : (items : List Item) → OfPeer peer items → Stepwise (batchesOf items)
-  unfolding batchesOf
-  batches-stepwise items ps =
-      adjacent-stepwise (sorted itemBelow items) (all-sorted itemBelow (λ (i : Item). i .peer ≡ peer) items ps) (sorted-climbs items ps)
+batch-ids : (peer typeId : ℕ) (items : List Item) → OfPeer peer items → inBatches typeId (batchesOf items) ≡ ofType typeId items
+unfolding batchesOf
+batch-ids peer typeId items ps =
+    adjacent-ids typeId (sorted itemBelow items)
+    ∙ rw (
+      kept-of peer typeId (sorted itemBelow items) (all-sorted itemBelow (λ (i : Item). i .peer ≡ peer) items ps),
+      kept-sorted itemBelow (isOf peer typeId) (of-alike peer typeId) items,
+      kept-of peer typeId items ps,
+    )
 
 -- ---- what is asked for under a type
-
-all-requested : (P : Requested → Type 0) (typeId peer : ℕ) → ((id : Id) → P (requested typeId peer id))
-    → (ids : List Id) → All P (map (requested typeId peer) ids)
-all-requested P typeId peer each [] = tt
-all-requested P typeId peer each (id ∷ ids) = (each id, all-requested P typeId peer each ids)
 
 under-append : (typeId : ℕ) (xs ys : List Requested) → under typeId (xs ++ ys) ≡ under typeId xs ++ under typeId ys
 under-append typeId [] ys = refl
@@ -271,10 +155,6 @@ marked-pending clock typeId peer id (x ∷ ids) pending =
 
 -- ---- batches asked for in turn
 
--- all that acts ask for
-abbrev pub askedBy : Bool → ℕ → List Act → List Request → List Requested
-askedBy gate clock acts pending = requestedBySendings (performAll gate clock acts pending .sendings)
-
 -- it was asked for under a lower type
 abbrev pub AskedLower : List Requested → ℕ → Id → Type 0
 AskedLower asked typeId id = (lower : ℕ) × (lower < typeId) × Among id (under lower asked)
@@ -293,12 +173,12 @@ pub record ByType (peer : ℕ) (pairs : List Pair) (items : List Item) (pending 
   pub onePeer : All (λ (q : Requested). q .peer ≡ peer) asked
 
 -- each batch to its own peer, which is this one
-pub own-peers : (peer : ℕ) (pairs : List Pair) (bs : List Batch) → Stepwise peer bs
+pub own-peers : (peer : ℕ) (pairs : List Pair) (bs : List Batch) → All (λ (b : Batch). b .peer ≡ peer) bs
     → map (λ (b : Batch). ask (b .typeId) (b .peer) pairs (b .ids)) bs ≡ asks peer pairs bs
-own-peers peer pairs [] s = refl
-own-peers peer pairs (b ∷ bs) s =
-    ap (λ (p : ℕ). ask (b .typeId) p pairs (b .ids) ∷ map (λ (c : Batch). ask (c .typeId) (c .peer) pairs (c .ids)) bs) (s .0)
-    ∙ ap (λ (l : List Act). ask (b .typeId) peer pairs (b .ids) ∷ l) (own-peers peer pairs bs (s .2))
+own-peers peer pairs [] ps = refl
+own-peers peer pairs (b ∷ bs) ps =
+    ap (λ (p : ℕ). ask (b .typeId) p pairs (b .ids) ∷ map (λ (c : Batch). ask (c .typeId) (c .peer) pairs (c .ids)) bs) (ps .0)
+    ∙ ap (λ (l : List Act). ask (b .typeId) peer pairs (b .ids) ∷ l) (own-peers peer pairs bs (ps .1))
 
 module _ (clock peer : ℕ) (pairs : List Pair) where
   -- rule 3, batch by batch
@@ -323,7 +203,7 @@ module _ (clock peer : ℕ) (pairs : List Pair) where
       let list : List Id = wanted pending (b .typeId) pairs (b .ids) in
       let later : List Request = markRequested clock (b .typeId) peer list pending in
       all-append (λ (q : Requested). low < q .typeId) (map (requested (b .typeId) peer) list) (outgoing bs later)
-      (all-requested (λ (q : Requested). low < q .typeId) (b .typeId) peer (λ id. h .0) list) (outgoing-above low bs later (h .1))
+      (all-mapped (λ (q : Requested). low < q .typeId) (requested (b .typeId) peer) (λ id. h .0) list) (outgoing-above low bs later (h .1))
 
   one-peer : (bs : List Batch) (pending : List Request) → All (λ (q : Requested). q .peer ≡ peer) (outgoing bs pending)
   one-peer [] pending = tt
@@ -331,22 +211,22 @@ module _ (clock peer : ℕ) (pairs : List Pair) where
       let list : List Id = wanted pending (b .typeId) pairs (b .ids) in
       let later : List Request = markRequested clock (b .typeId) peer list pending in
       all-append (λ (q : Requested). q .peer ≡ peer) (map (requested (b .typeId) peer) list) (outgoing bs later)
-      (all-requested (λ (q : Requested). q .peer ≡ peer) (b .typeId) peer (λ id. refl) list) (one-peer bs later)
+      (all-mapped (λ (q : Requested). q .peer ≡ peer) (requested (b .typeId) peer) (λ id. refl) list) (one-peer bs later)
 
   list-rises : (typeId : ℕ) (ids : List Id) (others : List Requested) → All (λ (q : Requested). typeId ≤ q .typeId) others → TypesRise others
       → All (λ (q : Requested). typeId ≤ q .typeId) (map (requested typeId peer) ids ++ others) × TypesRise (map (requested typeId peer) ids ++ others)
   list-rises typeId [] others h r = (h, r)
   list-rises typeId (id ∷ ids) others h r = let rest = list-rises typeId ids others h r in ((omega arith, rest .0), rest)
 
-  types-rise : (bs : List Batch) (pending : List Request) → Stepwise peer bs → TypesRise (outgoing bs pending)
+  types-rise : (bs : List Batch) (pending : List Request) → Pairwise LowerType bs → TypesRise (outgoing bs pending)
   types-rise [] pending s = tt
   types-rise (b ∷ bs) pending s =
       let list : List Id = wanted pending (b .typeId) pairs (b .ids) in
       let later : List Request = markRequested clock (b .typeId) peer list pending in
       list-rises (b .typeId) list (outgoing bs later)
       (all-weaker (λ (q : Requested). b .typeId < q .typeId) (λ (q : Requested). b .typeId ≤ q .typeId) (λ q h. omega arith)
-      (outgoing bs later) (outgoing-above (b .typeId) bs later (s .1)))
-      (types-rise bs later (s .2)) .1
+      (outgoing bs later) (outgoing-above (b .typeId) bs later (s .0)))
+      (types-rise bs later (s .1)) .1
 
   module _ (b : Batch) (bs : List Batch) (pending : List Request) (above : All (λ (later : Batch). b .typeId < later .typeId) bs) where
     list : List Id
@@ -457,58 +337,20 @@ module _ (clock peer : ℕ) (pairs : List Pair) where
             left-as (Known pairs pending all typeId) (inBatches typeId (b ∷ bs)) [] (under typeId all) []
             (in-others typeId (λ e. lt-irrefl typeId (omega arith)) ∙ batches-above typeId (b .typeId) bs (omega arith) above) (under-lower typeId l) refl
 
-  left-by-type : (bs : List Batch) (pending : List Request) → Stepwise peer bs
+  left-by-type : (bs : List Batch) (pending : List Request) → Pairwise LowerType bs
       → (typeId : ℕ) → LeftOf (Known pairs pending (outgoing bs pending) typeId) (inBatches typeId bs) (under typeId (outgoing bs pending))
   unfolding all others later list
   left-by-type [] pending s typeId = refl
-  left-by-type (b ∷ bs) pending s typeId = left-next b bs pending (s .1) (left-by-type bs (later b bs pending (s .1)) (s .2)) typeId
+  left-by-type (b ∷ bs) pending s typeId = left-next b bs pending (s .0) (left-by-type bs (later b bs pending (s .0)) (s .1)) typeId
 
   pub asked-by-type : (items : List Item) (pending : List Request) → OfPeer peer items
       → ByType peer pairs items pending (askedBy true clock (asks peer pairs (batchesOf items)) pending)
   asked-by-type items pending ps =
       let bs : List Batch = batchesOf items in
-      let s : Stepwise peer bs = batches-stepwise peer items ps in
+      let s : Pairwise LowerType bs = batches-types peer items ps in
       rw (performed-asks bs pending)
       (record {
         requested = λ typeId. rw (← batch-ids peer typeId items ps) (left-by-type bs pending s typeId);
         typesRise = types-rise bs pending s;
         onePeer = one-peer bs pending;
       })
-
--- ---- acts that ask for nothing
-
-abbrev pub Quiet : Act → Type 0
-Quiet (ask typeId peer pairs ids) = ⊥
-Quiet (send (Requests.request typeId peer ids)) = ⊥
-Quiet (send (Requests.announcement peer ids)) = Unit {0}
-Quiet (send (Requests.syncInfo peer)) = Unit {0}
-
-module _ (gate : Bool) (clock : ℕ) where
-  pub quiet-front : (quiet acts : List Act) (pending : List Request) → All Quiet quiet
-      → askedBy gate clock (quiet ++ acts) pending ≡ askedBy gate clock acts pending
-  quiet-front [] acts pending q = refl
-  quiet-front (ask typeId peer pairs ids ∷ quiet) acts pending q = absurd (q .0)
-  quiet-front (send (Requests.request typeId peer ids) ∷ quiet) acts pending q = absurd (q .0)
-  quiet-front (send (Requests.announcement peer ids) ∷ quiet) acts pending q = quiet-front quiet acts pending (q .1)
-  quiet-front (send (Requests.syncInfo peer) ∷ quiet) acts pending q = quiet-front quiet acts pending (q .1)
-
-  quiet-asks : (quiet : List Act) (pending : List Request) → All Quiet quiet → askedBy gate clock quiet pending ≡ []
-  quiet-asks quiet pending q = ap (λ (acts : List Act). askedBy gate clock acts pending) (sym (append-nil quiet)) ∙ quiet-front quiet [] pending q
-
-  pub quiet-back : (acts quiet : List Act) (pending : List Request) → All Quiet quiet
-      → askedBy gate clock (acts ++ quiet) pending ≡ askedBy gate clock acts pending
-  quiet-back [] quiet pending q = quiet-asks quiet pending q
-  quiet-back (act ∷ acts) quiet pending q =
-      let one : Done = perform gate clock act pending in
-      requested-append (one .sendings) (performAll gate clock (acts ++ quiet) (one .pending) .sendings)
-      ∙ ap (λ (l : List Requested). requestedBySendings (one .sendings) ++ l) (quiet-back acts quiet (one .pending) q)
-      ∙ sym (requested-append (one .sendings) (performAll gate clock acts (one .pending) .sendings))
-
--- ---- all that a step asks for, unless it is a check: what its acts ask for, from what it leaves pending
-
-pub asked-by-acts : (st : State) (a : Args) → isCheck (a .step) ≡ false
-    → requestedIn (commands st a) ≡ askedBy (a .gate) (a .clock) (plan st a .acts) (remaining st a (a .step))
-unfolding commands performed retried retrySendings batchesOf
-asked-by-acts st a e =
-    requested-commands 0 (retrySendings (retried st a) ++ performed st a .sendings)
-    ∙ rw e

@@ -1,13 +1,12 @@
 -- What a check leaves of the pending requests, request by request: its retries mark each restarted request with its own target.
 use Prim.Native.Nat.{ℕ}
-use mathlib.Core.Path.{_≡_, refl, sym, ap, _∙_}
-use mathlib.Core.Bool.{Bool, true, false, _||_, false≢true}
+use mathlib.Core.Path.{_≡_, refl, ap, _∙_}
+use mathlib.Core.Bool.{Bool, false}
 use mathlib.Core.List.{List, [], _∷_, map, map-map}
 use lib.Dec.{eqb}
-use Rattle.fields.specs.Facts.{All}
-use Rattle.fields.specs.Order.{before, same}
+use Rattle.fields.specs.Order.{same}
 use Rattle.fields.specs.Filter.{consIf}
-use Rattle.fields.proofs.OrderLaws.{neither, same-eq, same-refl, same-sym, before-irreflexive}
+use Rattle.fields.proofs.OrderLaws.{neither, same-refl, same-sym}
 use Rattle.model.specs.Protocol.{Id, isAmong}
 use Rattle.model.specs.Settings.{Settings}
 use Rattle.model.specs.Delivery
@@ -17,19 +16,7 @@ use Rattle.model.specs.Check.{retryTarget, retryOf, markAllRetried}
 use Rattle.model.proofs.Well.{RisingIds}
 use Rattle.model.proofs.IdLaws.{not-among-kept}
 use Rattle.model.proofs.EnteringLaws.{itemIds}
-
--- ---- ids that are not there
-
-first-once : (id : Id) (ids : List Id) → All (λ (other : Id). before id other ≡ true) ids → isAmong id ids ≡ false
-unfolding isAmong
-first-once id [] h = refl
-first-once id (other ∷ ids) h = go (same id other) refl (first-once id ids (h .1))
-  where
-    go : (t : Bool) → same id other ≡ t → isAmong id ids ≡ false → t || isAmong id ids ≡ false
-    go true e rest =
-        let x : id ≡ other = same-eq id other e in
-        absurd (false≢true (sym (before-irreflexive id) ∙ ap (before id) x ∙ h .0))
-    go false e rest = rest
+use Rattle.model.proofs.Promises.WordLaws.{not-among, not-again}
 
 -- ---- marks on other ids
 
@@ -107,7 +94,7 @@ module _ (settings : Settings) (clock : ℕ) where
     unfolding judged restarted retryOf
     checked-again [] h = refl
     checked-again (r ∷ rs) h =
-        let n : isAmong (r .id) (idsOf rs) ≡ false = first-once (r .id) (idsOf rs) (h .0) in
+        let n : isAmong (r .id) (idsOf rs) ≡ false = not-among (r .id) (idsOf rs) (not-again (r .id) (idsOf rs) (h .0)) in
         go (verdict settings clock r) (not-among-again (r .id) rs n) (not-among-checked (r .id) rs n) (checked-again rs (h .1))
       where
         left : List Request

@@ -10,6 +10,7 @@ use Rattle.fields.specs.Filter.{consIf, kept}
 use Rattle.fields.specs.Sort.{inserted}
 use Rattle.fields.specs.Order.{same}
 use Rattle.fields.proofs.AllLaws.{either}
+use Rattle.fields.proofs.MarkLaws.{kept-same-test}
 use Rattle.model.specs.Protocol.{isAmong}
 use Rattle.model.specs.Settings.{Settings}
 use Rattle.model.specs.Delivery as delivery
@@ -28,12 +29,7 @@ use Rattle.model.specs.Promises.Runs.{checksOf, checksOfEnded}
 use Rattle.model.proofs.FateLaws.{openRequests, isRestart, restarting, restart-verdict}
 use Rattle.model.proofs.StepKindLaws.{fateBy, fate-of-kind}
 
--- ---- lists kept by tests that say the same, or always no
-
-kept-same : {A : Type 0} (f g : A → Bool) → ((x : A) → f x ≡ g x) → (xs : List A) → kept f xs ≡ kept g xs
-kept-same f g e [] = refl
-kept-same f g e (x ∷ xs) = rw (e x, kept-same f g e xs)
-
+-- what always fails keeps nothing
 none-kept : {A : Type 0} (f : A → Bool) → ((x : A) → f x ≡ false) → (xs : List A) → 0 ≡ length (kept f xs)
 none-kept f e [] = refl
 none-kept f e (x ∷ xs) = rw (e x) (none-kept f e xs)
@@ -96,7 +92,7 @@ module _ (settings : Settings) (mode clock outcome : ℕ) (v : Verdict) (test : 
   counts Steps.progress = none-stays
   counts Steps.check =
       ap length
-      (kept-same (λ (r : Request). eqb (verdictNumber (verdict settings clock r)) (verdictNumber v))
+      (kept-same-test (λ (r : Request). eqb (verdictNumber (verdict settings clock r)) (verdictNumber v))
       (λ (r : Request). test (ofVerdict (verdict settings clock r)))
       (λ r. sym (only .checked (verdict settings clock r))) rs)
   counts Steps.scheduledTick = none-stays
@@ -205,7 +201,7 @@ module _ (st : State) (b : Book) (settings : b .settings ≡ st .settings) (pend
       ∙ ap (λ (s : Settings). cond (isCheck (stepOf call)) (length (judged s (call .clock) v rs)) 0) (sym settings)
       ∙ counts (b .settings) (b .mode) (call .clock) outcome v test only rs (stepOf call)
       ∙ ap length
-      (kept-same (λ (r : Request). test (fateBy (b .settings) (b .mode) (call .clock) outcome (stepOf call) r))
+      (kept-same-test (λ (r : Request). test (fateBy (b .settings) (b .mode) (call .clock) outcome (stepOf call) r))
       (λ (r : Request). test (fateOf (b .settings) (b .mode) call outcome r))
       (λ r. ap test (sym (fate-of-kind call (b .settings) (b .mode) outcome r low high))) rs)
 

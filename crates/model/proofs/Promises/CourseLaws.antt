@@ -2,20 +2,20 @@
 use Prim.Native.Nat.{ℕ, _+_, _-_, _≤_, min}
 use mathlib.Core.Path.{_≡_, refl, sym, ap, _∙_, subst}
 use mathlib.Core.Bool.{Bool, true, false, not, cond, _&&_, _||_, false≢true}
-use mathlib.Core.Logic.{_⊎_, inl, inr, ⊎-elim}
+use mathlib.Core.Logic.{_⊎_, inl, inr}
 use mathlib.Core.List.{List, [], _∷_, _++_, map, append-nil, cons≢nil}
 use mathlib.Core.Option.{Option, none, some}
+use native.Mathlib.Nat.{lt-irrefl}
 use native.Mathlib.Omega.{arith}
 use lib.Dec.{eqb, leb, ltb}
 use borrow.Author.Tests.{eqb-true, eqb-false, eq-eqb, ltb-true, lt-ltb, leb-true, le-leb}
-use Rattle.fields.specs.Facts.{All}
 use Rattle.fields.proofs.AllLaws.{either}
 use Rattle.fields.proofs.OrderLaws.{and-left, and-right}
 use Rattle.model.specs.Protocol.{Id, headerType, isAnnounceable, windowSize}
 use Rattle.model.specs.Settings as settings
 use Rattle.model.specs.Settings.{throttled}
 use Rattle.model.specs.Delivery.{Request, orphansOf}
-use Rattle.model.specs.State.{Mode, new, seeking, syncing, synced, ended, isMode, hasSyncPeer, SendClock, Sync, State}
+use Rattle.model.specs.State.{Mode, seeking, syncing, synced, ended, isMode, hasSyncPeer, SendClock, Sync, State}
 use Rattle.model.specs.State.{withDownloaded, withKnownTip, withEvicted}
 use Rattle.model.specs.Peers.{firstOf, orElse, firstUnstalled, selectPeer, resetSends, isSome}
 use Rattle.model.specs.Requests.{Sending, announcement, Command, Act, ask, send, syncInfoTo}
@@ -32,63 +32,45 @@ use Rattle.model.specs.Lists.{idsIn, peersIn}
 use Rattle.model.specs.Calls.{Call, Answer, argsOf, stepOf, stepAnswer}
 use Rattle.model.specs.Promises.Numbers as numbers
 use Rattle.model.specs.Promises.Words.{Seen, First}
+use Rattle.model.specs.Promises.Outcomes.{Heard}
 use Rattle.model.specs.Promises.SyncInfos.{Announces, continuationIds}
-use Rattle.model.proofs.Promises.SeenLaws.{Finished, seenAs, Kind, kind-of, mode-of}
+use Rattle.model.proofs.Promises.SeenLaws.{Finished, seenAs, syncInfoOf, Kind, apart, heardTip, Hears, is-heard, kind-of, mode-of}
 use Rattle.model.proofs.Promises.SeenLaws as kinds
+use Rattle.model.proofs.Promises.ListLaws.{all-mapped, pairwise-map}
+use Rattle.model.proofs.Promises.ModeLaws.{mode-is, mode-is-not, is-synced, no-peer}
 use Rattle.model.proofs.Promises.WordLaws.{listed-first, first-listed}
-use Rattle.model.proofs.Promises.PartLaws.{IsAsk, all-mapped, ActParts, Parts, only-asks, commands-parts}
-
--- A number is one only.
-pub apart : {n a b : ℕ} → n ≡ a → n ≡ b → eqb a b ≡ false → ⊥
-apart {n} {a} {b} e f d = eqb-false a b d (sym e ∙ f)
-
--- ---- modes
-
-pub is-syncing : (m : Mode) → isMode m syncing ≡ true → m ≡ syncing
-is-syncing new e = absurd (false≢true e)
-is-syncing seeking e = absurd (false≢true e)
-is-syncing syncing e = refl
-is-syncing synced e = absurd (false≢true e)
-is-syncing ended e = absurd (false≢true e)
-
-pub not-syncing : (m : Mode) → isMode m syncing ≡ false → m ≡ syncing → ⊥
-not-syncing m e s = false≢true (sym e ∙ ap (λ (m : Mode). isMode m syncing) s)
-
-pub no-peer : (m : Mode) → hasSyncPeer m ≡ false → (m ≡ syncing) ⊎ (m ≡ synced) → ⊥
-no-peer m e h =
-    let with : (m ≡ syncing) ⊎ (m ≡ synced) → hasSyncPeer m ≡ true = ⊎-elim (ap hasSyncPeer) (ap hasSyncPeer) in
-    false≢true (sym e ∙ with h)
-
-pub is-synced : (m : Mode) → hasSyncPeer m ≡ true → isMode m syncing ≡ false → m ≡ synced
-is-synced new h e = absurd (false≢true h)
-is-synced seeking h e = absurd (false≢true h)
-is-synced syncing h e = absurd (false≢true (sym e))
-is-synced synced h e = refl
-is-synced ended h e = absurd (false≢true h)
+use Rattle.model.proofs.Promises.ItemLaws.{BatchBelow, batches-rise, below-differ, LowerType, batches-types}
+use Rattle.model.proofs.Promises.PartLaws.{IsAsk, Differs, AsksApart, no-asks, one-ask, ActParts, Parts, only-asks, commands-parts}
 
 -- ---- what only asks
 
 module _ (st : State) (a : Args) where
-  sections-ask : (height : ℕ) → All IsAsk (sectionsFrom st a height .acts)
+  sections-ask : (height : ℕ) → AsksApart (sectionsFrom st a height .acts)
   unfolding sectionsFrom requestNextSections requestSectionsFrom
   sections-ask height = go (firstOf (a .peers))
     where
-      go : (peer : Option ℕ) → All IsAsk (requestSectionsFrom (a .view) (a .chainHeight) height peer .acts)
-      go none = tt
+      go : (peer : Option ℕ) → AsksApart (requestSectionsFrom (a .view) (a .chainHeight) height peer .acts)
+      go none = no-asks
       go (some peer) =
-          all-mapped IsAsk (λ (b : Batch). ask (b .typeId) (b .peer) [] (b .ids)) (λ b. tt)
-          (batchesOf (windowWithin (min (height + windowSize) (a .chainHeight) - height) (a .view) peer height .items))
+          let items : List Item = windowWithin (min (height + windowSize) (a .chainHeight) - height) (a .view) peer height .items in
+          let asks : Batch → Act = λ (b : Batch). ask (b .typeId) (b .peer) [] (b .ids) in
+          (all-mapped IsAsk asks (λ b. tt) (batchesOf items), pairwise-map asks BatchBelow Differs below-differ (batchesOf items) (batches-rise items))
 
-  orphans-ask : (lost : ℕ) (peer : Option ℕ) → All IsAsk (askOrphans st a lost peer)
+  orphans-ask : (lost : ℕ) (peer : Option ℕ) → AsksApart (askOrphans st a lost peer)
   unfolding askOrphans
-  orphans-ask lost none = tt
+  orphans-ask lost none = no-asks
   orphans-ask lost (some peer) =
-      all-mapped IsAsk (λ (b : Batch). ask (b .typeId) peer (a .stored) (b .ids)) (λ b. tt)
-      (batchesOf (map (λ (r : Request). record { id = r .id; typeId = r .typeId; peer = peer }) (orphansOf lost (st .pending))))
+      let orphan : Request → Item = λ (r : Request). record { id = r .id; typeId = r .typeId; peer = peer } in
+      let items : List Item = map orphan (orphansOf lost (st .pending)) in
+      let asks : Batch → Act = λ (b : Batch). ask (b .typeId) peer (a .stored) (b .ids) in (
+        all-mapped IsAsk asks (λ b. tt) (batchesOf items),
+        pairwise-map asks LowerType Differs (λ b c l t p. lt-irrefl (b .typeId) (omega arith)) (batchesOf items)
+            (batches-types peer items (all-mapped (λ (i : Item). i .peer ≡ peer) orphan (λ r. refl) (orphansOf lost (st .pending)))),
+      )
 
-  fresh-ask : (peer : Option ℕ) → All IsAsk (askFresh peer (a .stored) (st .sync .evicted))
-  fresh-ask none = tt
-  fresh-ask (some peer) = (tt, tt)
+  fresh-ask : (peer : Option ℕ) → AsksApart (askFresh peer (a .stored) (st .sync .evicted))
+  fresh-ask none = no-asks
+  fresh-ask (some peer) = one-ask headerType peer (a .stored) (st .sync .evicted)
 
 -- ---- a finished call, by its plan and its commands
 
@@ -121,7 +103,7 @@ seen-by st call = refl
 
 -- ---- kinds that neither rule 1 nor rule 2 speaks of
 
-abbrev pub isPlain : ℕ → Bool
+abbrev isPlain : ℕ → Bool
 isPlain kind = not (eqb kind numbers.pick || (eqb kind numbers.syncInfo || (eqb kind numbers.progress || eqb kind numbers.scheduledTick)))
 
 plain-not : (kind other : ℕ) → isPlain kind ≡ true → isPlain other ≡ false → kind ≡ other → ⊥
@@ -200,12 +182,12 @@ module _ (st : State) (call : Call) where
 
   says : (announced : List Sending) (clock : ℕ) (c : SendClock) (peer : ℕ)
       → ActParts announced (saidTo (throttled (st .settings) clock (c .lastSend)) peer) (map send announced ++ syncInfoTo (st .settings) clock c peer)
-  says announced clock c peer = record { asks = []; parts = ap (λ (acts : List Act). map send announced ++ acts) (say-sends clock c peer); areAsks = tt }
+  says announced clock c peer = record { asks = []; parts = ap (λ (acts : List Act). map send announced ++ acts) (say-sends clock c peer); areAsks = no-asks }
 
   pub course-acts : {announced said : List Sending} {p : Plan} → Course announced said p → ActParts announced said (p .acts)
   unfolding argsOf picks entersSyncing resetSends answers ticksSyncing ticksSynced progresses sayTo unmarked
   course-acts (passes q) = q .acts
-  course-acts (nobody k e) = only-asks [] tt
+  course-acts (nobody k e) = only-asks [] no-asks
   course-acts (chooses peer k e) = says [] (call .clock) (resetSends (st .sync .sendClock)) peer
   course-acts (ahead announced tip k) = says announced (call .clock) (st .sync .sendClock) (call .peer)
   course-acts (replies announced tip k) = says announced (call .clock) (st .sync .sendClock) (call .peer)
@@ -242,15 +224,15 @@ module _ (st : State) (call : Call) where
   abbrev tracked : Sync → Sync
   tracked s = withEvicted (withKnownTip (withDownloaded s 0) 0) []
 
-  goes-on : (p : Plan) → Silent p → All IsAsk (p .acts) → outcomeNumber (p .outcome) ≡ numbers.saysContinue
+  goes-on : (p : Plan) → Silent p → AsksApart (p .acts) → outcomeNumber (p .outcome) ≡ numbers.saysContinue
       → tracked (p .sync) ≡ tracked (unmarked st (argsOf call)) → Course [] [] p
   unfolding unmarked
   goes-on p silent w o e =
       passes (record {
         silent = silent;
         acts = only-asks (p .acts) w;
-        notBehind = λ b. eqb-false 0 2 refl (sym o ∙ b);
-        notStalled = λ b. eqb-false 0 4 refl (sym o ∙ b);
+        notBehind = λ b. apart o b refl;
+        notStalled = λ b. apart o b refl;
         syncPeer = λ m. ap (λ (s : Sync). s .syncPeer) e;
         lastProgress = ap (λ (s : Sync). s .lastProgress) e;
         sendClock = ap (λ (s : Sync). s .sendClock) e;
@@ -259,7 +241,7 @@ module _ (st : State) (call : Call) where
         entrySent = ap (λ (s : Sync). s .entrySent) e;
       })
 
-  is-left : (outcome : Outcome) (mode : Mode) (acts : List Act) → Silent (leaves st (argsOf call) outcome mode acts) → All IsAsk acts
+  is-left : (outcome : Outcome) (mode : Mode) (acts : List Act) → Silent (leaves st (argsOf call) outcome mode acts) → AsksApart acts
       → eqb (outcomeNumber outcome) numbers.saysBehindPeer ≡ false → eqb (outcomeNumber outcome) numbers.saysStalled ≡ false
       → hasSyncPeer mode ≡ false → Course [] [] (leaves st (argsOf call) outcome mode acts)
   unfolding leaves withoutPeer
@@ -290,7 +272,7 @@ module _ (st : State) (call : Call) where
         lastProgress = refl;
         sendClock = refl;
         stalledPeers = refl;
-        used = λ m. absurd (not-syncing synced refl m);
+        used = λ m. absurd (mode-is-not synced syncing refl m);
         entrySent = refl;
       })
     where
@@ -300,7 +282,7 @@ module _ (st : State) (call : Call) where
       go true =
           let asks : List Act = sectionsFrom st (argsOf call) (st .sync .downloaded) .acts in
           record { asks = asks; parts = rw (append-nil asks); areAsks = sections-ask st (argsOf call) (st .sync .downloaded) }
-      go false = record { asks = []; parts = refl; areAsks = tt }
+      go false = record { asks = []; parts = refl; areAsks = no-asks }
 
 -- ---- announcements
 
@@ -323,56 +305,44 @@ continuation-sends parsed ours tip peer ids = go (parsed && (ltb 0 ours && notAb
     go true (id ∷ ids) = refl
     go false ids = refl
 
--- the tip that is read
-abbrev knownOf : Bool → Bool → ℕ → Option ℕ
-knownOf parsed named tip = cond parsed (cond named (some tip) none) none
-
-above-none : (ours tip : ℕ) (parsed named : Bool) → notAbove ours (knownOf parsed named tip) ≡ true → parsed ≡ true → named ≡ true → tip ≤ ours
-above-none ours tip true true e p n = leb-true tip ours e
-above-none ours tip true false e p n = absurd (false≢true n)
-above-none ours tip false named e p n = absurd (false≢true p)
-
-none-above : (ours tip : ℕ) (parsed named : Bool) → (parsed ≡ true → named ≡ true → tip ≤ ours) → notAbove ours (knownOf parsed named tip) ≡ true
-none-above ours tip true true h = le-leb tip ours (h refl refl)
-none-above ours tip true false h = refl
-none-above ours tip false named h = refl
-
 module _ (s : Seen) where
+  -- no tip that was heard is above our height
+  abbrev NoneAbove : Type 0
+  NoneAbove = (tip : ℕ) → Heard s tip → tip ≤ s .call .height
+
+  none-above : s .call .kind ≡ numbers.syncInfo → notAbove (s .call .height) (heardTip (s .call)) ≡ true → NoneAbove
+  none-above k e = go (heardTip (s .call)) (is-heard s k) e
+    where
+      go : (heard : Option ℕ) → Hears s heard → notAbove (s .call .height) heard ≡ true → NoneAbove
+      go heard (kinds.aTip h) e tip g = let l = leb-true (s .call .tip) (s .call .height) e in let n = g .names in omega (arith, l, n)
+      go heard (kinds.noTip n) e tip g = absurd (n tip g)
+
+  above-none : s .call .kind ≡ numbers.syncInfo → NoneAbove → notAbove (s .call .height) (heardTip (s .call)) ≡ true
+  above-none k h = go (heardTip (s .call)) (is-heard s k)
+    where
+      go : (heard : Option ℕ) → Hears s heard → notAbove (s .call .height) heard ≡ true
+      go heard (kinds.aTip g) = le-leb (s .call .tip) (s .call .height) (h (s .call .tip) g)
+      go heard (kinds.noTip n) = refl
+
   abbrev isOpen : Bool
-  isOpen =
-      eqb (s .call .parsed) 1
-      && (ltb 0 (s .call .height) && notAbove (s .call .height) (knownOf (eqb (s .call .parsed) 1) (eqb (s .call .hastip) 1) (s .call .tip)))
+  isOpen = eqb (s .call .parsed) 1 && (ltb 0 (s .call .height) && notAbove (s .call .height) (heardTip (s .call)))
 
   open-announces : isOpen ≡ true → s .call .kind ≡ numbers.syncInfo → (continuationIds s ≡ [] → ⊥) → Announces s
   open-announces e k listed =
       let parsed = eqb (s .call .parsed) 1 in
-      let named = eqb (s .call .hastip) 1 in
       let low = ltb 0 (s .call .height) in
-      let none = notAbove (s .call .height) (knownOf parsed named (s .call .tip)) in
+      let none = notAbove (s .call .height) (heardTip (s .call)) in
       record {
         kind = k;
         parsed = eqb-true (s .call .parsed) 1 (and-left parsed (low && none) e);
         ours = ltb-true 0 (s .call .height) (and-left low none (and-right parsed (low && none) e));
-        noneAbove =
-            λ tip h.
-            let l : s .call .tip ≤ s .call .height =
-            above-none (s .call .height) (s .call .tip) parsed named (and-right low none (and-right parsed (low && none) e))
-            (eq-eqb (s .call .parsed) 1 (h .parsed)) (eq-eqb (s .call .hastip) 1 (h .named)) in
-            let n = h .names in
-            omega (arith, l, n);
+        noneAbove = none-above k (and-right low none (and-right parsed (low && none) e));
         any = listed;
       }
 
   announces-open : Announces s → isOpen ≡ true
   announces-open n =
-      let parsed = eqb (s .call .parsed) 1 in
-      let named = eqb (s .call .hastip) 1 in
-      let p : eqb (s .call .parsed) 1 ≡ true = eq-eqb (s .call .parsed) 1 (n .parsed) in
-      let l : ltb 0 (s .call .height) ≡ true = lt-ltb 0 (s .call .height) (n .ours) in
-      let t : notAbove (s .call .height) (knownOf parsed named (s .call .tip)) ≡ true =
-      none-above (s .call .height) (s .call .tip) parsed named
-      (λ e f. n .noneAbove (s .call .tip) (record { kind = n .kind; parsed = n .parsed; named = eqb-true (s .call .hastip) 1 f; names = refl })) in
-      both p (both l t)
+      both (eq-eqb (s .call .parsed) 1 (n .parsed)) (both (lt-ltb 0 (s .call .height) (n .ours)) (above-none (n .kind) (n .noneAbove)))
     where
       both : {a b : Bool} → a ≡ true → b ≡ true → a && b ≡ true
       both p q = rw (p, q)
@@ -451,14 +421,14 @@ module _ (st : State) (call : Call) where
   progress-says k = go (isMode (st .mode) syncing) refl (st .sync .progressUsed) refl
     where
       go : (t : Bool) → isMode (st .mode) syncing ≡ t → (used : Bool) → st .sync .progressUsed ≡ used → Says (progresses st (argsOf call) t)
-      go true m true u = ([], worksAgain k (is-syncing (st .mode) m) u)
-      go true m false u = (saidTo (isQuiet st call) (st .sync .syncPeer), worksFirst k (is-syncing (st .mode) m) u)
+      go true m true u = ([], worksAgain k (mode-is (st .mode) syncing m) u)
+      go true m false u = (saidTo (isQuiet st call) (st .sync .syncPeer), worksFirst k (mode-is (st .mode) syncing m) u)
       go false m used u =
           let silent : Silent st call (progresses st (argsOf call) false) =
           record {
             notPick = λ e. apart k e refl;
             notReply = λ e o. apart k e refl;
-            notProgress = λ e s. not-syncing (st .mode) m s;
+            notProgress = λ e s. mode-is-not (st .mode) syncing m s;
             notTick = λ e s. apart k e refl;
             nobody = λ peer e l. apart k e refl;
             usedTick = λ e. absurd (apart k e refl);
@@ -472,19 +442,19 @@ module _ (st : State) (call : Call) where
     where
       go : (t : Bool) → isMode (st .mode) syncing ≡ t → (late : Bool) (first : Option ℕ) → firstOf (peersIn (call .peers)) ≡ first
           → Says (cond t (ticksSyncing st (argsOf call) late) (ticksSynced st (argsOf call) first))
-      go true m true first l = (saidTo (isQuiet st call) (st .sync .syncPeer), stalls k (is-syncing (st .mode) m))
-      go true m false first l = (saidTo (isQuiet st call) (st .sync .syncPeer), ticks k (is-syncing (st .mode) m))
+      go true m true first l = (saidTo (isQuiet st call) (st .sync .syncPeer), stalls k (mode-is (st .mode) syncing m))
+      go true m false first l = (saidTo (isQuiet st call) (st .sync .syncPeer), ticks k (mode-is (st .mode) syncing m))
       go false m late none l =
           let silent : Silent st call (ticksSynced st (argsOf call) none) =
           record {
             notPick = λ e. apart k e refl;
             notReply = λ e o. apart k e refl;
             notProgress = λ e s. apart k e refl;
-            notTick = λ e s. not-syncing (st .mode) m s;
+            notTick = λ e s. mode-is-not (st .mode) syncing m s;
             nobody = λ peer e f. false≢true (ap isSome (sym l ∙ first-listed peer (peersIn (call .peers)) f));
             usedTick = λ e. refl;
           } in
-          ([], is-left st call SyncPeerGone seeking [] silent tt refl refl refl)
+          ([], is-left st call SyncPeerGone seeking [] silent no-asks refl refl refl)
       go false m late (some peer) l =
           (saidTo (isQuiet st call) peer, visits peer k (is-synced (st .mode) h m) (listed-first peer (peersIn (call .peers)) l))
 
@@ -508,13 +478,10 @@ module _ (st : State) (call : Call) where
   answers-says announced tip Stalled t k = absurd t
   answers-says announced tip EndOfStream t k = absurd t
 
-  abbrev syncInfoStep : Step
-  syncInfoStep = Steps.syncInfo (call .peer) (eqb (call .parsed) 1) (cond (eqb (call .hastip) 1) (some (call .tip)) none) (idsIn (call .continuation))
-
-  hears : call .kind ≡ numbers.syncInfo → Told syncInfoStep
+  hears : call .kind ≡ numbers.syncInfo → Told (syncInfoOf call)
   unfolding planOf hearsSyncInfo argsOf
   hears k =
-      let known : Option ℕ = knownOf (eqb (call .parsed) 1) (eqb (call .hastip) 1) (call .tip) in
+      let known : Option ℕ = heardTip call in
       let isOpen : Bool = eqb (call .parsed) 1 && (ltb 0 (call .height) && notAbove (call .height) known) in
       let announced : List Sending = cond isOpen (announcedTo (call .peer) (idsIn (call .continuation))) [] in
       let tip : ℕ = raisedTip (st .sync .knownTip) known in
@@ -535,11 +502,12 @@ module _ (st : State) (call : Call) where
   hears-announced peer typeId [] k =
       either (Course st call [] []) (eqb typeId headerType) (isAtTip st (argsOf call) [] (st .sync .knownTip)) (continues st (argsOf call) [])
       (is-at-tip st call [] (st .sync .knownTip) (plain-silent st call (isAtTip st (argsOf call) [] (st .sync .knownTip)) k))
-      (goes-on st call (continues st (argsOf call) []) (plain-silent st call (continues st (argsOf call) []) k) tt refl refl)
+      (goes-on st call (continues st (argsOf call) []) (plain-silent st call (continues st (argsOf call) []) k) no-asks refl refl)
   hears-announced peer typeId (id ∷ ids) k =
       let asks : List Act = cond (isAnnounceable typeId) (ask typeId peer (argsOf call .stored) (id ∷ ids) ∷ []) [] in
       goes-on st call (continues st (argsOf call) asks) (plain-silent st call (continues st (argsOf call) asks) k)
-      (either (All IsAsk) (isAnnounceable typeId) (ask typeId peer (argsOf call .stored) (id ∷ ids) ∷ []) [] (tt, tt) tt) refl refl
+      (either AsksApart (isAnnounceable typeId) (ask typeId peer (argsOf call .stored) (id ∷ ids) ∷ []) []
+      (one-ask typeId peer (argsOf call .stored) (id ∷ ids)) no-asks) refl refl
 
   loses-peer : (peer : ℕ) → isPlain (call .kind) ≡ true → Course st call [] [] (loses st (argsOf call) peer)
   unfolding loses continues
@@ -548,8 +516,8 @@ module _ (st : State) (call : Call) where
       let asks : List Act = cond (isMode (st .mode) syncing) orphans [] in
       either (Course st call [] []) (eqb peer (st .sync .syncPeer)) (leaves st (argsOf call) SyncPeerGone seeking asks) (continues st (argsOf call) [])
       (is-left st call SyncPeerGone seeking asks (plain-silent st call (leaves st (argsOf call) SyncPeerGone seeking asks) k)
-      (either (All IsAsk) (isMode (st .mode) syncing) orphans [] (orphans-ask st (argsOf call) peer (firstOf (argsOf call .peers))) tt) refl refl refl)
-      (goes-on st call (continues st (argsOf call) []) (plain-silent st call (continues st (argsOf call) []) k) tt refl refl)
+      (either AsksApart (isMode (st .mode) syncing) orphans [] (orphans-ask st (argsOf call) peer (firstOf (argsOf call .peers))) no-asks) refl refl refl)
+      (goes-on st call (continues st (argsOf call) []) (plain-silent st call (continues st (argsOf call) []) k) no-asks refl refl)
 
   requests-next : (height : ℕ) → Silent st call (advancesAndRequests st (argsOf call) height)
       → Course st call [] [] (advancesAndRequests st (argsOf call) height)
@@ -559,34 +527,38 @@ module _ (st : State) (call : Call) where
 
   told-of : (step : Step) → Kind call step → ofMode (st .mode) (st .sync .entrySent) step ≡ true → Told step
   unfolding planOf ofMode argsOf continues advances checks evicts unmarked
-  told-of Steps.start (kinds.start k) m = plain Steps.start 1 refl k (λ s. goes-on st call (advances st (argsOf call) seeking) s tt refl refl)
+  told-of Steps.start (kinds.start k) m = plain Steps.start numbers.start refl k (λ s. goes-on st call (advances st (argsOf call) seeking) s no-asks refl refl)
   told-of Steps.pick (kinds.pick k) m = untold Steps.pick (λ e. apart k e refl) (picks-says k)
   told-of Steps.progress (kinds.progress k) m = untold Steps.progress (λ e. apart k e refl) (progress-says k)
   told-of Steps.check (kinds.check k) m =
-      plain Steps.check 12 refl k
+      plain Steps.check numbers.check refl k
       (λ s. goes-on st call (checks st (argsOf call) (isMode (st .mode) syncing)) s (fresh-ask st (argsOf call) (firstOf (argsOf call .peers))) refl refl)
   told-of Steps.scheduledTick (kinds.scheduledTick k) m =
       untold Steps.scheduledTick (λ e. apart k e refl) (ticks-says k m (settings.stalled (st .settings) (call .clock) (st .sync .lastProgress)))
   told-of Steps.sectionTick (kinds.sectionTick k) m =
-      plain Steps.sectionTick 14 refl k (requests-next (st .sync .downloaded))
-  told-of Steps.sendFailure (kinds.sendFailure k) m = plain Steps.sendFailure 15 refl k (λ s. is-left st call SyncPeerGone seeking [] s tt refl refl refl)
+      plain Steps.sectionTick numbers.sectionTick refl k (requests-next (st .sync .downloaded))
+  told-of Steps.sendFailure (kinds.sendFailure k) m =
+      plain Steps.sendFailure numbers.sendFailure refl k (λ s. is-left st call SyncPeerGone seeking [] s no-asks refl refl refl)
   told-of Steps.endOfStream (kinds.endOfStream k) m =
-      plain Steps.endOfStream 16 refl k
-      (λ s. is-left st call EndOfStream (cond (isMode (st .mode) seeking) ended seeking) [] s tt refl refl
+      plain Steps.endOfStream numbers.endOfStream refl k
+      (λ s. is-left st call EndOfStream (cond (isMode (st .mode) seeking) ended seeking) [] s no-asks refl refl
       (either (λ (mode : Mode). hasSyncPeer mode ≡ false) (isMode (st .mode) seeking) ended seeking refl refl))
-  told-of Steps.otherMessage (kinds.otherMessage k) m = plain Steps.otherMessage 7 refl k (λ s. goes-on st call (continues st (argsOf call) []) s tt refl refl)
+  told-of Steps.otherMessage (kinds.otherMessage k) m =
+      plain Steps.otherMessage numbers.otherMessage refl k (λ s. goes-on st call (continues st (argsOf call) []) s no-asks refl refl)
   told-of (Steps.neededModifier typeId ids) (kinds.neededModifier k) m =
-      plain (Steps.neededModifier typeId ids) 3 refl k
-      (λ s. goes-on st call (continues st (argsOf call) (ask typeId (st .sync .syncPeer) (argsOf call .stored) ids ∷ [])) s (tt, tt) refl refl)
+      plain (Steps.neededModifier typeId ids) numbers.neededModifier refl k
+      (λ s. goes-on st call (continues st (argsOf call) (ask typeId (st .sync .syncPeer) (argsOf call .stored) ids ∷ [])) s
+      (one-ask typeId (st .sync .syncPeer) (argsOf call .stored) ids) refl refl)
   told-of (Steps.reorg fork) (kinds.reorg k) m =
-      plain (Steps.reorg fork) 4 refl k (requests-next (min (st .sync .downloaded) fork))
+      plain (Steps.reorg fork) numbers.reorg refl k (requests-next (min (st .sync .downloaded) fork))
   told-of (Steps.announced peer typeId ids) (kinds.announcedIds k) m =
-      plain (Steps.announced peer typeId ids) 5 refl k (λ s. hears-announced peer typeId ids (ap isPlain k))
+      plain (Steps.announced peer typeId ids) numbers.announcedIds refl k (λ s. hears-announced peer typeId ids (ap isPlain k))
   told-of (Steps.syncInfo peer parsed tip ids) (kinds.syncInfo k) m = hears k
-  told-of (Steps.lostPeer peer) (kinds.lostPeer k) m = plain (Steps.lostPeer peer) 8 refl k (λ s. loses-peer peer (ap isPlain k))
+  told-of (Steps.lostPeer peer) (kinds.lostPeer k) m = plain (Steps.lostPeer peer) numbers.lostPeer refl k (λ s. loses-peer peer (ap isPlain k))
   told-of (Steps.received ids) (kinds.receivedIds k) m =
-      plain (Steps.received ids) 9 refl k (λ s. goes-on st call (advances st (argsOf call) (st .mode)) s tt refl refl)
-  told-of (Steps.evicted ids) (kinds.evictedIds k) m = plain (Steps.evicted ids) 10 refl k (λ s. goes-on st call (evicts st (argsOf call) ids) s tt refl refl)
+      plain (Steps.received ids) numbers.receivedIds refl k (λ s. goes-on st call (advances st (argsOf call) (st .mode)) s no-asks refl refl)
+  told-of (Steps.evicted ids) (kinds.evictedIds k) m =
+      plain (Steps.evicted ids) numbers.evictedIds refl k (λ s. goes-on st call (evicts st (argsOf call) ids) s no-asks refl refl)
 
   retries-none : (announced : List Sending) (t : Bool) (items : List Item) → (t ≡ false) ⊎ (announced ≡ [])
       → (retrySendings (cond t items []) ≡ []) ⊎ (announced ≡ [])

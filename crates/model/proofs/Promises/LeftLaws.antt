@@ -1,25 +1,28 @@
 -- What a step leaves of the pending requests before it asks for any: each is taken out, or stays and becomes what is promised.
 use Prim.Native.Nat.{ℕ, _≤_}
-use mathlib.Core.Path.{_≡_, refl, sym, ap, _∙_, subst}
-use mathlib.Core.Bool.{Bool, true, false, not, _||_}
+use mathlib.Core.Path.{_≡_, refl, sym, ap, subst}
+use mathlib.Core.Bool.{Bool, true, false, _||_}
 use mathlib.Core.Logic.{_⊎_, inl, inr, ⊎-elim}
-use mathlib.Core.List.{List, [], _∷_}
+use mathlib.Core.List.{List, [], _∷_, map}
 use native.Mathlib.Omega.{arith}
 use lib.Dec.{eqb}
-use borrow.Author.Tests.{eqb-false}
 use Rattle.fields.specs.Facts.{All}
 use Rattle.fields.specs.Filter.{consIf, kept}
 use Rattle.fields.proofs.OrderLaws.{not-both}
 use Rattle.model.specs.Delivery
-use Rattle.model.specs.Delivery.{Request, Verdict, verdict, restarted}
-use Rattle.model.specs.State.{syncing}
-use Rattle.model.specs.Promises.Numbers
+use Rattle.model.specs.Delivery.{Request, Verdict, verdict, restarted, checkTimeouts, judged}
+use Rattle.model.specs.State.{State, syncing}
+use Rattle.model.specs.Check.{retryTarget, retryOf, markAllRetried}
+use Rattle.model.specs.Lists.{peersIn}
+use Rattle.model.specs.Calls.{Call}
+use Rattle.model.specs.Promises.Numbers as numbers
 use Rattle.model.specs.Promises.Words.{Seen, ids, Among}
 use Rattle.model.specs.Promises.Pending as pending
 use Rattle.model.specs.Promises.Pending.{Retried, TakenOut, Becomes, restartedAt}
-use Rattle.model.proofs.Promises.DecidedLaws.{Decides}
-use Rattle.model.proofs.Promises.VerdictLaws.{Made, made, waiting-stays, retried-stays}
-use Rattle.model.proofs.Promises.CheckedLaws.{leaves, checked}
+use Rattle.model.proofs.Promises.SeenLaws.{apart, seenAs, Finished}
+use Rattle.model.proofs.Promises.TellsLaws.{Tells}
+use Rattle.model.proofs.Promises.VerdictLaws.{goes-to, Made, made, waiting-stays, retried-stays, stamps-past}
+use Rattle.model.proofs.Promises.CheckedLaws.{leaves, checked, checked-still, checked-again}
 
 module _ (s : Seen) where
   pub data Left : List Request → List Request → Type 0 where
@@ -53,15 +56,13 @@ module _ (s : Seen) where
     left-all n [] = nothing
     left-all n (r ∷ rs) = on r r rs rs (n r) (pending.asItWas (other r)) (left-all n rs)
 
-    pub left-kept : (taken : Request → Bool) → ((r : Request) → Decides (taken r) (TakenOut s r)) → (rs : List Request)
-        → Left rs (kept (λ (r : Request). not (taken r)) rs)
-    left-kept taken d [] = nothing
-    left-kept taken d (r ∷ rs) = go (taken r) (d r) (left-kept taken d rs)
+    pub left-tested : (stays : Request → Bool) → ((r : Request) → Tells (stays r) (TakenOut s r)) → (rs : List Request) → Left rs (kept stays rs)
+    left-tested stays t [] = nothing
+    left-tested stays t (r ∷ rs) = go (stays r) (t r) (left-tested stays t rs)
       where
-        go : (t : Bool) → Decides t (TakenOut s r) → Left rs (kept (λ (r : Request). not (taken r)) rs)
-            → Left (r ∷ rs) (consIf (not t) r (kept (λ (r : Request). not (taken r)) rs))
-        go true t l = out r rs (kept (λ (r : Request). not (taken r)) rs) t l
-        go false n l = on r r rs (kept (λ (r : Request). not (taken r)) rs) n (pending.asItWas (other r)) l
+        go : (u : Bool) → Tells u (TakenOut s r) → Left rs (kept stays rs) → Left (r ∷ rs) (consIf u r (kept stays rs))
+        go true e l = on r r rs (kept stays rs) (e .passed refl) (pending.asItWas (other r)) l
+        go false e l = out r rs (kept stays rs) (e .failed refl) l
 
   pub left-none : ((r : Request) → TakenOut s r) → (rs : List Request) → Left rs []
   left-none t [] = nothing
@@ -69,12 +70,12 @@ module _ (s : Seen) where
 
   -- ---- a check
 
-  module _ (check : s .call .kind ≡ Numbers.check) (target : ℕ → ℕ)
+  module _ (check : s .call .kind ≡ numbers.check) (target : ℕ → ℕ)
       (moves : (r : Request) → Retried s r → Becomes s r (restartedAt s r (target (r .peer)))) where
     abbrev still : List Request → List Request
     still rs = checked (s .before .settings) (s .call .clock) target rs
 
-    pub left-checked : (rs : List Request) → All (λ (r : Request). r .stamp ≤ s .call .clock) rs → Left rs (still rs)
+    left-checked : (rs : List Request) → All (λ (r : Request). r .stamp ≤ s .call .clock) rs → Left rs (still rs)
     unfolding restarted
     left-checked [] h = nothing
     left-checked (r ∷ rs) h = go (verdict (s .before .settings) (s .call .clock) r) (made s check r (h .0)) (left-checked rs (h .1))
@@ -85,12 +86,34 @@ module _ (s : Seen) where
         go Delivery.abandoned m l = out r rs (still rs) (pending.abandoned m) l
         go Delivery.forgotten m l = out r rs (still rs) (pending.forgotten m) l
 
+module _ (st : State) (call : Call) (f : Finished st call) (check : call .kind ≡ numbers.check) where
+  abbrev listed : List ℕ
+  listed = peersIn (call .peers)
+
+  abbrev due : List Request
+  due = judged (st .settings) (call .clock) Delivery.retried (st .pending)
+
+  abbrev timed : List Request
+  timed = checkTimeouts (st .settings) (call .clock) (st .pending)
+
+  -- gate open, with retries; gate shut, without
+  pub left-again : call .gate ≡ 1 → Left (seenAs st call) (st .pending) (markAllRetried (map (retryOf listed) due) timed)
+  left-again opened =
+      subst (Left (seenAs st call) (st .pending)) (sym (checked-again (st .settings) (call .clock) listed (st .pending) (f .well .rising)))
+      (left-checked (seenAs st call) check (retryTarget listed)
+      (λ r m. pending.movedOn (retryTarget listed (r .peer)) m opened (goes-to listed (r .peer))) (st .pending) (stamps-past st call f))
+
+  pub left-still : call .gate ≡ 0 → Left (seenAs st call) (st .pending) timed
+  left-still shut =
+      subst (Left (seenAs st call) (st .pending)) (sym (checked-still (st .settings) (call .clock) (st .pending)))
+      (left-checked (seenAs st call) check (λ peer. peer) (λ r m. pending.heldBack m shut) (st .pending) (stamps-past st call f))
+
 -- ---- what each kind takes out
 
 -- the kinds that take out
 abbrev pub takesOut : ℕ → Bool
 takesOut kind =
-    eqb kind Numbers.receivedIds || (eqb kind Numbers.evictedIds || (eqb kind Numbers.reorg || (eqb kind Numbers.lostPeer || eqb kind Numbers.check)))
+    eqb kind numbers.receivedIds || (eqb kind numbers.evictedIds || (eqb kind numbers.reorg || (eqb kind numbers.lostPeer || eqb kind numbers.check)))
 
 module _ (s : Seen) (r : Request) where
   taken-kind : TakenOut s r → takesOut (s .call .kind) ≡ true
@@ -104,16 +127,16 @@ module _ (s : Seen) (r : Request) where
   pub untaken : takesOut (s .call .kind) ≡ false → TakenOut s r → ⊥
   untaken n t = not-both (takesOut (s .call .kind)) (taken-kind t) n
 
-  pub taken-listed : (n : ℕ) → s .call .kind ≡ n → eqb n Numbers.reorg ≡ false → eqb n Numbers.lostPeer ≡ false → eqb n Numbers.check ≡ false
+  pub taken-listed : (n : ℕ) → s .call .kind ≡ n → eqb n numbers.reorg ≡ false → eqb n numbers.lostPeer ≡ false → eqb n numbers.check ≡ false
       → TakenOut s r → Among (r .id) (ids s)
   taken-listed n k a b c (pending.received e among) = among
   taken-listed n k a b c (pending.evicted e among) = among
-  taken-listed n k a b c (pending.purged e) = absurd (eqb-false n Numbers.reorg a (sym k ∙ e))
-  taken-listed n k a b c (pending.orphaned e mode lost peer) = absurd (eqb-false n Numbers.lostPeer b (sym k ∙ e))
-  taken-listed n k a b c (pending.forgotten f) = absurd (eqb-false n Numbers.check c (sym k ∙ f .kind))
-  taken-listed n k a b c (pending.abandoned f) = absurd (eqb-false n Numbers.check c (sym k ∙ f .kind))
+  taken-listed n k a b c (pending.purged e) = absurd (apart k e a)
+  taken-listed n k a b c (pending.orphaned e mode lost peer) = absurd (apart k e b)
+  taken-listed n k a b c (pending.forgotten f) = absurd (apart k (f .kind) c)
+  taken-listed n k a b c (pending.abandoned f) = absurd (apart k (f .kind) c)
 
-  pub taken-lost : s .call .kind ≡ Numbers.lostPeer → TakenOut s r
+  pub taken-lost : s .call .kind ≡ numbers.lostPeer → TakenOut s r
       → (s .before .mode ≡ syncing) × (s .call .peer ≡ s .before .sync .syncPeer) × (r .peer ≡ s .call .peer)
   taken-lost k (pending.received e among) = absurd (omega (arith, e, k))
   taken-lost k (pending.evicted e among) = absurd (omega (arith, e, k))

@@ -13,7 +13,7 @@ use Rattle.fields.proofs.OrderLaws.{and-left, and-right, trichotomy}
 use Rattle.fields.proofs.AllLaws.{either}
 use Rattle.model.specs.Protocol.{Id, headerType, isAnnounceable}
 use Rattle.model.specs.Settings as settings
-use Rattle.model.specs.State.{Mode, new, seeking, syncing, synced, ended, isMode, hasSyncPeer, State}
+use Rattle.model.specs.State.{Mode, seeking, syncing, synced, ended, isMode, hasSyncPeer, State}
 use Rattle.model.specs.Peers.{firstOf, selectPeer}
 use Rattle.model.specs.Requests.{Act, ask}
 use Rattle.model.specs.Sections.{Advance, Sections, advanceDownloadedHeight, requestNextSections}
@@ -30,27 +30,9 @@ use Rattle.model.specs.Promises.Outcomes.{Heard, NothingAhead, noHeaders
 use Rattle.model.specs.Promises.Heights.{LooksOn, atStart, inReorg, onReceipt, atSectionTick, inCheck, atTick, StartsFrom}
 use Rattle.model.specs.Promises.Asked as asked
 use Rattle.model.specs.Promises.Asked.{NextSections}
-use Rattle.model.proofs.Promises.SeenLaws
-use Rattle.model.proofs.Promises.SeenLaws.{Kind}
-
--- ---- modes
-
-pub is-syncing : (m : Mode) → isMode m syncing ≡ true → m ≡ syncing
-is-syncing new e = absurd (false≢true e)
-is-syncing seeking e = absurd (false≢true e)
-is-syncing syncing e = refl
-is-syncing synced e = absurd (false≢true e)
-is-syncing ended e = absurd (false≢true e)
-
-pub is-synced : (m : Mode) → hasSyncPeer m ≡ true → isMode m syncing ≡ false → m ≡ synced
-is-synced new h e = absurd (false≢true h)
-is-synced seeking h e = absurd (false≢true h)
-is-synced syncing h e = absurd (false≢true (sym e))
-is-synced synced h e = refl
-is-synced ended h e = absurd (false≢true h)
-
-pub not-syncing : (m : Mode) → isMode m syncing ≡ false → m ≡ syncing → ⊥
-not-syncing m e f = false≢true (sym e ∙ ap (λ x. isMode x syncing) f)
+use Rattle.model.proofs.Promises.SeenLaws as kinds
+use Rattle.model.proofs.Promises.SeenLaws.{Kind, syncInfoOf, heardTip, Hears, is-heard}
+use Rattle.model.proofs.Promises.ModeLaws.{mode-is, mode-is-not, is-synced}
 
 -- ---- where a step starts from
 
@@ -70,7 +52,7 @@ module _ (s : Seen) where
   pub starts-here : (s .call .kind ≡ numbers.reorg → ⊥) → StartsFrom s here
   starts-here other = record { inReorg = λ e. absurd (other e); elsewhere = λ o. refl; noHigher = omega arith }
 
-  pub starts-lower : s .call .kind ≡ numbers.reorg → StartsFrom s (min here (s .call .fork))
+  starts-lower : s .call .kind ≡ numbers.reorg → StartsFrom s (min here (s .call .fork))
   starts-lower k =
       record { inReorg = λ e. (either-least here (s .call .fork), omega arith); elsewhere = λ o. absurd (o k); noHigher = omega arith }
 
@@ -172,7 +154,7 @@ abbrev pub window : Seen → ℕ → Sections
 window s from = requestNextSections (view s) (s .call .height) from (peers s)
 
 -- A plan that leaves the height and reads none.
-abbrev pub Still : Seen → Plan → Type 0
+abbrev Still : Seen → Plan → Type 0
 Still s p = (p .sync .downloaded ≡ here s) × (p .inView ≡ true)
 
 -- A plan runs rule 5, rule 4, both or neither, as the promises say; the downloaded height and the heights read are those of the rules.
@@ -239,8 +221,8 @@ module _ (s : Seen) where
     where
       go : (t : Bool) → isMode (s .before .mode) syncing ≡ t → Reading s (checks (s .before) (args s) t)
       go true m =
-          looks (here s) (inCheck k (is-syncing (s .before .mode) m)) (no-ask s numbers.check k refl) (starts-here s (λ e. omega (arith, k, e))) refl refl
-      go false m = neither (λ l. not-syncing (s .before .mode) m (look-in-check s k l)) (no-ask s numbers.check k refl) (refl, refl)
+          looks (here s) (inCheck k (mode-is (s .before .mode) syncing m)) (no-ask s numbers.check k refl) (starts-here s (λ e. omega (arith, k, e))) refl refl
+      go false m = neither (λ l. mode-is-not (s .before .mode) syncing m (look-in-check s k l)) (no-ask s numbers.check k refl) (refl, refl)
 
   tick-synced-reads : s .call .kind ≡ numbers.scheduledTick → s .before .mode ≡ synced → (listed : List ℕ) → peers s ≡ listed
       → Reading s (ticksSynced (s .before) (args s) (firstOf listed))
@@ -266,7 +248,7 @@ module _ (s : Seen) where
 
       go : (t : Bool) → isMode (st .mode) syncing ≡ t → Reading s (cond t (ticksSyncing st a late) (ticksSynced st a (firstOf (a .peers))))
       go true m =
-          neither (λ l. false≢true (sym (ap (λ x. isMode x syncing) (look-at-tick s k l .0)) ∙ m)) (no-ask s numbers.scheduledTick k refl)
+          neither (λ l. mode-is-not synced syncing refl (sym (look-at-tick s k l .0) ∙ mode-is (st .mode) syncing m)) (no-ask s numbers.scheduledTick k refl)
           (ticks-syncing-still late)
       go false m = tick-synced-reads k (is-synced (st .mode) h m) (peers s) refl
 
@@ -292,8 +274,8 @@ module _ (s : Seen) where
       here-read t = (cond t (window s (here s)) (record { acts = []; inView = true })) .inView
 
       go : (t : Bool) → isMode (s .before .mode) syncing ≡ t → Reading s (isAtTip (s .before) (args s) acts tip)
-      go true m = asks l (asked.onEntry ahead (is-syncing (s .before .mode) m)) refl (ap here-read m)
-      go false m = neither l (λ q. not-syncing (s .before .mode) m (n q)) (refl, ap here-read m)
+      go true m = asks l (asked.onEntry ahead (mode-is (s .before .mode) syncing m)) refl (ap here-read m)
+      go false m = neither l (λ q. mode-is-not (s .before .mode) syncing m (n q)) (refl, ap here-read m)
 
   ids-read : s .call .kind ≡ numbers.announcedIds → (list : List Id) → ids s ≡ list
       → Reading s (hearsAnnounced (s .before) (args s) (s .call .peer) (s .call .typeid) list)
@@ -360,57 +342,46 @@ module _ (s : Seen) where
           false≢true (sym e ∙ rw (eq-eqb (s .call .peer) (st .sync .syncPeer) (h .1), le-leb (s .call .tip) (s .call .height) (h .2))))
           (answers-still (s .call .peer) tip acts ahead)
 
-  info-reads : s .call .kind ≡ numbers.syncInfo → (said : List Id)
-      → Reading s
-      (hearsSyncInfo (s .before) (args s) (s .call .peer) (eqb (s .call .parsed) 1) (cond (eqb (s .call .hastip) 1) (some (s .call .tip)) none) said)
-  unfolding hearsSyncInfo tipOutcome argsOf
-  info-reads k said = go (eqb (s .call .parsed) 1) (eqb (s .call .hastip) 1) refl refl
+  info-reads : s .call .kind ≡ numbers.syncInfo → Reading s (planOf (s .before) (args s) (syncInfoOf (s .call)))
+  unfolding planOf hearsSyncInfo tipOutcome argsOf
+  info-reads k = go (heardTip (s .call)) (is-heard s k)
     where
-      st : State
-      st = s .before
+      acts : Option ℕ → List Act
+      acts tip = continuation (eqb (s .call .parsed) 1) (s .call .height) tip (s .call .peer) (idsIn (s .call .continuation))
 
-      a : Args
-      a = args s
-
-      go : (parsed named : Bool) → eqb (s .call .parsed) 1 ≡ parsed → eqb (s .call .hastip) 1 ≡ named
-          → Reading s (hearsSyncInfo st a (s .call .peer) parsed (cond named (some (s .call .tip)) none) said)
-      go true true p n =
-          heard-reads (continuation true (s .call .height) (some (s .call .tip)) (s .call .peer) said) (raisedTip (st .sync .knownTip) (some (s .call .tip)))
-          (record { kind = k; parsed = eqb-true (s .call .parsed) 1 p; named = eqb-true (s .call .hastip) 1 n; names = refl })
-      go true false p n =
-          unheard-reads (s .call .peer) (raisedTip (st .sync .knownTip) none) (continuation true (s .call .height) none (s .call .peer) said) k
-          (λ h. eqb-false (s .call .hastip) 1 n (h .named))
-      go false named p n =
-          unheard-reads (s .call .peer) (raisedTip (st .sync .knownTip) none) (continuation false (s .call .height) none (s .call .peer) said) k
-          (λ h. eqb-false (s .call .parsed) 1 p (h .parsed))
+      go : (tip : Option ℕ) → Hears s tip
+          → Reading s (answers (s .before) (args s) (s .call .peer) (acts tip) (raisedTip (s .before .sync .knownTip) tip)
+          (tipOutcome (eqb (s .call .peer) (s .before .sync .syncPeer)) (s .call .height) tip))
+      go tip (kinds.aTip h) = heard-reads (acts tip) (raisedTip (s .before .sync .knownTip) tip) h
+      go tip (kinds.noTip n) = unheard-reads (s .call .peer) (raisedTip (s .before .sync .knownTip) tip) (acts tip) k (n (s .call .tip))
 
   -- ---- every step
 
   step-reads : {step : Step} → Kind (s .call) step → ofMode (s .before .mode) (s .before .sync .entrySent) step ≡ true
       → Reading s (planOf (s .before) (args s) step)
   unfolding planOf ofMode argsOf
-  step-reads (SeenLaws.start k) mode = advances-reads seeking (atStart k) (no-ask s numbers.start k refl) (λ e. omega (arith, k, e))
-  step-reads (SeenLaws.pick k) mode =
+  step-reads (kinds.start k) mode = advances-reads seeking (atStart k) (no-ask s numbers.start k refl) (λ e. omega (arith, k, e))
+  step-reads (kinds.pick k) mode =
       let chosen = selectPeer (s .before .sync .stalledPeers) (peers s) in
       quiet numbers.pick k refl refl (picks (s .before) (args s) chosen) (picks-still chosen)
-  step-reads (SeenLaws.neededModifier k) mode =
+  step-reads (kinds.neededModifier k) mode =
       let acts = ask (s .call .typeid) (s .before .sync .syncPeer) (args s .stored) (ids s) ∷ [] in
       quiet numbers.neededModifier k refl refl (continues (s .before) (args s) acts) (continues-still acts)
-  step-reads (SeenLaws.reorg k) mode = both-read (min (here s) (s .call .fork)) (inReorg k) (asked.inReorg k) (starts-lower s k)
-  step-reads (SeenLaws.announcedIds k) mode = ids-read k (ids s) refl
-  step-reads (SeenLaws.syncInfo k) mode = info-reads k (idsIn (s .call .continuation))
-  step-reads (SeenLaws.otherMessage k) mode = quiet numbers.otherMessage k refl refl (continues (s .before) (args s) []) (continues-still [])
-  step-reads (SeenLaws.lostPeer k) mode = quiet numbers.lostPeer k refl refl (loses (s .before) (args s) (s .call .peer)) (loses-still (s .call .peer))
-  step-reads (SeenLaws.receivedIds k) mode =
+  step-reads (kinds.reorg k) mode = both-read (min (here s) (s .call .fork)) (inReorg k) (asked.inReorg k) (starts-lower s k)
+  step-reads (kinds.announcedIds k) mode = ids-read k (ids s) refl
+  step-reads (kinds.syncInfo k) mode = info-reads k
+  step-reads (kinds.otherMessage k) mode = quiet numbers.otherMessage k refl refl (continues (s .before) (args s) []) (continues-still [])
+  step-reads (kinds.lostPeer k) mode = quiet numbers.lostPeer k refl refl (loses (s .before) (args s) (s .call .peer)) (loses-still (s .call .peer))
+  step-reads (kinds.receivedIds k) mode =
       advances-reads (s .before .mode) (onReceipt k) (no-ask s numbers.receivedIds k refl) (λ e. omega (arith, k, e))
-  step-reads (SeenLaws.evictedIds k) mode = quiet numbers.evictedIds k refl refl (evicts (s .before) (args s) (ids s)) (evicts-still (ids s))
-  step-reads (SeenLaws.progress k) mode = progress-reads k (isMode (s .before .mode) syncing)
-  step-reads (SeenLaws.check k) mode = check-reads k
-  step-reads (SeenLaws.scheduledTick k) mode = tick-reads k mode
-  step-reads (SeenLaws.sectionTick k) mode = both-read (here s) (atSectionTick k) (asked.atSectionTick k) (starts-here s (λ e. omega (arith, k, e)))
-  step-reads (SeenLaws.sendFailure k) mode =
+  step-reads (kinds.evictedIds k) mode = quiet numbers.evictedIds k refl refl (evicts (s .before) (args s) (ids s)) (evicts-still (ids s))
+  step-reads (kinds.progress k) mode = progress-reads k (isMode (s .before .mode) syncing)
+  step-reads (kinds.check k) mode = check-reads k
+  step-reads (kinds.scheduledTick k) mode = tick-reads k mode
+  step-reads (kinds.sectionTick k) mode = both-read (here s) (atSectionTick k) (asked.atSectionTick k) (starts-here s (λ e. omega (arith, k, e)))
+  step-reads (kinds.sendFailure k) mode =
       quiet numbers.sendFailure k refl refl (leaves (s .before) (args s) SyncPeerGone seeking []) (leaves-still SyncPeerGone seeking [])
-  step-reads (SeenLaws.endOfStream k) mode =
+  step-reads (kinds.endOfStream k) mode =
       let next = cond (isMode (s .before .mode) seeking) ended seeking in
       quiet numbers.endOfStream k refl refl (leaves (s .before) (args s) EndOfStream next []) (leaves-still EndOfStream next [])
 

@@ -3,9 +3,8 @@ use Prim.Native.Nat.{ℕ, _≤_}
 use mathlib.Core.Path.{_≡_, refl, sym, ap, _∙_, subst}
 use mathlib.Core.Bool.{Bool, true, false, not, cond, false≢true}
 use mathlib.Core.Logic.{_⊎_, _↔_, inl, inr, ⊎-elim}
-use mathlib.Core.List.{List, [], _∷_, _++_, append-nil}
+use mathlib.Core.List.{List, [], _∷_, _++_}
 use mathlib.Core.Option.{Option, none, some, Option·some-injective}
-use native.Mathlib.Nat.{le-trans}
 use borrow.Author.Tests.{eqb-false}
 use Rattle.fields.specs.Facts.{All}
 use Rattle.fields.specs.Filter.{consIf, kept}
@@ -15,18 +14,22 @@ use Rattle.model.specs.State.{Mode, seeking, syncing, synced, isMode, St
 use Rattle.model.specs.Peers.{isListed, firstOf, orElse, isSome, firstUnstalled, selectPeer, stalledAfterSelect, joinStalled, resetSends}
 use Rattle.model.specs.Requests.{Sending, Command}
 use Rattle.model.specs.Steps
-use Rattle.model.specs.Steps.{entersSyncing, picks, answers, ticksSyncing, ticksSynced, progresses, withoutPeer, Step, Plan, ofMode, plan, after, commands}
+use Rattle.model.specs.Steps.{entersSyncing, picks, answers, ticksSyncing, ticksSynced, progresses, withoutPeer}
+use Rattle.model.specs.Steps.{Step, Plan, ofMode, plan, after, commands}
 use Rattle.model.specs.Calls.{Call, argsOf, stepOf}
-use Rattle.model.specs.Promises.Numbers
+use Rattle.model.specs.Promises.Numbers as numbers
 use Rattle.model.specs.Promises.Words.{Seen, peers, Among}
 use Rattle.model.specs.Promises.Marks as promised
 use Rattle.model.specs.Promises.Marks.{Chosen, Picked, Enters, Progresses, SaysSyncInfo, SyncPeer, Emptied, allStalled, byProgress, StalledSet, Marks}
 use Rattle.model.specs.Promises.SyncInfos.{SpeaksTo, onPick, whenBehind, Due, SyncInfos}
-use Rattle.model.proofs.Promises.SeenLaws.{Finished, seenAs, mode-of}
+use Rattle.model.proofs.Promises.SeenLaws as kinds
+use Rattle.model.proofs.Promises.SeenLaws.{Finished, seenAs, apart, step-of, mode-of}
+use Rattle.model.proofs.Promises.ListLaws.{among-back}
+use Rattle.model.proofs.Promises.ModeLaws.{mode-is-not, is-not-mode, no-peer, peerless}
 use Rattle.model.proofs.Promises.WordLaws.{listed-passes, passes-listed, fails-listed, listed-first}
-use Rattle.model.proofs.Promises.CourseLaws.{apart, is-syncing, not-syncing, no-peer, seenBy, seen-by, isQuiet, Course, told}
+use Rattle.model.proofs.Promises.CourseLaws.{seenBy, seen-by, isQuiet, Course, told}
 use Rattle.model.proofs.Promises.CourseLaws as courses
-use Rattle.model.proofs.Promises.SyncInfosKept.{due, not-due, sync-infos-kept}
+use Rattle.model.proofs.Promises.SyncInfosKept.{NotBehind, due, not-due, last-send-past, sync-infos-kept, none-said}
 
 -- ---- rule 1
 
@@ -100,9 +103,6 @@ module _ (s : Seen) where
   abbrev NotPicked : Type 0
   NotPicked = Picked s → ⊥
 
-  abbrev NotBehind : Type 0
-  NotBehind = s .answer .outcome ≡ Numbers.saysBehindPeer → ⊥
-
   abbrev NotProgress : Type 0
   NotProgress = Progresses s → ⊥
 
@@ -110,10 +110,11 @@ module _ (s : Seen) where
 
 module _ {s : Seen} where
   peer-stays : NotPicked s → NotBehind s
-      → ((s .after .mode ≡ syncing) ⊎ (s .after .mode ≡ synced) → s .after .sync .syncPeer ≡ s .before .sync .syncPeer) → SyncPeer s
-  peer-stays p b e = record { picked = λ q. absurd (p q); behind = λ o. absurd (b o); kept = λ n m. e m }
+      → ((s .after .mode ≡ syncing) ⊎ (s .after .mode ≡ synced) → s .after .sync .syncPeer ≡ s .before .sync .syncPeer)
+      → ((s .after .mode ≡ syncing → ⊥) → (s .after .mode ≡ synced → ⊥) → s .after .sync .syncPeer ≡ 0) → SyncPeer s
+  peer-stays p b e alone = record { picked = λ q. absurd (p q); behind = λ o. absurd (b o); kept = λ n m. e m; none = alone }
 
-  set-stays : (s .call .kind ≡ Numbers.pick → ⊥) → NotProgress s → NotBehind s → (s .answer .outcome ≡ Numbers.saysStalled → ⊥)
+  set-stays : (s .call .kind ≡ numbers.pick → ⊥) → NotProgress s → NotBehind s → (s .answer .outcome ≡ numbers.saysStalled → ⊥)
       → s .after .sync .stalledPeers ≡ s .before .sync .stalledPeers → StalledSet s
   set-stays k p b o e =
       record { emptied = λ q. absurd (not-emptied q); joins = λ q n. absurd (o q); isThere = λ q n. absurd (o q); kept = λ n q. e }
@@ -123,10 +124,10 @@ module _ {s : Seen} where
       not-emptied (byProgress q) = p q
       not-emptied (promised.behind q) = b q
 
-  set-empties : Emptied s → (s .answer .outcome ≡ Numbers.saysStalled → ⊥) → s .after .sync .stalledPeers ≡ [] → StalledSet s
+  set-empties : Emptied s → (s .answer .outcome ≡ numbers.saysStalled → ⊥) → s .after .sync .stalledPeers ≡ [] → StalledSet s
   set-empties q o e = record { emptied = λ q. e; joins = λ q n. absurd (o q); isThere = λ q n. absurd (o q); kept = λ n o. absurd (n q) }
 
-  set-joins : s .call .kind ≡ Numbers.scheduledTick → s .answer .outcome ≡ Numbers.saysStalled
+  set-joins : s .call .kind ≡ numbers.scheduledTick → s .answer .outcome ≡ numbers.saysStalled
       → s .after .sync .stalledPeers ≡ joinStalled (s .before .sync .syncPeer) (s .before .sync .stalledPeers) → StalledSet s
   set-joins k o e =
       record {
@@ -139,22 +140,22 @@ module _ {s : Seen} where
       not-emptied : Emptied s → ⊥
       not-emptied (allStalled q w) = apart k q refl
       not-emptied (byProgress q) = apart k (q .kind) refl
-      not-emptied (promised.behind q) = eqb-false 4 2 refl (sym o ∙ q)
+      not-emptied (promised.behind q) = apart o q refl
 
-  pick-set : s .call .kind ≡ Numbers.pick → s .answer .outcome ≡ Numbers.saysContinue
+  pick-set : s .call .kind ≡ numbers.pick → s .answer .outcome ≡ numbers.saysContinue
       → s .after .sync .stalledPeers ≡ stalledAfterSelect (s .before .sync .stalledPeers) (peers s) → StalledSet s
   pick-set k o e =
       record {
         emptied = empties;
-        joins = λ q n. absurd (eqb-false 0 4 refl (sym o ∙ q));
-        isThere = λ q n. absurd (eqb-false 0 4 refl (sym o ∙ q));
+        joins = λ q n. absurd (apart o q refl);
+        isThere = λ q n. absurd (apart o q refl);
         kept = λ n q. e ∙ select-keeps (s .before .sync .stalledPeers) (peers s) (λ w. n (allStalled k w));
       }
     where
       empties : Emptied s → s .after .sync .stalledPeers ≡ []
       empties (allStalled q w) = e ∙ select-empties (s .before .sync .stalledPeers) (peers s) w
       empties (byProgress q) = absurd (apart k (q .kind) refl)
-      empties (promised.behind q) = absurd (eqb-false 0 2 refl (sym o ∙ q))
+      empties (promised.behind q) = absurd (apart o q refl)
 
 module _ (st : State) (call : Call) where
   course-set : {announced said : List Sending} {p : Plan} → Course st call announced said p → (sent : List Command) → StalledSet (seenBy st call p sent)
@@ -174,36 +175,45 @@ module _ (st : State) (call : Call) where
   course-set {p = p} (courses.worksFirst k m u) sent = set-empties (byProgress (record { kind = k; mode = m })) (eqb-false 0 4 refl) refl
   course-set {p = p} (courses.worksAgain k m u) sent = set-empties (byProgress (record { kind = k; mode = m })) (eqb-false 0 4 refl) refl
 
-  course-peer : {announced said : List Sending} {p : Plan} → Course st call announced said p → (sent : List Command) → SyncPeer (seenBy st call p sent)
+  abbrev Peerless : Plan → Type 0
+  Peerless p = (p .mode ≡ syncing → ⊥) → (p .mode ≡ synced → ⊥) → p .sync .syncPeer ≡ 0
+
+  course-peer : {announced said : List Sending} {p : Plan} → Course st call announced said p → (sent : List Command) → Peerless p
+      → SyncPeer (seenBy st call p sent)
   unfolding argsOf picks entersSyncing answers ticksSyncing ticksSynced progresses Steps.unmarked withoutPeer
-  course-peer {p = p} (courses.passes q) sent = peer-stays (λ e. q .silent .notPick (e .kind)) (q .notBehind) (q .syncPeer)
-  course-peer {p = p} (courses.nobody k e) sent = peer-stays (λ q. not-syncing seeking refl (q .mode)) (eqb-false 0 2 refl) (λ m. refl)
-  course-peer {p = p} (courses.chooses peer k e) sent =
+  course-peer {p = p} (courses.passes q) sent alone = peer-stays (λ e. q .silent .notPick (e .kind)) (q .notBehind) (q .syncPeer) alone
+  course-peer {p = p} (courses.nobody k e) sent alone = peer-stays (λ q. mode-is-not seeking syncing refl (q .mode)) (eqb-false 0 2 refl) (λ m. refl) alone
+  course-peer {p = p} (courses.chooses peer k e) sent alone =
       record {
         picked = λ q. chosen (seenBy st call p sent) peer e;
         behind = λ o. absurd (eqb-false 0 2 refl o);
         kept = λ n m. absurd (n (inl (record { kind = k; mode = refl })));
+        none = alone;
       }
-  course-peer {p = p} (courses.ahead announced tip k) sent =
-      record { picked = λ q. absurd (apart k (q .kind) refl); behind = λ o. refl; kept = λ n m. absurd (n (inr refl)) }
-  course-peer {p = p} (courses.replies announced tip k) sent =
-      peer-stays (λ q. apart k (q .kind) refl) (eqb-false 0 2 refl) (λ m. refl)
-  course-peer {p = p} (courses.stalls k m) sent =
-      peer-stays (λ q. apart k (q .kind) refl) (eqb-false 4 2 refl) (λ m. absurd (no-peer seeking refl m))
-  course-peer {p = p} (courses.ticks k m) sent =
-      peer-stays (λ q. apart k (q .kind) refl) (eqb-false 0 2 refl) (λ m. refl)
-  course-peer {p = p} (courses.visits peer k m l) sent =
-      peer-stays (λ q. apart k (q .kind) refl) (eqb-false 0 2 refl) (λ m. refl)
-  course-peer {p = p} (courses.worksFirst k m u) sent =
-      peer-stays (λ q. apart k (q .kind) refl) (eqb-false 0 2 refl) (λ m. refl)
-  course-peer {p = p} (courses.worksAgain k m u) sent =
-      peer-stays (λ q. apart k (q .kind) refl) (eqb-false 0 2 refl) (λ m. refl)
+  course-peer {p = p} (courses.ahead announced tip k) sent alone =
+      record { picked = λ q. absurd (apart k (q .kind) refl); behind = λ o. refl; kept = λ n m. absurd (n (inr refl)); none = alone }
+  course-peer {p = p} (courses.replies announced tip k) sent alone =
+      peer-stays (λ q. apart k (q .kind) refl) (eqb-false 0 2 refl) (λ m. refl) alone
+  course-peer {p = p} (courses.stalls k m) sent alone =
+      peer-stays (λ q. apart k (q .kind) refl) (eqb-false 4 2 refl) (λ m. absurd (no-peer seeking refl m)) alone
+  course-peer {p = p} (courses.ticks k m) sent alone =
+      peer-stays (λ q. apart k (q .kind) refl) (eqb-false 0 2 refl) (λ m. refl) alone
+  course-peer {p = p} (courses.visits peer k m l) sent alone =
+      peer-stays (λ q. apart k (q .kind) refl) (eqb-false 0 2 refl) (λ m. refl) alone
+  course-peer {p = p} (courses.worksFirst k m u) sent alone =
+      peer-stays (λ q. apart k (q .kind) refl) (eqb-false 0 2 refl) (λ m. refl) alone
+  course-peer {p = p} (courses.worksAgain k m u) sent alone =
+      peer-stays (λ q. apart k (q .kind) refl) (eqb-false 0 2 refl) (λ m. refl) alone
 
 pub stalled-set-kept : (st : State) (call : Call) → Finished st call → StalledSet (seenAs st call)
 stalled-set-kept st call f = rw (seen-by st call) (course-set st call (told st call f .course) (commands st (argsOf call)))
 
 pub sync-peer-kept : (st : State) (call : Call) → Finished st call → SyncPeer (seenAs st call)
-sync-peer-kept st call f = rw (seen-by st call) (course-peer st call (told st call f .course) (commands st (argsOf call)))
+unfolding after plan argsOf
+sync-peer-kept st call f =
+    rw (seen-by st call)
+    (course-peer st call (told st call f .course) (commands st (argsOf call))
+    (λ m n. f .wellAfter .sync .noPeer (peerless (after st (argsOf call) .mode) m n)))
 
 -- ---- the marks
 
@@ -213,9 +223,9 @@ record Marked (s : Seen) : Type 0 where
   progressKept : (Picked s ⊎ Progresses s → ⊥) → s .after .sync .lastProgress ≡ s .before .sync .lastProgress
   entryMark : (s .after .sync .entrySent ≡ true) ↔ (Enters s × SaysSyncInfo s)
   usedByProgress : Progresses s → s .after .sync .progressUsed ≡ true
-  allowedAgain : Enters s ⊎ (s .call .kind ≡ Numbers.scheduledTick) → s .after .sync .progressUsed ≡ false
+  allowedAgain : Enters s ⊎ (s .call .kind ≡ numbers.scheduledTick) → s .after .sync .progressUsed ≡ false
   usedKept :
-      (Progresses s → ⊥) → (Enters s → ⊥) → (s .call .kind ≡ Numbers.scheduledTick → ⊥) → s .after .mode ≡ syncing
+      (Progresses s → ⊥) → (Enters s → ⊥) → (s .call .kind ≡ numbers.scheduledTick → ⊥) → s .after .mode ≡ syncing
       → s .after .sync .progressUsed ≡ s .before .sync .progressUsed
 
 module _ {s : Seen} where
@@ -224,8 +234,8 @@ module _ {s : Seen} where
 
   -- a step that neither enters syncing nor progresses
   stays-marked : NotPicked s → NotBehind s → NotProgress s → s .after .sync .lastProgress ≡ s .before .sync .lastProgress → s .after .sync .entrySent ≡ false
-      → (s .call .kind ≡ Numbers.scheduledTick → s .after .sync .progressUsed ≡ false)
-      → ((s .call .kind ≡ Numbers.scheduledTick → ⊥) → s .after .mode ≡ syncing → s .after .sync .progressUsed ≡ s .before .sync .progressUsed) → Marked s
+      → (s .call .kind ≡ numbers.scheduledTick → s .after .sync .progressUsed ≡ false)
+      → ((s .call .kind ≡ numbers.scheduledTick → ⊥) → s .after .mode ≡ syncing → s .after .sync .progressUsed ≡ s .before .sync .progressUsed) → Marked s
   stays-marked p b r last entry tick used =
       record {
         progressSet = λ q. absurd (⊎-elim p r q);
@@ -264,30 +274,16 @@ module _ {s : Seen} where
 
 -- ---- the entry mark says whether a sync info went out
 
-module _ {A : Type 0} where
-  among-last : (xs : List A) (x : A) → Among x (xs ++ (x ∷ []))
-  among-last [] x = inl refl
-  among-last (y ∷ xs) x = inr (among-last xs x)
-
-  among-all : (P : A → Type 0) (x : A) (xs : List A) → All P xs → Among x xs → P x
-  among-all P x [] w h = absurd h
-  among-all P x (y ∷ xs) w (inl e) = subst P (sym e) (w .0)
-  among-all P x (y ∷ xs) w (inr h) = among-all P x xs (w .1) h
-
 module _ (s : Seen) (infos : SyncInfos s) where
-  one-said : (c : Command) → infos .said ≡ c ∷ [] → c .kind ≡ Numbers.aSyncInfo → SaysSyncInfo s
+  one-said : (c : Command) → infos .said ≡ c ∷ [] → c .kind ≡ numbers.aSyncInfo → SaysSyncInfo s
   one-said c e k =
-      promised.said c (subst (Among c) (sym (infos .parts ∙ ap (λ (cs : List Command). infos .others ++ cs) e)) (among-last (infos .others) c)) k
-
-  none-said : infos .said ≡ [] → SaysSyncInfo s → ⊥
-  none-said e (promised.said c h k) =
-      among-all (λ (c : Command). c .kind ≡ Numbers.aSyncInfo → ⊥) c (infos .others) (infos .noneBefore)
-      (subst (Among c) (infos .parts ∙ (ap (λ (cs : List Command). infos .others ++ cs) e ∙ append-nil (infos .others))) h) k
+      let parts : s .sent ≡ infos .others ++ (c ∷ []) = infos .parts ∙ ap (λ (cs : List Command). infos .others ++ cs) e in
+      promised.said c (subst (Among c) (sym parts) (among-back c (infos .others) (c ∷ []) (inl refl))) k
 
   entry-mark : (peer : ℕ) → SpeaksTo s peer → Enters s → (quiet : Bool) → s .after .sync .entrySent ≡ not quiet → (quiet ≡ false → Due s)
       → (quiet ≡ true → Due s → ⊥) → (s .after .sync .entrySent ≡ true) ↔ (Enters s × SaysSyncInfo s)
   entry-mark peer to enters true e due held =
-      ((λ t. absurd (false≢true (sym e ∙ t))), (λ q. absurd (none-said (infos .heldBack (held refl)) (q .1))))
+      ((λ t. absurd (false≢true (sym e ∙ t))), (λ q. absurd (none-said s infos (infos .heldBack (held refl)) (q .1))))
   entry-mark peer to enters false e due held =
       let out = infos .goesOut peer to (due refl) in
       ((λ t. (enters, one-said (out .0) (out .1) (out .2 .0))), (λ q. e))
@@ -311,7 +307,7 @@ module _ (st : State) (call : Call) (past : st .sync .sendClock .lastSend ≤ ca
       stays-marked (λ e. q .silent .notPick (e .kind)) (q .notBehind) (λ e. q .silent .notProgress (e .kind) (e .mode)) (q .lastProgress)
       (q .entrySent) (q .silent .usedTick) (λ t m. q .used m)
   course-marks {p = p} (courses.nobody k e) sent infos elsewhere =
-      stays-marked (λ q. not-syncing seeking refl (q .mode)) (eqb-false 0 2 refl) (λ q. apart k (q .kind) refl) refl refl
+      stays-marked (λ q. mode-is-not seeking syncing refl (q .mode)) (eqb-false 0 2 refl) (λ q. apart k (q .kind) refl) refl refl
       (λ t. absurd (apart k t refl)) (λ t m. refl)
   course-marks {p = p} (courses.chooses peer k e) sent infos elsewhere =
       let s : Seen = seenBy st call p sent in
@@ -330,38 +326,26 @@ module _ (st : State) (call : Call) (past : st .sync .sendClock .lastSend ≤ ca
       stays-marked (λ q. apart k (q .kind) refl) (eqb-false 0 2 refl) (λ q. apart k (q .kind) refl) refl refl (λ t. refl) (λ t m. absurd (t k))
   course-marks {p = p} (courses.visits peer k m l) sent infos elsewhere =
       stays-marked (λ q. apart k (q .kind) refl) (eqb-false 0 2 refl) (λ q. apart k (q .kind) refl) refl refl
-      (λ t. elsewhere (not-syncing (st .mode) (ap (λ (mode : Mode). isMode mode syncing) m))) (λ t m. absurd (t k))
+      (λ t. elsewhere (mode-is-not (st .mode) syncing (ap (λ (mode : Mode). isMode mode syncing) m))) (λ t m. absurd (t k))
   course-marks {p = p} (courses.worksFirst k m u) sent infos elsewhere =
       progress-marked (record { kind = k; mode = m }) (eqb-false 0 2 refl) refl refl refl
   course-marks {p = p} (courses.worksAgain k m u) sent infos elsewhere =
       progress-marked (record { kind = k; mode = m }) (eqb-false 0 2 refl) refl refl refl
 
 -- a send failure is taken only after an entry that sent
-failure-step : (call : Call) → call .kind ≡ Numbers.sendFailure → stepOf call ≡ Steps.sendFailure
-unfolding stepOf
-failure-step call e = rw e
-
 failure-marked : (mode : Mode) (entrySent : Bool) (step : Step) → step ≡ Steps.sendFailure → ofMode mode entrySent step ≡ true → entrySent ≡ true
 unfolding ofMode
 failure-marked mode entrySent step e m = and-right (isMode mode syncing) entrySent (rw e at m)
 
-is-elsewhere : (m : Mode) → (m ≡ syncing → ⊥) → isMode m syncing ≡ false
-is-elsewhere m n = go (isMode m syncing) refl
-  where
-    go : (t : Bool) → isMode m syncing ≡ t → isMode m syncing ≡ false
-    go true e = absurd (n (is-syncing m e))
-    go false e = e
-
 module _ (st : State) (call : Call) (f : Finished st call) where
   allowed-elsewhere : (after st (argsOf call) .mode ≡ syncing → ⊥) → after st (argsOf call) .sync .progressUsed ≡ false
-  allowed-elsewhere n = f .wellAfter .sync .progressUsed (is-elsewhere (after st (argsOf call) .mode) n)
+  allowed-elsewhere n = f .wellAfter .sync .progressUsed (is-not-mode (after st (argsOf call) .mode) syncing n)
 
   marked : Marked (seenAs st call)
   unfolding after plan argsOf
   marked =
-      let past : st .sync .sendClock .lastSend ≤ call .clock = le-trans (f .well .sync .lastSend) (f .passed .clock) in
       rw (seen-by st call)
-      (course-marks st call past (told st call f .course) (commands st (argsOf call))
+      (course-marks st call (last-send-past st call f) (told st call f .course) (commands st (argsOf call))
       (subst SyncInfos (seen-by st call) (sync-infos-kept st call f)) allowed-elsewhere)
 
   pub marks-kept : Marks (seenAs st call)
@@ -373,7 +357,7 @@ module _ (st : State) (call : Call) (f : Finished st call) where
         progressSet = marked .progressSet;
         progressKept = marked .progressKept;
         entryMark = marked .entryMark;
-        sendFailure = λ k. failure-marked (st .mode) (st .sync .entrySent) (stepOf call) (failure-step call k) (mode-of st call f);
+        sendFailure = λ k. failure-marked (st .mode) (st .sync .entrySent) (stepOf call) (step-of call (kinds.sendFailure k)) (mode-of st call f);
         usedByProgress = marked .usedByProgress;
         allowedAgain = marked .allowedAgain;
         allowedElsewhere = allowed-elsewhere;

@@ -1,17 +1,16 @@
 -- A lost sync peer's ids: each that is no transaction and not stored is asked of the first listed peer, by type.
 use Prim.Native.Nat.{ℕ, _<_}
 use mathlib.Core.Path.{_≡_, refl, sym, ap, _∙_, subst}
-use mathlib.Core.Bool.{Bool, true, false, not, cond, _&&_}
-use mathlib.Core.Logic.{_⊎_, inl, inr, ⊎-elim}
-use mathlib.Core.List.{List, [], _∷_, map}
+use mathlib.Core.Bool.{Bool, true, not, _&&_}
+use mathlib.Core.Logic.{_⊎_, inl, inr}
+use mathlib.Core.List.{List, map, map-map}
 use native.Mathlib.Nat.{lt-irrefl}
 use native.Mathlib.Omega.{arith}
 use lib.Dec.{eqb}
 use borrow.Author.Tests.{eqb-true, eqb-false, eq-eqb, ne-eqb, not-true, not-false}
 use Rattle.fields.specs.Facts.{All}
-use Rattle.fields.specs.Order.{before}
-use Rattle.fields.specs.Filter.{consIf, kept}
-use Rattle.fields.proofs.OrderLaws.{and-left, and-right, not-both, before-irreflexive}
+use Rattle.fields.specs.Filter.{kept}
+use Rattle.fields.proofs.OrderLaws.{and-left, and-right}
 use Rattle.fields.proofs.MarkLaws.{kept-kept, kept-map}
 use Rattle.model.specs.Protocol.{Id, isTransaction}
 use Rattle.model.specs.Delivery.{Request, idsOf, orphansOf, purgePeer}
@@ -20,95 +19,45 @@ use Rattle.model.specs.Requests.{Pair, isStored, Act}
 use Rattle.model.specs.Sections.{Item, batchesOf}
 use Rattle.model.specs.Lists.{peersIn, pairsIn}
 use Rattle.model.specs.Steps
-use Rattle.model.specs.Steps.{Step, isCheck, commands, plan, planOf, remaining, loses, leaves, askOrphans}
-use Rattle.model.specs.Calls.{Call, stepOf, argsOf}
+use Rattle.model.specs.Steps.{Step, commands, plan, planOf, remaining, loses, leaves, askOrphans}
+use Rattle.model.specs.Calls.{Call, argsOf}
 use Rattle.model.specs.Book.{Requested, requestedIn}
 use Rattle.model.specs.Promises.Numbers as numbers
 use Rattle.model.specs.Promises.Words.{Among, First, LeftOf}
-use Rattle.model.specs.Promises.Asked.{under, StoredAs, TypesRise, Orphans, Orphan, AsksOrphans}
+use Rattle.model.specs.Promises.Asked.{under, PendingId, StoredAs, TypesRise, Orphans, Orphan, AsksOrphans}
 use Rattle.model.proofs.Well.{RisingIds}
-use Rattle.model.proofs.Promises.SeenLaws.{seenAs, Finished}
-use Rattle.model.proofs.Promises.WordLaws.{passes-stored, fails-stored, first-listed, left-kept-twice}
-use Rattle.model.proofs.Promises.ByTypeLaws.{ofType, OfPeer, Known, ByType, asks, askedBy, asked-by-type, asked-by-acts}
-
--- ---- lists
-
-module _ {A : Type 0} (Out : A → Type 0) where
-  -- What is left of a list stood in it.
-  pub left-within : (x : A) (xs left : List A) → LeftOf Out xs left → Among x left → Among x xs
-  left-within x [] left e h = absurd (subst (Among x) e h)
-  left-within x (y ∷ xs) left (inl k) h = inr (left-within x xs left (k .1) h)
-  left-within x (y ∷ xs) left (inr k) h = ⊎-elim inl (λ m. inr (left-within x xs (k .1 .0) (k .1 .2) m)) (subst (Among x) (k .1 .1) h)
-
-  -- What is left is what a test keeps that says the same of the list's own elements.
-  pub left-only : (test : A → Bool) (xs left : List A) → ((x : A) → Among x xs → test x ≡ true → Out x → ⊥) → ((x : A) → test x ≡ false → Out x)
-      → LeftOf Out xs left → left ≡ kept test xs
-  left-only test [] left stays leaves e = e
-  left-only test (y ∷ xs) left stays leaves (inl k) = go (test y) refl (left-only test xs left (λ x m. stays x (inr m)) leaves (k .1))
-    where
-      go : (t : Bool) → test y ≡ t → left ≡ kept test xs → left ≡ consIf t y (kept test xs)
-      go true e rest = absurd (stays y (inl refl) e (k .0))
-      go false e rest = rest
-  left-only test (y ∷ xs) left stays leaves (inr k) =
-      k .1 .1 ∙ go (test y) refl (left-only test xs (k .1 .0) (λ x m. stays x (inr m)) leaves (k .1 .2))
-    where
-      go : (t : Bool) → test y ≡ t → k .1 .0 ≡ kept test xs → y ∷ k .1 .0 ≡ consIf t y (kept test xs)
-      go true e rest = ap (λ (l : List A). y ∷ l) rest
-      go false e rest = absurd (k .0 (leaves y e))
-
--- ---- an id is pending once
-
-not-again : (x : Id) (ids : List Id) → All (λ (other : Id). before x other ≡ true) ids → Among x ids → ⊥
-not-again x [] h m = m
-not-again x (y ∷ ids) h (inl e) = not-both (before x y) (h .0) (subst (λ (z : Id). before x z ≡ false) e (before-irreflexive x))
-not-again x (y ∷ ids) h (inr m) = not-again x ids (h .1) m
-
-kept-pending : (test : Request → Bool) (id : Id) (rs : List Request) → Among id (idsOf (kept test rs)) → Among id (idsOf rs)
-kept-pending test id [] h = h
-kept-pending test id (r ∷ rs) h = go (test r) h (kept-pending test id rs)
-  where
-    go : (t : Bool) → Among id (idsOf (consIf t r (kept test rs))) → (Among id (idsOf (kept test rs)) → Among id (idsOf rs)) → Among id (idsOf (r ∷ rs))
-    go true (inl e) rest = inl e
-    go true (inr m) rest = inr (rest m)
-    go false m rest = inr (rest m)
+use Rattle.model.proofs.Promises.SeenLaws as kinds
+use Rattle.model.proofs.Promises.SeenLaws.{seenAs, Finished, step-of}
+use Rattle.model.proofs.Promises.ListLaws.{among-kept, all-mapped}
+use Rattle.model.proofs.Promises.TellsLaws.{tells-not}
+use Rattle.model.proofs.Promises.WordLaws.{pending-request, one-request, passes-stored, stored-tells, first-listed}
+use Rattle.model.proofs.Promises.WordLaws.{left-kept-twice, left-within, left-only}
+use Rattle.model.proofs.Promises.AskedLaws.{askedBy, asked-by}
+use Rattle.model.proofs.Promises.ByTypeLaws.{ofType, Known, ByType, asks, asked-by-type}
 
 -- Of an id that two tests keep there is one request that passes both.
-pub kept-twice : (f g : Request → Bool) (id : Id) (rs : List Request) → RisingIds (idsOf rs) → Among id (idsOf (kept f rs)) → Among id (idsOf (kept g rs))
+kept-twice : (f g : Request → Bool) (id : Id) (rs : List Request) → RisingIds (idsOf rs) → PendingId (kept f rs) id → PendingId (kept g rs) id
     → (r : Request) × (f r ≡ true) × (g r ≡ true)
-kept-twice f g id [] d m n = absurd m
-kept-twice f g id (r ∷ rs) d m n = go (f r) (g r) refl refl (kept-twice f g id rs (d .1)) m n
-  where
-    apart : (test : Request → Bool) → id ≡ r .id → Among id (idsOf (kept test rs)) → ⊥
-    apart test e k = not-again (r .id) (idsOf rs) (d .0) (subst (λ (x : Id). Among x (idsOf rs)) e (kept-pending test id rs k))
-
-    go : (t u : Bool) → f r ≡ t → g r ≡ u
-        → (Among id (idsOf (kept f rs)) → Among id (idsOf (kept g rs)) → (q : Request) × (f q ≡ true) × (g q ≡ true))
-        → Among id (idsOf (consIf t r (kept f rs))) → Among id (idsOf (consIf u r (kept g rs))) → (q : Request) × (f q ≡ true) × (g q ≡ true)
-    go true true p q rest k l = (r, p, q)
-    go true false p q rest (inl e) l = absurd (apart g e l)
-    go true false p q rest (inr k) l = rest k l
-    go false true p q rest k (inl e) = absurd (apart f e k)
-    go false true p q rest k (inr l) = rest k l
-    go false false p q rest k l = rest k l
+kept-twice f g id rs d m n =
+    let (q, a, e) = pending-request id (kept f rs) m in
+    let (r, b, i) = pending-request id (kept g rs) n in
+    let p = among-kept f q rs a in
+    let s = among-kept g r rs b in
+    (q, p .1, ap g (one-request rs d q r (p .0) (s .0) (e ∙ sym i)) ∙ s .1)
 
 -- ---- the ids of a peer that is lost
 
 -- requests as items for the peer that is asked now
-abbrev itemsFor : ℕ → List Request → List Item
-itemsFor peer rs = map (λ (r : Request). record { id = r .id; typeId = r .typeId; peer = peer }) rs
+abbrev itemFor : ℕ → Request → Item
+itemFor peer r = record { id = r .id; typeId = r .typeId; peer = peer }
 
-items-peer : (peer : ℕ) (rs : List Request) → OfPeer peer (itemsFor peer rs)
-items-peer peer [] = tt
-items-peer peer (r ∷ rs) = (refl, items-peer peer rs)
+abbrev itemsFor : ℕ → List Request → List Item
+itemsFor peer rs = map (itemFor peer) rs
 
 items-ids : (typeId peer : ℕ) (rs : List Request) → ofType typeId (itemsFor peer rs) ≡ idsOf (kept (λ (r : Request). eqb (r .typeId) typeId) rs)
-items-ids typeId peer [] = refl
-items-ids typeId peer (r ∷ rs) =
-    go (eqb (r .typeId) typeId) (ofType typeId (itemsFor peer rs)) (kept (λ (q : Request). eqb (q .typeId) typeId) rs) (items-ids typeId peer rs)
-  where
-    go : (t : Bool) (ids : List Id) (others : List Request) → ids ≡ idsOf others → cond t (r .id ∷ ids) ids ≡ idsOf (consIf t r others)
-    go true ids others e = ap (λ (l : List Id). r .id ∷ l) e
-    go false ids others e = e
+items-ids typeId peer rs =
+    rw (kept-map (itemFor peer) (λ (i : Item). eqb (i .typeId) typeId) rs)
+    (map-map (λ (i : Item). i .id) (itemFor peer) (kept (λ (r : Request). eqb (r .typeId) typeId) rs))
 
 module _ (lost : ℕ) where
   -- an orphan of this type
@@ -151,7 +100,8 @@ module _ (lost : ℕ) where
 
     by-type : ByType peer pairs orphans (purgePeer lost pending) asked
     unfolding asked orphans
-    by-type = asked-by-type clock peer pairs orphans (purgePeer lost pending) (items-peer peer (orphansOf lost pending))
+    by-type = asked-by-type clock peer pairs orphans (purgePeer lost pending)
+        (all-mapped (λ (i : Item). i .peer ≡ peer) (itemFor peer) (λ r. refl) (orphansOf lost pending))
 
     -- what keeps an id from being asked for
     abbrev Out : ℕ → Id → Type 0
@@ -178,7 +128,7 @@ module _ (lost : ℕ) where
     -- so that of an orphan only the stored pairs decide
     not-out : (typeId : ℕ) (id : Id) → Among id (idsOf (kept (isOrphan typeId) pending)) → not (isStored pairs typeId id) ≡ true → Out typeId id → ⊥
     not-out typeId id m t (inl (inl k)) = not-pending typeId id m k
-    not-out typeId id m t (inl (inr k)) = fails-stored pairs typeId id (not-true (isStored pairs typeId id) t) k
+    not-out typeId id m t (inl (inr k)) = stored-tells pairs typeId id .passed t k
     not-out typeId id m t (inr k) = not-lower typeId (k .0) id (k .1) m (k .2)
 
     under-orphans : (typeId : ℕ) → under typeId asked ≡ idsOf (kept (λ (r : Request). not (isStored pairs typeId (r .id))) (kept (isOrphan typeId) pending))
@@ -191,10 +141,6 @@ module _ (lost : ℕ) where
 -- ---- the step
 
 module _ (st : State) (call : Call) (o : Orphans (seenAs st call)) where
-  lost-step : stepOf call ≡ Steps.lostPeer (call .peer)
-  unfolding stepOf
-  lost-step = let e : call .kind ≡ numbers.lostPeer = o .kind in rw e
-
   in-syncing : isMode (st .mode) syncing ≡ true
   in-syncing = ap (λ (mode : Mode). isMode mode syncing) (o .mode)
 
@@ -217,9 +163,9 @@ module _ (st : State) (call : Call) (o : Orphans (seenAs st call)) where
   unfolding asked orphans again plan argsOf
   lost-asked peer rising first g =
       let clock : ℕ = call .clock in
-      asked-by-acts st (argsOf call) (ap isCheck lost-step)
-      ∙ ap (λ (gate : Bool). askedBy gate clock (plan st (argsOf call) .acts) (remaining st (argsOf call) (stepOf call))) (eq-eqb (call .gate) 1 g)
-      ∙ ap (λ (step : Step). askedBy true clock (planOf st (argsOf call) step .acts) (remaining st (argsOf call) step)) lost-step
+      let step : Step = Steps.lostPeer (call .peer) in
+      asked-by st (argsOf call) step (step-of call (kinds.lostPeer (o .kind))) refl
+      ∙ ap (λ (gate : Bool). askedBy gate clock (planOf st (argsOf call) step .acts) (remaining st (argsOf call) step)) (eq-eqb (call .gate) 1 g)
       ∙ ap (λ (acts : List Act). askedBy true clock acts (remaining st (argsOf call) (Steps.lostPeer (call .peer)))) (lost-acts peer first)
       ∙ ap (askedBy true clock (again peer)) lost-remaining
 
@@ -235,13 +181,10 @@ module _ (st : State) (call : Call) (o : Orphans (seenAs st call)) where
   left-orphans : (typeId : ℕ) → LeftOf (λ (r : Request). (Orphan (seenAs st call) typeId r → ⊥) ⊎ StoredAs (seenAs st call) typeId (r .id)) (st .pending)
       (kept (λ (r : Request). not (isStored (pairsIn (call .stored)) typeId (r .id))) (kept (isOrphan (call .peer) typeId) (st .pending)))
   left-orphans typeId =
-      left-kept-twice (λ (r : Request). (Orphan (seenAs st call) typeId r → ⊥) ⊎ StoredAs (seenAs st call) typeId (r .id))
+      left-kept-twice (λ (r : Request). Orphan (seenAs st call) typeId r → ⊥) (λ (r : Request). StoredAs (seenAs st call) typeId (r .id))
       (isOrphan (call .peer) typeId) (λ (r : Request). not (isStored (pairsIn (call .stored)) typeId (r .id)))
-      (λ r p n. ⊎-elim (λ k. k (orphan typeId r p))
-      (fails-stored (pairsIn (call .stored)) typeId (r .id) (not-true (isStored (pairsIn (call .stored)) typeId (r .id)) n)))
-      (λ r p. inl (λ k. not-both (isOrphan (call .peer) typeId r) (is-orphan (call .peer) typeId r (k .peer) (k .typed) (k .noTransaction)) p))
-      (λ r n. inr (passes-stored (pairsIn (call .stored)) typeId (r .id) (not-false (isStored (pairsIn (call .stored)) typeId (r .id)) n)))
-      (st .pending)
+      (λ r. tells-not (isOrphan (call .peer) typeId r) (orphan typeId r) (λ k. is-orphan (call .peer) typeId r (k .peer) (k .typed) (k .noTransaction)))
+      (λ r. stored-tells (pairsIn (call .stored)) typeId (r .id)) (st .pending)
 
 pub orphans-asked : (st : State) (call : Call) → Finished st call
     → (peer : ℕ) → call .gate ≡ 1 → Orphans (seenAs st call) → First peer (peersIn (call .peers)) → AsksOrphans (seenAs st call) peer

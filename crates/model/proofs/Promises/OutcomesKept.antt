@@ -1,57 +1,38 @@
 -- The promises on outcomes and modes: each outcome exactly when it is promised, and the mode that follows.
 use Prim.Native.Nat.{ℕ, _+_, _-_, _≤_}
 use mathlib.Core.Path.{_≡_, refl, sym, ap, _∙_, subst}
-use mathlib.Core.Bool.{Bool, true, false, cond, _&&_, _||_, false≢true}
-use mathlib.Core.Logic.{inl, inr}
+use mathlib.Core.Bool.{Bool, true, false, cond, _&&_}
 use mathlib.Core.List.{List, [], _∷_}
 use mathlib.Core.Option.{Option, none, some}
 use native.Mathlib.Omega.{arith}
 use lib.Dec.{eqb, leb, ltb}
 use borrow.Author.Tests.{eqb-true, leb-true, ltb-true, eq-eqb, le-leb, lt-leb, lt-ltb}
-use Rattle.fields.proofs.OrderLaws.{and-left}
 use Rattle.model.specs.Protocol.{Id, headerType}
 use Rattle.model.specs.Settings as settings
-use Rattle.model.specs.State.{Mode, new, seeking, syncing, synced, ended, modeNumber, isMode, hasSyncPeer, State}
+use Rattle.model.specs.State.{Mode, seeking, syncing, synced, ended, isMode, hasSyncPeer, State}
 use Rattle.model.specs.Peers.{firstOf, orElse, firstUnstalled, selectPeer}
 use Rattle.model.specs.Requests.{Act}
 use Rattle.model.specs.Lists.{idsIn, peersIn}
-use Rattle.model.specs.Events.{Outcome, Continue, Synced, BehindPeer, SyncPeerGone, Stalled, EndOfStream, outcomeNumber, tipOutcome, raisedTip, continuation}
+use Rattle.model.specs.Events.{Outcome, Continue, Synced, BehindPeer, SyncPeerGone, Stalled, EndOfStream, outcomeNumber}
+use Rattle.model.specs.Events.{tipOutcome, raisedTip, continuation}
 use Rattle.model.specs.Steps
 use Rattle.model.specs.Steps.{Step, Args, Plan, ofMode, planOf, plan, after}
-use Rattle.model.specs.Image.{modeOf}
+use Rattle.model.specs.Steps.{advances, picks, entersSyncing, continues, advancesAndRequests, leaves, evicts, progresses, checks}
+use Rattle.model.specs.Steps.{hearsSyncInfo, answers, isAtTip, hearsAnnounced, loses, ticksSyncing, ticksSynced, askOrphans}
 use Rattle.model.specs.Calls.{Call, argsOf, stepAnswer}
 use Rattle.model.specs.Promises.Numbers as numbers
 use Rattle.model.specs.Promises.Words.{Seen}
-use Rattle.model.specs.Promises.Outcomes.{Heard, NothingAhead, noHeaders, tipReached, FarAhead, tipAhead, PeerGone, lost, sendFailed, nobodyListed, NoProgress, Outcomes, Taken, Modes}
-use Rattle.model.proofs.Promises.SeenLaws as seen
-use Rattle.model.proofs.Promises.SeenLaws.{seenAs, Finished, Kind, plan-of, kind-of, mode-of}
-
--- ---- modes
-
-mode-numbered : (mode : Mode) → modeOf (modeNumber mode) ≡ mode
-unfolding modeOf
-mode-numbered new = refl
-mode-numbered seeking = refl
-mode-numbered syncing = refl
-mode-numbered synced = refl
-mode-numbered ended = refl
-
--- modes with one number are one
-pub mode-is : (mode other : Mode) → isMode mode other ≡ true → mode ≡ other
-mode-is mode other e = sym (mode-numbered mode) ∙ ap modeOf (eqb-true (modeNumber mode) (modeNumber other) e) ∙ mode-numbered other
-
--- of the modes with a sync peer, the one that is not syncing
-pub is-synced : (mode : Mode) → hasSyncPeer mode ≡ true → isMode mode syncing ≡ false → mode ≡ synced
-is-synced new h e = absurd (false≢true h)
-is-synced seeking h e = absurd (false≢true h)
-is-synced syncing h e = absurd (false≢true (sym e))
-is-synced synced h e = refl
-is-synced ended h e = absurd (false≢true h)
+use Rattle.model.specs.Promises.Outcomes.{Heard, NothingAhead, noHeaders, tipReached, FarAhead, tipAhead, PeerGone, lost}
+use Rattle.model.specs.Promises.Outcomes.{sendFailed, nobodyListed, NoProgress, Outcomes, Modes}
+use Rattle.model.proofs.Promises.SeenLaws as kinds
+use Rattle.model.proofs.Promises.SeenLaws.{seenAs, Finished, Kind, syncInfoOf, heardTip, Hears, is-heard, plan-of, kind-of, mode-of}
+use Rattle.model.proofs.Promises.ModeLaws.{mode-is, is-not-mode, is-synced}
+use Rattle.model.proofs.Promises.WrongCallLaws.{mode-fits, fits-taken}
 
 -- ---- why an outcome is given
 
 -- what is promised of a call that has this outcome
-abbrev Why : Seen → Outcome → Type 0
+abbrev pub Why : Seen → Outcome → Type 0
 Why s Continue = Unit {0}
 Why s Synced = NothingAhead s
 Why s BehindPeer = FarAhead s
@@ -61,12 +42,12 @@ Why s EndOfStream = s .call .kind ≡ numbers.endOfStream
 
 -- a sync info's outcome is the plan's
 answers-outcome : (st : State) (a : Args) (peer : ℕ) (acts : List Act) (tip : ℕ) (fromSyncPeer : Bool) (ours : ℕ) (known : Option ℕ)
-    → Steps.answers st a peer acts tip (tipOutcome fromSyncPeer ours known) .outcome ≡ tipOutcome fromSyncPeer ours known
-unfolding Steps.answers Steps.isAtTip Steps.entersSyncing tipOutcome
+    → answers st a peer acts tip (tipOutcome fromSyncPeer ours known) .outcome ≡ tipOutcome fromSyncPeer ours known
+unfolding answers isAtTip entersSyncing tipOutcome
 answers-outcome st a peer acts tip fromSyncPeer ours none = refl
 answers-outcome st a peer acts tip fromSyncPeer ours (some theirs) = go (fromSyncPeer && leb theirs ours) (ltb (ours + 1) theirs)
   where
-    go : (t u : Bool) → Steps.answers st a peer acts tip (cond t Synced (cond u BehindPeer Continue)) .outcome ≡ cond t Synced (cond u BehindPeer Continue)
+    go : (t u : Bool) → answers st a peer acts tip (cond t Synced (cond u BehindPeer Continue)) .outcome ≡ cond t Synced (cond u BehindPeer Continue)
     go true u = refl
     go false true = refl
     go false false = refl
@@ -82,17 +63,10 @@ module _ (st : State) (call : Call) where
   abbrev fromSyncPeer : Bool
   fromSyncPeer = eqb (call .peer) (st .sync .syncPeer)
 
-  -- the tip that a sync info names, if it was understood
-  abbrev known : Option ℕ
-  known = cond (eqb (call .parsed) 1) (cond (eqb (call .hastip) 1) (some (call .tip)) none) none
-
-  why-tip : call .kind ≡ numbers.syncInfo → call .parsed ≡ 1 → call .hastip ≡ 1 → Why s (tipOutcome fromSyncPeer (call .height) (some (call .tip)))
+  why-tip : Heard s (call .tip) → Why s (tipOutcome fromSyncPeer (call .height) (some (call .tip)))
   unfolding tipOutcome
-  why-tip k p h = go fromSyncPeer (leb (call .tip) (call .height)) (ltb (call .height + 1) (call .tip)) refl refl refl
+  why-tip said = go fromSyncPeer (leb (call .tip) (call .height)) (ltb (call .height + 1) (call .tip)) refl refl refl
     where
-      said : Heard s (call .tip)
-      said = record { kind = k; parsed = p; named = h; names = refl }
-
       go : (b t u : Bool) → fromSyncPeer ≡ b → leb (call .tip) (call .height) ≡ t → ltb (call .height + 1) (call .tip) ≡ u
           → Why s (cond (b && t) Synced (cond u BehindPeer Continue))
       go true true u f e g = tipReached (call .tip) said (eqb-true (call .peer) (st .sync .syncPeer) f) (leb-true (call .tip) (call .height) e)
@@ -101,43 +75,41 @@ module _ (st : State) (call : Call) where
       go false t true f e g = tipAhead (call .tip) said (ltb-true (call .height + 1) (call .tip) g)
       go false t false f e g = tt
 
-  why-info : call .kind ≡ numbers.syncInfo → Why s (tipOutcome fromSyncPeer (call .height) known)
+  pub why-info : call .kind ≡ numbers.syncInfo → Why s (tipOutcome fromSyncPeer (call .height) (heardTip call))
   unfolding tipOutcome
-  why-info k = go (eqb (call .parsed) 1) (eqb (call .hastip) 1) refl refl
+  why-info k = go (heardTip call) (is-heard s k)
     where
-      go : (t u : Bool) → eqb (call .parsed) 1 ≡ t → eqb (call .hastip) 1 ≡ u
-          → Why s (tipOutcome fromSyncPeer (call .height) (cond t (cond u (some (call .tip)) none) none))
-      go true true p h = why-tip k (eqb-true (call .parsed) 1 p) (eqb-true (call .hastip) 1 h)
-      go true false p h = tt
-      go false u p h = tt
+      go : (tip : Option ℕ) → Hears s tip → Why s (tipOutcome fromSyncPeer (call .height) tip)
+      go tip (kinds.aTip h) = why-tip h
+      go tip (kinds.noTip n) = tt
 
   why-announced : call .kind ≡ numbers.announcedIds → (ids : List Id) → idsIn (call .ids) ≡ ids
-      → Why s (Steps.hearsAnnounced st a (call .peer) (call .typeid) ids .outcome)
-  unfolding Steps.hearsAnnounced Steps.isAtTip Steps.continues
+      → Why s (hearsAnnounced st a (call .peer) (call .typeid) ids .outcome)
+  unfolding hearsAnnounced isAtTip continues
   why-announced k [] e = go (eqb (call .typeid) headerType) refl
     where
       go : (t : Bool) → eqb (call .typeid) headerType ≡ t
-          → Why s ((cond {A = Plan} t (Steps.isAtTip st a [] (st .sync .knownTip)) (Steps.continues st a [])) .outcome)
+          → Why s ((cond {A = Plan} t (isAtTip st a [] (st .sync .knownTip)) (continues st a [])) .outcome)
       go true h = noHeaders k (eqb-true (call .typeid) headerType h) e
       go false h = tt
   why-announced k (id ∷ ids) e = tt
 
-  why-lost : call .kind ≡ numbers.lostPeer → Why s (Steps.loses st a (call .peer) .outcome)
-  unfolding Steps.loses Steps.leaves Steps.continues
-  why-lost k = go fromSyncPeer refl (cond (isMode (st .mode) syncing) (Steps.askOrphans st a (call .peer) (firstOf (a .peers))) [])
+  why-lost : call .kind ≡ numbers.lostPeer → Why s (loses st a (call .peer) .outcome)
+  unfolding loses leaves continues
+  why-lost k = go fromSyncPeer refl (cond (isMode (st .mode) syncing) (askOrphans st a (call .peer) (firstOf (a .peers))) [])
     where
       go : (t : Bool) → fromSyncPeer ≡ t → (acts : List Act)
-          → Why s ((cond {A = Plan} t (Steps.leaves st a SyncPeerGone seeking acts) (Steps.continues st a [])) .outcome)
+          → Why s ((cond {A = Plan} t (leaves st a SyncPeerGone seeking acts) (continues st a [])) .outcome)
       go true e acts = lost k (eqb-true (call .peer) (st .sync .syncPeer) e)
       go false e acts = tt
 
   why-tick : call .kind ≡ numbers.scheduledTick → hasSyncPeer (st .mode) ≡ true → Why s (planOf st a Steps.scheduledTick .outcome)
-  unfolding planOf argsOf settings.stalled Steps.ticksSyncing Steps.ticksSynced Steps.leaves
+  unfolding planOf argsOf settings.stalled ticksSyncing ticksSynced leaves
   why-tick k h = go (isMode (st .mode) syncing) refl (ltb (st .settings .stallTimeout) (call .clock - st .sync .lastProgress)) refl (peersIn (call .peers)) refl
     where
       go : (t : Bool) → isMode (st .mode) syncing ≡ t → (late : Bool) → ltb (st .settings .stallTimeout) (call .clock - st .sync .lastProgress) ≡ late
           → (peers : List ℕ) → peersIn (call .peers) ≡ peers
-          → Why s ((cond {A = Plan} t (Steps.ticksSyncing st a late) (Steps.ticksSynced st a (firstOf peers))) .outcome)
+          → Why s ((cond {A = Plan} t (ticksSyncing st a late) (ticksSynced st a (firstOf peers))) .outcome)
       go true m true l peers e =
           let above = ltb-true (st .settings .stallTimeout) (call .clock - st .sync .lastProgress) l in
           record { kind = k; mode = mode-is (st .mode) syncing m; late = omega arith }
@@ -145,42 +117,39 @@ module _ (st : State) (call : Call) where
       go false m late l [] e = nobodyListed k (is-synced (st .mode) h m) e
       go false m late l (p ∷ peers) e = tt
 
-  abbrev info : Step
-  info = Steps.syncInfo (call .peer) (eqb (call .parsed) 1) (cond (eqb (call .hastip) 1) (some (call .tip)) none) (idsIn (call .continuation))
-
-  info-outcome : planOf st a info .outcome ≡ tipOutcome fromSyncPeer (call .height) known
-  unfolding planOf Steps.hearsSyncInfo argsOf
+  info-outcome : planOf st a (syncInfoOf call) .outcome ≡ tipOutcome fromSyncPeer (call .height) (heardTip call)
+  unfolding planOf hearsSyncInfo argsOf
   info-outcome =
-      answers-outcome st a (call .peer) (continuation (eqb (call .parsed) 1) (call .height) known (call .peer) (idsIn (call .continuation)))
-      (raisedTip (st .sync .knownTip) known) fromSyncPeer (call .height) known
+      answers-outcome st a (call .peer) (continuation (eqb (call .parsed) 1) (call .height) (heardTip call) (call .peer) (idsIn (call .continuation)))
+      (raisedTip (st .sync .knownTip) (heardTip call)) fromSyncPeer (call .height) (heardTip call)
 
   -- Every outcome has its reason.
   why : {step : Step} → Kind call step → ofMode (st .mode) (st .sync .entrySent) step ≡ true → Why s (planOf st a step .outcome)
-  unfolding planOf ofMode Steps.advances Steps.picks Steps.entersSyncing Steps.continues Steps.advancesAndRequests Steps.leaves Steps.evicts Steps.progresses Steps.checks Steps.hearsSyncInfo argsOf
-  why (seen.start k) m = tt
-  why (seen.pick k) m = go (selectPeer (st .sync .stalledPeers) (a .peers))
+  unfolding planOf ofMode advances picks entersSyncing continues advancesAndRequests leaves evicts progresses checks hearsSyncInfo argsOf
+  why (kinds.start k) m = tt
+  why (kinds.pick k) m = go (selectPeer (st .sync .stalledPeers) (a .peers))
     where
-      go : (peer : Option ℕ) → Why s (Steps.picks st a peer .outcome)
+      go : (peer : Option ℕ) → Why s (picks st a peer .outcome)
       go none = tt
       go (some peer) = tt
-  why (seen.neededModifier k) m = tt
-  why (seen.reorg k) m = tt
-  why (seen.announcedIds k) m = why-announced k (idsIn (call .ids)) refl
-  why (seen.syncInfo k) m = subst (Why s) (sym info-outcome) (why-info k)
-  why (seen.otherMessage k) m = tt
-  why (seen.lostPeer k) m = why-lost k
-  why (seen.receivedIds k) m = tt
-  why (seen.evictedIds k) m = tt
-  why (seen.progress k) m = go (isMode (st .mode) syncing)
+  why (kinds.neededModifier k) m = tt
+  why (kinds.reorg k) m = tt
+  why (kinds.announcedIds k) m = why-announced k (idsIn (call .ids)) refl
+  why (kinds.syncInfo k) m = subst (Why s) (sym info-outcome) (why-info k)
+  why (kinds.otherMessage k) m = tt
+  why (kinds.lostPeer k) m = why-lost k
+  why (kinds.receivedIds k) m = tt
+  why (kinds.evictedIds k) m = tt
+  why (kinds.progress k) m = go (isMode (st .mode) syncing)
     where
-      go : (t : Bool) → Why s (Steps.progresses st a t .outcome)
+      go : (t : Bool) → Why s (progresses st a t .outcome)
       go true = tt
       go false = tt
-  why (seen.check k) m = tt
-  why (seen.scheduledTick k) m = why-tick k m
-  why (seen.sectionTick k) m = tt
-  why (seen.sendFailure k) m = sendFailed k
-  why (seen.endOfStream k) m = k
+  why (kinds.check k) m = tt
+  why (kinds.scheduledTick k) m = why-tick k m
+  why (kinds.sectionTick k) m = tt
+  why (kinds.sendFailure k) m = sendFailed k
+  why (kinds.endOfStream k) m = k
 
   -- ---- and every reason gives its outcome
 
@@ -188,18 +157,18 @@ module _ (st : State) (call : Call) where
   outcome-of k o e = ap (λ (p : Plan). p .outcome) (plan-of st call k) ∙ e
 
   -- a tip that was heard is known
-  known-tip : (tip : ℕ) → Heard s tip → known ≡ some tip
+  known-tip : (tip : ℕ) → Heard s tip → heardTip call ≡ some tip
   known-tip tip h = rw (eq-eqb (call .parsed) 1 (h .parsed), eq-eqb (call .hastip) 1 (h .named)) (ap some (h .names))
 
   hears : (tip : ℕ) → Heard s tip → plan st a .outcome ≡ tipOutcome fromSyncPeer (call .height) (some tip)
   hears tip h =
-      outcome-of (seen.syncInfo (h .kind)) (tipOutcome fromSyncPeer (call .height) (some tip))
+      outcome-of (kinds.syncInfo (h .kind)) (tipOutcome fromSyncPeer (call .height) (some tip))
       (info-outcome ∙ ap (tipOutcome fromSyncPeer (call .height)) (known-tip tip h))
 
   gives-synced : NothingAhead s → plan st a .outcome ≡ Synced
-  unfolding planOf Steps.hearsAnnounced Steps.isAtTip tipOutcome
+  unfolding planOf hearsAnnounced isAtTip tipOutcome
   gives-synced (noHeaders k t e) =
-      outcome-of (seen.announcedIds k) Synced (rw (e, eq-eqb (call .typeid) headerType t))
+      outcome-of (kinds.announcedIds k) Synced (rw (e, eq-eqb (call .typeid) headerType t))
   gives-synced (tipReached tip h p l) = hears tip h ∙ rw (eq-eqb (call .peer) (st .sync .syncPeer) p, le-leb tip (call .height) l)
 
   gives-behind : FarAhead s → plan st a .outcome ≡ BehindPeer
@@ -212,23 +181,23 @@ module _ (st : State) (call : Call) where
       go false = refl
 
   gives-gone : PeerGone s → plan st a .outcome ≡ SyncPeerGone
-  unfolding planOf Steps.loses Steps.leaves Steps.ticksSynced argsOf
-  gives-gone (lost k e) = outcome-of (seen.lostPeer k) SyncPeerGone (rw (eq-eqb (call .peer) (st .sync .syncPeer) e))
-  gives-gone (sendFailed k) = outcome-of (seen.sendFailure k) SyncPeerGone refl
-  gives-gone (nobodyListed k m e) = outcome-of (seen.scheduledTick k) SyncPeerGone (rw (m, e))
+  unfolding planOf loses leaves ticksSynced argsOf
+  gives-gone (lost k e) = outcome-of (kinds.lostPeer k) SyncPeerGone (rw (eq-eqb (call .peer) (st .sync .syncPeer) e))
+  gives-gone (sendFailed k) = outcome-of (kinds.sendFailure k) SyncPeerGone refl
+  gives-gone (nobodyListed k m e) = outcome-of (kinds.scheduledTick k) SyncPeerGone (rw (m, e))
 
   gives-stalled : NoProgress s → plan st a .outcome ≡ Stalled
-  unfolding planOf Steps.ticksSyncing settings.stalled argsOf
+  unfolding planOf ticksSyncing settings.stalled argsOf
   gives-stalled n =
       let late = n .late in
       let l : ltb (st .settings .stallTimeout) (call .clock - st .sync .lastProgress) ≡ true =
       lt-ltb (st .settings .stallTimeout) (call .clock - st .sync .lastProgress) (omega arith)
       in
-      outcome-of (seen.scheduledTick (n .kind)) Stalled (rw (n .mode, l))
+      outcome-of (kinds.scheduledTick (n .kind)) Stalled (rw (n .mode, l))
 
   gives-end : call .kind ≡ numbers.endOfStream → plan st a .outcome ≡ EndOfStream
-  unfolding planOf Steps.leaves
-  gives-end k = outcome-of (seen.endOfStream k) EndOfStream refl
+  unfolding planOf leaves
+  gives-end k = outcome-of (kinds.endOfStream k) EndOfStream refl
 
   -- ---- by the outcomes' numbers
 
@@ -258,7 +227,7 @@ few-outcomes Stalled = omega arith
 few-outcomes EndOfStream = omega arith
 
 -- outcomes with one number are one
-pub outcome-is : (o p : Outcome) → outcomeNumber o ≡ outcomeNumber p → o ≡ p
+outcome-is : (o p : Outcome) → outcomeNumber o ≡ outcomeNumber p → o ≡ p
 outcome-is o p e = sym (numbered o) ∙ ap outcomeOf e ∙ numbered p
 
 -- the mode that an outcome leads to
@@ -270,54 +239,17 @@ LeadsTo before kind SyncPeerGone mode = mode ≡ seeking
 LeadsTo before kind Stalled mode = mode ≡ seeking
 LeadsTo before kind EndOfStream mode = mode ≡ cond (isMode before seeking) ended seeking
 
--- the kinds from needed modifier to scheduled tick are of both modes with a sync peer
-taken-both : (mode : Mode) (kind : ℕ) → hasSyncPeer mode ≡ true → 3 ≤ kind → kind ≤ 13 → Taken mode kind
-taken-both new kind h l u = absurd (false≢true h)
-taken-both seeking kind h l u = absurd (false≢true h)
-taken-both syncing kind h l u = inl (l, u)
-taken-both synced kind h l u = inl (l, omega arith)
-taken-both ended kind h l u = absurd (false≢true h)
-
-taken-end : (mode : Mode) (kind : ℕ) → isMode mode seeking || hasSyncPeer mode ≡ true → kind ≡ numbers.endOfStream → Taken mode kind
-taken-end new kind h k = absurd (false≢true h)
-taken-end seeking kind h k = inr k
-taken-end syncing kind h k = inr (inr k)
-taken-end synced kind h k = inr k
-taken-end ended kind h k = absurd (false≢true h)
-
 module _ (st : State) (call : Call) where
   abbrev arguments : Args
   arguments = argsOf call
-
-  taken-in : (mode : Mode) → isMode (st .mode) mode ≡ true → Taken mode (call .kind) → Taken (st .mode) (call .kind)
-  taken-in mode m t = subst (λ (x : Mode). Taken x (call .kind)) (sym (mode-is (st .mode) mode m)) t
-
-  taken : {step : Step} → Kind call step → ofMode (st .mode) (st .sync .entrySent) step ≡ true → Taken (st .mode) (call .kind)
-  unfolding ofMode
-  taken (seen.start k) m = taken-in new m k
-  taken (seen.pick k) m = taken-in seeking m (inl k)
-  taken (seen.neededModifier k) m = let e = k in taken-both (st .mode) (call .kind) m (omega arith) (omega arith)
-  taken (seen.reorg k) m = let e = k in taken-both (st .mode) (call .kind) m (omega arith) (omega arith)
-  taken (seen.announcedIds k) m = let e = k in taken-both (st .mode) (call .kind) m (omega arith) (omega arith)
-  taken (seen.syncInfo k) m = let e = k in taken-both (st .mode) (call .kind) m (omega arith) (omega arith)
-  taken (seen.otherMessage k) m = let e = k in taken-both (st .mode) (call .kind) m (omega arith) (omega arith)
-  taken (seen.lostPeer k) m = let e = k in taken-both (st .mode) (call .kind) m (omega arith) (omega arith)
-  taken (seen.receivedIds k) m = let e = k in taken-both (st .mode) (call .kind) m (omega arith) (omega arith)
-  taken (seen.evictedIds k) m = let e = k in taken-both (st .mode) (call .kind) m (omega arith) (omega arith)
-  taken (seen.progress k) m = let e = k in taken-both (st .mode) (call .kind) m (omega arith) (omega arith)
-  taken (seen.check k) m = let e = k in taken-both (st .mode) (call .kind) m (omega arith) (omega arith)
-  taken (seen.scheduledTick k) m = let e = k in taken-both (st .mode) (call .kind) m (omega arith) (omega arith)
-  taken (seen.sectionTick k) m = let e = k in taken-in synced m (inl (omega arith, omega arith))
-  taken (seen.sendFailure k) m = taken-in syncing (and-left (isMode (st .mode) syncing) (st .sync .entrySent) m) (inr (inl k))
-  taken (seen.endOfStream k) m = taken-end (st .mode) (call .kind) m k
 
   -- ---- what follows
 
   abbrev Leads : Plan → Type 0
   Leads p = LeadsTo (st .mode) (call .kind) (p .outcome) (p .mode)
 
-  leads-answers : (peer : ℕ) (acts : List Act) (tip : ℕ) (o : Outcome) → Leads (Steps.answers st arguments peer acts tip o)
-  unfolding Steps.answers Steps.isAtTip Steps.entersSyncing Steps.continues
+  leads-answers : (peer : ℕ) (acts : List Act) (tip : ℕ) (o : Outcome) → Leads (answers st arguments peer acts tip o)
+  unfolding answers isAtTip entersSyncing continues
   leads-answers peer acts tip Continue = λ n m. refl
   leads-answers peer acts tip Synced = refl
   leads-answers peer acts tip BehindPeer = refl
@@ -325,100 +257,99 @@ module _ (st : State) (call : Call) where
   leads-answers peer acts tip Stalled = λ n m. refl
   leads-answers peer acts tip EndOfStream = λ n m. refl
 
-  leads-announced : (peer typeId : ℕ) (ids : List Id) → Leads (Steps.hearsAnnounced st arguments peer typeId ids)
-  unfolding Steps.hearsAnnounced Steps.isAtTip Steps.continues
+  leads-announced : (peer typeId : ℕ) (ids : List Id) → Leads (hearsAnnounced st arguments peer typeId ids)
+  unfolding hearsAnnounced isAtTip continues
   leads-announced peer typeId [] = go (eqb typeId headerType)
     where
-      go : (t : Bool) → Leads (cond t (Steps.isAtTip st arguments [] (st .sync .knownTip)) (Steps.continues st arguments []))
+      go : (t : Bool) → Leads (cond t (isAtTip st arguments [] (st .sync .knownTip)) (continues st arguments []))
       go true = refl
       go false = λ n m. refl
   leads-announced peer typeId (id ∷ ids) = λ n m. refl
 
-  leads-lost : (peer : ℕ) → Leads (Steps.loses st arguments peer)
-  unfolding Steps.loses Steps.leaves Steps.continues
-  leads-lost peer = go (eqb peer (st .sync .syncPeer)) (cond (isMode (st .mode) syncing) (Steps.askOrphans st arguments peer (firstOf (arguments .peers))) [])
+  leads-lost : (peer : ℕ) → Leads (loses st arguments peer)
+  unfolding loses leaves continues
+  leads-lost peer = go (eqb peer (st .sync .syncPeer)) (cond (isMode (st .mode) syncing) (askOrphans st arguments peer (firstOf (arguments .peers))) [])
     where
-      go : (t : Bool) (acts : List Act) → Leads (cond t (Steps.leaves st arguments SyncPeerGone seeking acts) (Steps.continues st arguments []))
+      go : (t : Bool) (acts : List Act) → Leads (cond t (leaves st arguments SyncPeerGone seeking acts) (continues st arguments []))
       go true acts = refl
       go false acts = λ n m. refl
 
   leads-tick : (t late : Bool) (peer : Option ℕ) → isMode (st .mode) syncing ≡ t
-      → Leads (cond t (Steps.ticksSyncing st arguments late) (Steps.ticksSynced st arguments peer))
-  unfolding Steps.ticksSyncing Steps.ticksSynced Steps.leaves
+      → Leads (cond t (ticksSyncing st arguments late) (ticksSynced st arguments peer))
+  unfolding ticksSyncing ticksSynced leaves
   leads-tick true true peer e = refl
   leads-tick true false peer e = λ n m. sym (mode-is (st .mode) syncing e)
   leads-tick false late none e = refl
   leads-tick false late (some peer) e = λ n m. refl
 
-  leads-progress : (t : Bool) → isMode (st .mode) syncing ≡ t → Leads (Steps.progresses st arguments t)
-  unfolding Steps.progresses
+  leads-progress : (t : Bool) → isMode (st .mode) syncing ≡ t → Leads (progresses st arguments t)
+  unfolding progresses
   leads-progress true e = λ n m. sym (mode-is (st .mode) syncing e)
   leads-progress false e = λ n m. refl
 
-  leads-pick : call .kind ≡ numbers.pick → (peer : Option ℕ) → Leads (Steps.picks st arguments peer)
-  unfolding Steps.picks Steps.entersSyncing
+  leads-pick : call .kind ≡ numbers.pick → (peer : Option ℕ) → Leads (picks st arguments peer)
+  unfolding picks entersSyncing
   leads-pick k none = λ n m. absurd (m k)
   leads-pick k (some peer) = λ n m. absurd (m k)
 
   leads : {step : Step} → Kind call step → Leads (planOf st arguments step)
-  unfolding planOf Steps.advances Steps.continues Steps.advancesAndRequests Steps.leaves Steps.evicts Steps.checks Steps.hearsSyncInfo
-  leads (seen.start k) = λ n m. absurd (n k)
-  leads (seen.pick k) = leads-pick k (selectPeer (st .sync .stalledPeers) (arguments .peers))
-  leads (seen.neededModifier k) = λ n m. refl
-  leads (seen.reorg k) = λ n m. refl
-  leads (seen.announcedIds k) = leads-announced (call .peer) (call .typeid) (idsIn (call .ids))
-  leads (seen.syncInfo k) =
-      let heard = known st call in
+  unfolding planOf advances continues advancesAndRequests leaves evicts checks hearsSyncInfo
+  leads (kinds.start k) = λ n m. absurd (n k)
+  leads (kinds.pick k) = leads-pick k (selectPeer (st .sync .stalledPeers) (arguments .peers))
+  leads (kinds.neededModifier k) = λ n m. refl
+  leads (kinds.reorg k) = λ n m. refl
+  leads (kinds.announcedIds k) = leads-announced (call .peer) (call .typeid) (idsIn (call .ids))
+  leads (kinds.syncInfo k) =
+      let heard = heardTip call in
       leads-answers (call .peer) (continuation (eqb (call .parsed) 1) (arguments .chainHeight) heard (call .peer) (idsIn (call .continuation)))
       (raisedTip (st .sync .knownTip) heard) (tipOutcome (eqb (call .peer) (st .sync .syncPeer)) (arguments .chainHeight) heard)
-  leads (seen.otherMessage k) = λ n m. refl
-  leads (seen.lostPeer k) = leads-lost (call .peer)
-  leads (seen.receivedIds k) = λ n m. refl
-  leads (seen.evictedIds k) = λ n m. refl
-  leads (seen.progress k) = leads-progress (isMode (st .mode) syncing) refl
-  leads (seen.check k) = λ n m. refl
-  leads (seen.scheduledTick k) =
+  leads (kinds.otherMessage k) = λ n m. refl
+  leads (kinds.lostPeer k) = leads-lost (call .peer)
+  leads (kinds.receivedIds k) = λ n m. refl
+  leads (kinds.evictedIds k) = λ n m. refl
+  leads (kinds.progress k) = leads-progress (isMode (st .mode) syncing) refl
+  leads (kinds.check k) = λ n m. refl
+  leads (kinds.scheduledTick k) =
       leads-tick (isMode (st .mode) syncing) (settings.stalled (st .settings) (arguments .clock) (st .sync .lastProgress)) (firstOf (arguments .peers)) refl
-  leads (seen.sectionTick k) = λ n m. refl
-  leads (seen.sendFailure k) = refl
-  leads (seen.endOfStream k) = refl
+  leads (kinds.sectionTick k) = λ n m. refl
+  leads (kinds.sendFailure k) = refl
+  leads (kinds.endOfStream k) = refl
 
   -- a pick: with nobody listed nobody is chosen, else somebody is
   picks-nobody : call .kind ≡ numbers.pick → peersIn (call .peers) ≡ [] → plan st arguments .mode ≡ seeking
-  unfolding planOf selectPeer firstUnstalled Steps.picks argsOf
-  picks-nobody k e = ap (λ (p : Plan). p .mode) (plan-of st call (seen.pick k)) ∙ rw e
+  unfolding planOf selectPeer firstUnstalled picks argsOf
+  picks-nobody k e = ap (λ (p : Plan). p .mode) (plan-of st call (kinds.pick k)) ∙ rw e
 
   picks-somebody : call .kind ≡ numbers.pick → (peersIn (call .peers) ≡ [] → ⊥) → plan st arguments .mode ≡ syncing
-  unfolding planOf selectPeer Steps.picks Steps.entersSyncing argsOf
+  unfolding planOf selectPeer picks entersSyncing argsOf
   picks-somebody k n =
-      ap (λ (p : Plan). p .mode) (plan-of st call (seen.pick k)) ∙ go (peersIn (call .peers)) n (firstUnstalled (st .sync .stalledPeers) (peersIn (call .peers)))
+      ap (λ (p : Plan). p .mode) (plan-of st call (kinds.pick k))
+      ∙ go (peersIn (call .peers)) n (firstUnstalled (st .sync .stalledPeers) (peersIn (call .peers)))
     where
-      go : (peers : List ℕ) → (peers ≡ [] → ⊥) → (choice : Option ℕ) → Steps.picks st arguments (orElse choice (firstOf peers)) .mode ≡ syncing
+      go : (peers : List ℕ) → (peers ≡ [] → ⊥) → (choice : Option ℕ) → picks st arguments (orElse choice (firstOf peers)) .mode ≡ syncing
       go [] n choice = absurd (n refl)
       go (p ∷ peers) n none = refl
       go (p ∷ peers) n (some q) = refl
 
   starts-seeking : call .kind ≡ numbers.start → plan st arguments .mode ≡ seeking
-  unfolding planOf Steps.advances
-  starts-seeking k = ap (λ (p : Plan). p .mode) (plan-of st call (seen.start k))
+  unfolding planOf advances
+  starts-seeking k = ap (λ (p : Plan). p .mode) (plan-of st call (kinds.start k))
 
 -- the mode at the end of the stream
 ended-from : (mode : Mode) → mode ≡ seeking → cond (isMode mode seeking) ended seeking ≡ ended
 ended-from mode e = rw e
 
 stops-from : (mode : Mode) → (mode ≡ seeking → ⊥) → cond (isMode mode seeking) ended seeking ≡ seeking
-stops-from new n = refl
-stops-from seeking n = absurd (n refl)
-stops-from syncing n = refl
-stops-from synced n = refl
-stops-from ended n = refl
+stops-from mode n = rw (is-not-mode mode seeking n)
 
 module _ (st : State) (call : Call) (f : Finished st call) where
   abbrev given : Args
   given = argsOf call
 
   reason : Why (seenAs st call) (plan st given .outcome)
-  reason = subst (λ (p : Plan). Why (seenAs st call) (p .outcome)) (sym (plan-of st call (kind-of st call f))) (why st call (kind-of st call f) (mode-of st call f))
+  reason =
+      subst (λ (p : Plan). Why (seenAs st call) (p .outcome)) (sym (plan-of st call (kind-of st call f)))
+      (why st call (kind-of st call f) (mode-of st call f))
 
   -- what an outcome with this number has for a reason
   reason-of : (o : Outcome) → stepAnswer st given .outcome ≡ outcomeNumber o → Why (seenAs st call) o
@@ -451,7 +382,7 @@ module _ (st : State) (call : Call) (f : Finished st call) where
   unfolding after
   modes-kept =
       record {
-        taken = taken st call (kind-of st call f) (mode-of st call f);
+        taken = fits-taken (st .mode) (st .sync .entrySent) call (mode-fits (st .mode) (st .sync .entrySent) call (kind-of st call f)) (mode-of st call f);
         started = starts-seeking st call;
         nonePicked = picks-nobody st call;
         picked = picks-somebody st call;

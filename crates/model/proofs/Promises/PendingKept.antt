@@ -1,111 +1,68 @@
 -- Pending and evicted requests: the promises of specs/Promises/Pending are kept.
 use Prim.Native.Nat.{ℕ, _≤_}
 use mathlib.Core.Path.{_≡_, refl, sym, ap, _∙_, subst}
-use mathlib.Core.Bool.{Bool, true, false, not, cond, _&&_, false≢true}
+use mathlib.Core.Bool.{Bool, true, false, not, cond, _&&_}
 use mathlib.Core.Logic.{_⊎_, inl, inr, ⊎-elim}
 use mathlib.Core.List.{List, [], _∷_, _++_, map}
-use mathlib.Core.Option.{Option, none, some}
-use lib.Dec.{eqb}
+use mathlib.Core.Option.{none}
 use native.Mathlib.Omega.{arith}
 use native.Mathlib.Nat.{eq-or-lt-of-le}
+use lib.Dec.{eqb}
 use borrow.Author.Tests.{eqb-true, eqb-false}
 use Rattle.fields.specs.Facts.{All}
 use Rattle.fields.specs.Filter.{kept}
 use Rattle.fields.specs.Sort.{sorted}
-use Rattle.fields.proofs.AllLaws.{either}
-use Rattle.fields.proofs.OrderLaws.{not-both}
 use Rattle.fields.specs.Order.{before}
-use Rattle.model.proofs.Well.{RisingIds}
-use Rattle.model.specs.Protocol.{Id, headerType, isAmong}
+use Rattle.fields.proofs.OrderLaws.{not-both}
+use Rattle.model.specs.Protocol.{Id, isAmong}
 use Rattle.model.specs.Settings as settings
 use Rattle.model.specs.Delivery
-use Rattle.model.specs.Delivery.{idsOf, Request, Verdict, verdict, verdictNumber, checkTimeouts, judged}
+use Rattle.model.specs.Delivery.{idsOf, Request, verdict, verdictNumber, checkTimeouts, judged}
 use Rattle.model.specs.Delivery.{markReceived, pendingAfterEviction, evictedAfterEviction, purgePeer, purgeAll}
-use Rattle.model.specs.State.{State, Mode, syncing, seeking, isMode}
+use Rattle.model.specs.State.{State, syncing, isMode}
 use Rattle.model.specs.Peers.{firstOf, selectPeer}
-use Rattle.model.specs.Requests.{Act}
-use Rattle.model.specs.Events.{Outcome, Continue, Synced, BehindPeer, SyncPeerGone, Stalled, EndOfStream}
-use Rattle.model.specs.Steps.{Step, Args, isCheck, Plan, planOf, plan, remaining, retried, performed, after, commands}
-use Rattle.model.specs.Steps.{unmarked, withoutPeer, continues, leaves, advances, advancesAndRequests, entersSyncing, picks, isAtTip, answers}
-use Rattle.model.specs.Steps.{hearsSyncInfo, hearsAnnounced, askOrphans, loses, ticksSyncing, ticksSynced, progresses, checks, evicts}
-use Rattle.model.specs.Check.{retryTarget, retryOf, retries, markAllRetried, retrySendings}
+use Rattle.model.specs.Steps.{Step, Args, isCheck, planOf, plan, remaining, retried, performed, after, commands}
+use Rattle.model.specs.Steps.{unmarked, withoutPeer, continues, leaves, advances, advancesAndRequests}
+use Rattle.model.specs.Steps.{hearsSyncInfo, checks, evicts}
+use Rattle.model.specs.Check.{retryOf, retries, markAllRetried}
 use Rattle.model.specs.Sections.{Item, itemBelow}
 use Rattle.model.specs.Book.{Requested, requestedIn}
 use Rattle.model.specs.Lists.{idsIn, peersIn}
 use Rattle.model.specs.Calls.{Call, stepOf, argsOf}
-use Rattle.model.specs.Promises.Numbers
+use Rattle.model.specs.Promises.Numbers as numbers
 use Rattle.model.specs.Promises.Words.{Seen, Among}
 use Rattle.model.specs.Promises.Pending as pending
 use Rattle.model.specs.Promises.Pending.{Retried, TakenOut, Becomes, asRequested, Entered, Stayed, IdsRise, Pending, Evicted}
-use Rattle.model.proofs.Widths.{WellAct}
-use Rattle.model.proofs.PlanLaws.{plan-well}
-use Rattle.model.proofs.RequestedLaws.{requestedItem, requestedBySendings, requested-append, requested-commands, requested-retries}
+use Rattle.model.proofs.Well.{RisingIds}
+use Rattle.model.proofs.RequestedLaws.{requestedItem, requestedBySendings}
 use Rattle.model.proofs.Promises.SeenLaws as kinds
-use Rattle.model.proofs.Promises.SeenLaws.{seenAs, Finished, Kind, kind-of, mode-of, numbers-fit}
-use Rattle.model.proofs.Promises.DecidedLaws.{decides-as, among-decides, eqb-decides, is-syncing, is-check, verdict-number}
-use Rattle.model.proofs.Promises.VerdictLaws.{goes-to, made-verdict, retried-stays, stamps-past}
-use Rattle.model.proofs.Promises.CheckedLaws.{checked-still, checked-again}
-use Rattle.model.proofs.Promises.AskingLaws.{among-back, among-either, among-kept, all-among, among-map, among-sorted, New, Grows, acts-grow}
-use Rattle.model.proofs.Promises.LeftLaws.{Left, left-of, came-from, becomes-id, left-all, left-kept, left-none, left-checked}
+use Rattle.model.proofs.Promises.SeenLaws.{apart, seenAs, Finished, Kind, kind-of, numbers-fit, is-check}
+use Rattle.model.proofs.Promises.ListLaws.{among-back, among-either, among-kept, all-among, among-map, among-sorted}
+use Rattle.model.proofs.Promises.ModeLaws.{mode-is, mode-is-not}
+use Rattle.model.proofs.Promises.TellsLaws.{tells-as, is-tells}
+use Rattle.model.proofs.Promises.WordLaws.{among-tells}
+use Rattle.model.proofs.Promises.SparedLaws.{picks-spares, answers-spare, announced-spares, loses-spares, ticks-spares, progresses-spares}
+use Rattle.model.proofs.Promises.AskedLaws.{asked-parts, acts-well}
+use Rattle.model.proofs.Promises.VerdictLaws.{verdict-is, goes-to-only, made-verdict, retried-stays, stamps-past}
+use Rattle.model.proofs.Promises.LeftLaws.{Left, left-of, came-from, becomes-id, left-all, left-tested, left-none, left-again, left-still}
 use Rattle.model.proofs.Promises.LeftLaws.{takesOut, untaken, taken-listed, taken-lost}
+use Rattle.model.proofs.Promises.AskingLaws.{New, Grows, acts-grow}
 
 -- ---- the evicted list
 
-module _ (st : State) (a : Args) where
-  -- the plan leaves the evicted list as it is
-  abbrev Spares : Plan → Type 0
-  Spares p = p .sync .evicted ≡ st .sync .evicted
-
-  picks-spares : (peer : Option ℕ) → Spares (picks st a peer)
-  unfolding picks entersSyncing unmarked
-  picks-spares none = refl
-  picks-spares (some peer) = refl
-
-  answers-spares : (peer : ℕ) (before : List Act) (tip : ℕ) (outcome : Outcome) → Spares (answers st a peer before tip outcome)
-  unfolding answers isAtTip entersSyncing continues unmarked
-  answers-spares peer before tip Continue = refl
-  answers-spares peer before tip Synced = refl
-  answers-spares peer before tip BehindPeer = refl
-  answers-spares peer before tip SyncPeerGone = refl
-  answers-spares peer before tip Stalled = refl
-  answers-spares peer before tip EndOfStream = refl
-
-  announced-spares : (peer typeId : ℕ) (ids : List Id) → Spares (hearsAnnounced st a peer typeId ids)
-  unfolding hearsAnnounced isAtTip continues unmarked
-  announced-spares peer typeId [] = either Spares (eqb typeId headerType) (isAtTip st a [] (st .sync .knownTip)) (continues st a []) refl refl
-  announced-spares peer typeId (id ∷ ids) = refl
-
-  loses-spares : (peer : ℕ) → Spares (loses st a peer)
-  unfolding loses leaves continues unmarked withoutPeer
-  loses-spares peer =
-      let acts = cond (isMode (st .mode) syncing) (askOrphans st a peer (firstOf (a .peers))) [] in
-      either Spares (eqb peer (st .sync .syncPeer)) (leaves st a SyncPeerGone seeking acts) (continues st a []) refl refl
-
-  ticks-spares : (isSyncing late : Bool) (peer : Option ℕ) → Spares (cond isSyncing (ticksSyncing st a late) (ticksSynced st a peer))
-  unfolding ticksSyncing ticksSynced leaves unmarked withoutPeer
-  ticks-spares true true peer = refl
-  ticks-spares true false peer = refl
-  ticks-spares false late none = refl
-  ticks-spares false late (some peer) = refl
-
-  progresses-spares : (isSyncing : Bool) → Spares (progresses st a isSyncing)
-  unfolding progresses unmarked
-  progresses-spares true = refl
-  progresses-spares false = refl
-
 -- What becomes of the evicted list in a call.
 record EvictedIn (call : Call) (before now : List Id) : Type 0 where
-  appended : call .kind ≡ Numbers.evictedIds → now ≡ before ++ idsIn (call .ids)
-  handedOut : call .kind ≡ Numbers.check → now ≡ []
-  kept : (call .kind ≡ Numbers.evictedIds → ⊥) → (call .kind ≡ Numbers.check → ⊥) → now ≡ before
+  appended : call .kind ≡ numbers.evictedIds → now ≡ before ++ idsIn (call .ids)
+  handedOut : call .kind ≡ numbers.check → now ≡ []
+  kept : (call .kind ≡ numbers.evictedIds → ⊥) → (call .kind ≡ numbers.check → ⊥) → now ≡ before
 
 -- any other kind
-spared : {call : Call} {before now : List Id} (n : ℕ) → call .kind ≡ n → eqb n Numbers.evictedIds ≡ false → eqb n Numbers.check ≡ false → now ≡ before
+spared : {call : Call} {before now : List Id} (n : ℕ) → call .kind ≡ n → eqb n numbers.evictedIds ≡ false → eqb n numbers.check ≡ false → now ≡ before
     → EvictedIn call before now
 spared n k p q e =
     record {
-      appended = λ h. absurd (eqb-false n Numbers.evictedIds p (sym k ∙ h));
-      handedOut = λ h. absurd (eqb-false n Numbers.check q (sym k ∙ h));
+      appended = λ h. absurd (apart k h p);
+      handedOut = λ h. absurd (apart k h q);
       kept = λ _ _. e;
     }
 
@@ -115,24 +72,24 @@ module _ (st : State) (call : Call) where
 
   evicted-in : (step : Step) → Kind call step → EvictedIn call (st .sync .evicted) (planOf st a step .sync .evicted)
   unfolding planOf advances advancesAndRequests continues leaves hearsSyncInfo checks evicts evictedAfterEviction unmarked withoutPeer
-  evicted-in step (kinds.start k) = spared Numbers.start k refl refl refl
-  evicted-in step (kinds.pick k) = spared Numbers.pick k refl refl (picks-spares st a (selectPeer (st .sync .stalledPeers) (a .peers)))
-  evicted-in step (kinds.neededModifier k) = spared Numbers.neededModifier k refl refl refl
-  evicted-in step (kinds.reorg k) = spared Numbers.reorg k refl refl refl
-  evicted-in step (kinds.announcedIds k) = spared Numbers.announcedIds k refl refl (announced-spares st a (call .peer) (call .typeid) (idsIn (call .ids)))
-  evicted-in step (kinds.syncInfo k) = spared Numbers.syncInfo k refl refl (answers-spares st a (call .peer) _ _ _)
-  evicted-in step (kinds.otherMessage k) = spared Numbers.otherMessage k refl refl refl
-  evicted-in step (kinds.lostPeer k) = spared Numbers.lostPeer k refl refl (loses-spares st a (call .peer))
-  evicted-in step (kinds.receivedIds k) = spared Numbers.receivedIds k refl refl refl
+  evicted-in step (kinds.start k) = spared numbers.start k refl refl refl
+  evicted-in step (kinds.pick k) = spared numbers.pick k refl refl (picks-spares st a (selectPeer (st .sync .stalledPeers) (a .peers)) .1)
+  evicted-in step (kinds.neededModifier k) = spared numbers.neededModifier k refl refl refl
+  evicted-in step (kinds.reorg k) = spared numbers.reorg k refl refl refl
+  evicted-in step (kinds.announcedIds k) = spared numbers.announcedIds k refl refl (announced-spares st a (call .peer) (call .typeid) (idsIn (call .ids)) .1)
+  evicted-in step (kinds.syncInfo k) = spared numbers.syncInfo k refl refl (answers-spare st a (call .peer) _ _ _)
+  evicted-in step (kinds.otherMessage k) = spared numbers.otherMessage k refl refl refl
+  evicted-in step (kinds.lostPeer k) = spared numbers.lostPeer k refl refl (loses-spares st a (call .peer) .1)
+  evicted-in step (kinds.receivedIds k) = spared numbers.receivedIds k refl refl refl
   evicted-in step (kinds.evictedIds k) = record { appended = λ _. refl; handedOut = λ h. let x = k in absurd (omega arith); kept = λ n _. absurd (n k) }
-  evicted-in step (kinds.progress k) = spared Numbers.progress k refl refl (progresses-spares st a (isMode (st .mode) syncing))
+  evicted-in step (kinds.progress k) = spared numbers.progress k refl refl (progresses-spares st a (isMode (st .mode) syncing) .1)
   evicted-in step (kinds.check k) = record { appended = λ h. let x = k in absurd (omega arith); handedOut = λ _. refl; kept = λ _ n. absurd (n k) }
   evicted-in step (kinds.scheduledTick k) =
-      spared Numbers.scheduledTick k refl refl
-      (ticks-spares st a (isMode (st .mode) syncing) (settings.stalled (st .settings) (a .clock) (st .sync .lastProgress)) (firstOf (a .peers)))
-  evicted-in step (kinds.sectionTick k) = spared Numbers.sectionTick k refl refl refl
-  evicted-in step (kinds.sendFailure k) = spared Numbers.sendFailure k refl refl refl
-  evicted-in step (kinds.endOfStream k) = spared Numbers.endOfStream k refl refl refl
+      spared numbers.scheduledTick k refl refl
+      (ticks-spares st a (isMode (st .mode) syncing) (settings.stalled (st .settings) (a .clock) (st .sync .lastProgress)) (firstOf (a .peers)) .1)
+  evicted-in step (kinds.sectionTick k) = spared numbers.sectionTick k refl refl refl
+  evicted-in step (kinds.sendFailure k) = spared numbers.sendFailure k refl refl refl
+  evicted-in step (kinds.endOfStream k) = spared numbers.endOfStream k refl refl refl
 
 pub evicted-kept : (st : State) (call : Call) → Finished st call → Evicted (seenAs st call)
 unfolding after plan argsOf
@@ -172,79 +129,68 @@ module _ (st : State) (call : Call) (f : Finished st call) where
 
   -- ---- what a step takes out
 
-  no-check : (n : ℕ) → call .kind ≡ n → eqb n Numbers.check ≡ false → (r : Request) → Retried s r → ⊥
-  no-check n k e r m = eqb-false n Numbers.check e (sym k ∙ m .kind)
+  no-check : (n : ℕ) → call .kind ≡ n → eqb n numbers.check ≡ false → (r : Request) → Retried s r → ⊥
+  no-check n k e r m = apart k (m .kind) e
 
   left-whole : (n : ℕ) → call .kind ≡ n → takesOut n ≡ false → Left s (st .pending) (st .pending)
   left-whole n k e =
       let none : takesOut (call .kind) ≡ false = ap takesOut k ∙ e in
       left-all s (λ r m. not-both (takesOut (call .kind)) (ap takesOut (m .kind)) none) (λ r. untaken s r none) (st .pending)
 
-  left-listed : (n : ℕ) → call .kind ≡ n → eqb n Numbers.reorg ≡ false → eqb n Numbers.lostPeer ≡ false → eqb n Numbers.check ≡ false
+  left-listed : (n : ℕ) → call .kind ≡ n → eqb n numbers.reorg ≡ false → eqb n numbers.lostPeer ≡ false → eqb n numbers.check ≡ false
       → ((r : Request) → Among (r .id) given → TakenOut s r) → Left s (st .pending) (kept (λ (r : Request). not (isAmong (r .id) given)) (st .pending))
   left-listed n k a b c takes =
-      left-kept s (no-check n k c) (λ (r : Request). isAmong (r .id) given)
-      (λ r. decides-as (isAmong (r .id) given) (takes r) (taken-listed s r n k a b c) (among-decides (r .id) given)) (st .pending)
+      left-tested s (no-check n k c) (λ (r : Request). not (isAmong (r .id) given))
+      (λ r. tells-as (takes r) (taken-listed s r n k a b c) (among-tells (r .id) given)) (st .pending)
 
-  left-lost : call .kind ≡ Numbers.lostPeer
+  left-lost : call .kind ≡ numbers.lostPeer
       → Left s (st .pending) (cond (eqb (call .peer) (st .sync .syncPeer) && isMode (st .mode) syncing) (purgePeer (call .peer) (st .pending)) (st .pending))
   unfolding purgePeer
   left-lost k = go (eqb (call .peer) (st .sync .syncPeer)) (isMode (st .mode) syncing) refl refl
     where
       whole : ((r : Request) → TakenOut s r → ⊥) → Left s (st .pending) (st .pending)
-      whole n = left-all s (no-check Numbers.lostPeer k refl) n (st .pending)
+      whole n = left-all s (no-check numbers.lostPeer k refl) n (st .pending)
 
       go : (t u : Bool) → eqb (call .peer) (st .sync .syncPeer) ≡ t → isMode (st .mode) syncing ≡ u
           → Left s (st .pending) (cond (t && u) (kept (λ (r : Request). not (eqb (r .peer) (call .peer))) (st .pending)) (st .pending))
       go true true e m =
-          left-kept s (no-check Numbers.lostPeer k refl) (λ (r : Request). eqb (r .peer) (call .peer))
-          (λ r. decides-as (eqb (r .peer) (call .peer)) (pending.orphaned k (is-syncing (st .mode) m) (eqb-true (call .peer) (st .sync .syncPeer) e))
-          (λ t. taken-lost s r k t .2) (eqb-decides (r .peer) (call .peer))) (st .pending)
-      go true false e m = whole (λ r t. false≢true (sym m ∙ ap (λ (mode : Mode). isMode mode syncing) (taken-lost s r k t .0)))
+          left-tested s (no-check numbers.lostPeer k refl) (λ (r : Request). not (eqb (r .peer) (call .peer)))
+          (λ r. tells-as (pending.orphaned k (mode-is (st .mode) syncing m) (eqb-true (call .peer) (st .sync .syncPeer) e))
+          (λ t. taken-lost s r k t .2) (is-tells (r .peer) (call .peer))) (st .pending)
+      go true false e m = whole (λ r t. mode-is-not (st .mode) syncing m (taken-lost s r k t .0))
       go false u e m = whole (λ r t. eqb-false (call .peer) (st .sync .syncPeer) e (taken-lost s r k t .1))
 
-  left-check : call .kind ≡ Numbers.check → Left s (st .pending) (markAllRetried retry (checkTimeouts (st .settings) (call .clock) (st .pending)))
+  left-check : call .kind ≡ numbers.check → Left s (st .pending) (markAllRetried retry (checkTimeouts (st .settings) (call .clock) (st .pending)))
   unfolding retries
   left-check k = go (eqb (call .gate) 1) refl
     where
       go : (t : Bool) → eqb (call .gate) 1 ≡ t → Left s (st .pending) (markAllRetried (retryIf t) (checkTimeouts (st .settings) (call .clock) (st .pending)))
-      go true e =
-          let opened : call .gate ≡ 1 = eqb-true (call .gate) 1 e in
-          subst (Left s (st .pending)) (sym (checked-again (st .settings) (call .clock) listed (st .pending) (f .well .rising)))
-          (left-checked s k (retryTarget listed) (λ r m. pending.movedOn (retryTarget listed (r .peer)) m opened (goes-to listed (r .peer)))
-          (st .pending) (stamps-past st call f))
-      go false e =
-          let shut : call .gate ≡ 0 = flag-down (call .gate) (numbers-fit st call f .gate) (eqb-false (call .gate) 1 e) in
-          subst (Left s (st .pending)) (sym (checked-still (st .settings) (call .clock) (st .pending)))
-          (left-checked s k (λ peer. peer) (λ r m. pending.heldBack m shut) (st .pending) (stamps-past st call f))
+      go true e = left-again st call f k (eqb-true (call .gate) 1 e)
+      go false e = left-still st call f k (flag-down (call .gate) (numbers-fit st call f .gate) (eqb-false (call .gate) 1 e))
 
   left-by : (step : Step) → Kind call step → Left s (st .pending) (middle step)
   unfolding remaining argsOf purgeAll markReceived pendingAfterEviction
-  left-by step (kinds.start k) = left-whole Numbers.start k refl
-  left-by step (kinds.pick k) = left-whole Numbers.pick k refl
-  left-by step (kinds.neededModifier k) = left-whole Numbers.neededModifier k refl
+  left-by step (kinds.start k) = left-whole numbers.start k refl
+  left-by step (kinds.pick k) = left-whole numbers.pick k refl
+  left-by step (kinds.neededModifier k) = left-whole numbers.neededModifier k refl
   left-by step (kinds.reorg k) = left-none s (λ r. pending.purged k) (st .pending)
-  left-by step (kinds.announcedIds k) = left-whole Numbers.announcedIds k refl
-  left-by step (kinds.syncInfo k) = left-whole Numbers.syncInfo k refl
-  left-by step (kinds.otherMessage k) = left-whole Numbers.otherMessage k refl
+  left-by step (kinds.announcedIds k) = left-whole numbers.announcedIds k refl
+  left-by step (kinds.syncInfo k) = left-whole numbers.syncInfo k refl
+  left-by step (kinds.otherMessage k) = left-whole numbers.otherMessage k refl
   left-by step (kinds.lostPeer k) = left-lost k
-  left-by step (kinds.receivedIds k) = left-listed Numbers.receivedIds k refl refl refl (λ r a. pending.received k a)
-  left-by step (kinds.evictedIds k) = left-listed Numbers.evictedIds k refl refl refl (λ r a. pending.evicted k a)
-  left-by step (kinds.progress k) = left-whole Numbers.progress k refl
+  left-by step (kinds.receivedIds k) = left-listed numbers.receivedIds k refl refl refl (λ r a. pending.received k a)
+  left-by step (kinds.evictedIds k) = left-listed numbers.evictedIds k refl refl refl (λ r a. pending.evicted k a)
+  left-by step (kinds.progress k) = left-whole numbers.progress k refl
   left-by step (kinds.check k) = left-check k
-  left-by step (kinds.scheduledTick k) = left-whole Numbers.scheduledTick k refl
-  left-by step (kinds.sectionTick k) = left-whole Numbers.sectionTick k refl
-  left-by step (kinds.sendFailure k) = left-whole Numbers.sendFailure k refl
-  left-by step (kinds.endOfStream k) = left-whole Numbers.endOfStream k refl
+  left-by step (kinds.scheduledTick k) = left-whole numbers.scheduledTick k refl
+  left-by step (kinds.sectionTick k) = left-whole numbers.sectionTick k refl
+  left-by step (kinds.sendFailure k) = left-whole numbers.sendFailure k refl
+  left-by step (kinds.endOfStream k) = left-whole numbers.endOfStream k refl
 
   left : Left s (st .pending) (middle (stepOf call))
   left = left-by (stepOf call) (kind-of st call f)
 
   -- ---- what it asks for
-
-  acts-well : All WellAct (plan st (argsOf call) .acts)
-  unfolding argsOf after
-  acts-well = plan-well st (argsOf call) (f .well .sync) (f .well .requests) (f .passed .clock) (f .args) (mode-of st call f) (f .passed .stalledFew) .acts
 
   abbrev askedFirst : List Requested
   askedFirst = map requestedItem (sorted itemBelow (retried st (argsOf call)))
@@ -252,23 +198,16 @@ module _ (st : State) (call : Call) (f : Finished st call) where
   abbrev askedLater : List Requested
   askedLater = requestedBySendings (performed st (argsOf call) .sendings)
 
-  asked-in : requestedIn (commands st (argsOf call)) ≡ askedFirst ++ askedLater
-  unfolding commands
-  asked-in =
-      requested-commands 0 (retrySendings (retried st (argsOf call)) ++ performed st (argsOf call) .sendings)
-      ∙ requested-append (retrySendings (retried st (argsOf call))) (performed st (argsOf call) .sendings)
-      ∙ ap (λ (l : List Requested). l ++ askedLater) (requested-retries (retried st (argsOf call)))
-
   grows : Grows (call .clock) (middle (stepOf call)) askedLater now
   unfolding after performed argsOf retried
-  grows = acts-grow (call .clock) (eqb (call .gate) 1) (plan st (argsOf call) .acts) (middle (stepOf call)) acts-well
+  grows = acts-grow (call .clock) (eqb (call .gate) 1) (plan st (argsOf call) .acts) (middle (stepOf call)) (acts-well st call f)
 
   -- ---- the promise
 
-  pub pending-stays : (r : Request) → Among r (st .pending) → (TakenOut s r → ⊥) → (later : Request) × Becomes s r later × Among later now
+  pending-stays : (r : Request) → Among r (st .pending) → (TakenOut s r → ⊥) → (later : Request) × Becomes s r later × Among later now
   pending-stays r a n = ⊎-elim (λ t. absurd (n t)) (λ p. (p .0, p .1, grows .stays (p .0) (p .2))) (left-of s left r a)
 
-  pub pending-comes : (r : Request) → Among r now → Stayed s r ⊎ Entered s r
+  pending-comes : (r : Request) → Among r now → Stayed s r ⊎ Entered s r
   pending-comes r a = ⊎-elim (λ b. inl (stayed b)) (λ n. inr (entered n)) (grows .comes r a)
     where
       stayed : Among r (middle (stepOf call)) → Stayed s r
@@ -277,53 +216,59 @@ module _ (st : State) (call : Call) (f : Finished st call) where
       entered : New (call .clock) (middle (stepOf call)) askedLater r → Entered s r
       entered n =
           record {
-            requested = subst (Among (asRequested r)) (sym asked-in) (among-back (asRequested r) askedFirst askedLater (n .requested));
+            requested = subst (Among (asRequested r)) (sym (asked-parts st (argsOf call))) (among-back (asRequested r) askedFirst askedLater (n .requested));
             stamp = n .stamp;
             checks = n .checks;
             notBefore = λ old b e. ⊎-elim (λ t. t) (λ p. absurd (n .notBefore (p .0) (p .2) (becomes-id s (p .1) ∙ e))) (left-of s left old b);
           }
 
-  -- An id that a retry asks for is that of a request to be retried.
-  retry-due : call .kind ≡ Numbers.check → (i : Item) → Among i retry → (r : Request) × Among r (st .pending) × Retried s r × (r .id ≡ i .id)
-  unfolding retries retryOf judged
-  retry-due k i a = go (eqb (call .gate) 1) a
+  -- What a retry asks for is asked of the target of a request that is retried.
+  retry-due : call .kind ≡ numbers.check → (i : Item) → Among i retry
+      → (r : Request) × Among r (st .pending) × Retried s r × (call .gate ≡ 1) × (i ≡ retryOf listed r)
+  unfolding retries judged
+  retry-due k i a = go (eqb (call .gate) 1) refl a
     where
-      verdictOf : Request → Verdict
-      verdictOf r = verdict (st .settings) (call .clock) r
-
       isDue : Request → Bool
-      isDue r = eqb (verdictNumber (verdictOf r)) (verdictNumber Delivery.retried)
+      isDue r = eqb (verdictNumber (verdict (st .settings) (call .clock) r)) (verdictNumber Delivery.retried)
 
-      go : (t : Bool) → Among i (retryIf t) → (r : Request) × Among r (st .pending) × Retried s r × (r .id ≡ i .id)
-      go true b =
+      go : (t : Bool) → eqb (call .gate) 1 ≡ t → Among i (retryIf t)
+          → (r : Request) × Among r (st .pending) × Retried s r × (call .gate ≡ 1) × (i ≡ retryOf listed r)
+      go true g b =
           let p = among-map (retryOf listed) i (judged (st .settings) (call .clock) Delivery.retried (st .pending)) b in
           let r : Request = p .0 in
           let q = among-kept isDue r (st .pending) (p .1) in
-          let e : verdictOf r ≡ Delivery.retried = verdict-number (verdictOf r) Delivery.retried (eqb-true (verdictNumber (verdictOf r)) 1 (q .1)) in
+          let e = verdict-is (verdict (st .settings) (call .clock) r) Delivery.retried (q .1) in
           let stamp : r .stamp ≤ call .clock = all-among (λ (r : Request). r .stamp ≤ call .clock) r (st .pending) (stamps-past st call f) (q .0) in
-          (r, q .0, made-verdict s k r stamp Delivery.retried e, sym (ap (λ (x : Item). x .id) (p .2)))
-      go false b = absurd b
+          (r, q .0, made-verdict s k r stamp Delivery.retried e, eqb-true (call .gate) 1 g, p .2)
+      go false g b = absurd b
 
-  retry-pending : (i : Item) → Among i (retried st (argsOf call)) → (r : Request) × Among r now × (r .id ≡ i .id)
+  -- a request that is retried and stays is one of its target
+  moved-on : {r later : Request} → Retried s r → call .gate ≡ 1 → Becomes s r later → asRequested later ≡ requestedItem (retryOf listed r)
+  unfolding retryOf
+  moved-on m g (pending.asItWas n) = absurd (n m)
+  moved-on {r} m g (pending.movedOn peer n o t) = ap (λ (p : ℕ). record { id = r .id; typeId = r .typeId; peer = p }) (goes-to-only t)
+  moved-on m g (pending.heldBack n o) = absurd (omega (arith, g, o))
+
+  retry-pending : (i : Item) → Among i (retried st (argsOf call)) → (r : Request) × Among r now × (asRequested r ≡ requestedItem i)
   unfolding retried argsOf
   retry-pending i a = go (isCheck (stepOf call)) (is-check st call f) a
     where
-      go : (t : Bool) → eqb (call .kind) Numbers.check ≡ t → Among i (cond t retry []) → (r : Request) × Among r now × (r .id ≡ i .id)
+      go : (t : Bool) → eqb (call .kind) numbers.check ≡ t → Among i (cond t retry []) → (r : Request) × Among r now × (asRequested r ≡ requestedItem i)
       go true e b =
-          let k : call .kind ≡ Numbers.check = eqb-true (call .kind) Numbers.check e in
+          let k : call .kind ≡ numbers.check = eqb-true (call .kind) numbers.check e in
           let p = retry-due k i b in
           let q = pending-stays (p .0) (p .1) (retried-stays s (p .0) k (p .2)) in
-          (q .0, q .2, becomes-id s (q .1) ∙ p .3)
+          (q .0, q .2, moved-on (p .2) (p .3) (q .1) ∙ ap requestedItem (sym (p .4)))
       go false e b = absurd b
 
-  pub pending-asked : (q : Requested) → Among q (requestedIn (commands st (argsOf call))) → (r : Request) × Among r now × (r .id ≡ q .id)
-  pending-asked q a = ⊎-elim first (grows .there q) (among-either q askedFirst askedLater (subst (Among q) asked-in a))
+  pending-asked : (q : Requested) → Among q (requestedIn (commands st (argsOf call))) → (r : Request) × Among r now × (asRequested r ≡ q)
+  pending-asked q a = ⊎-elim first (grows .there q) (among-either q askedFirst askedLater (subst (Among q) (asked-parts st (argsOf call)) a))
     where
-      first : Among q askedFirst → (r : Request) × Among r now × (r .id ≡ q .id)
+      first : Among q askedFirst → (r : Request) × Among r now × (asRequested r ≡ q)
       first b =
           let p = among-map requestedItem q (sorted itemBelow (retried st (argsOf call))) b in
           let r = retry-pending (p .0) (among-sorted itemBelow (p .0) (retried st (argsOf call)) (p .1)) in
-          (r .0, r .1, r .2 ∙ sym (ap (λ (x : Requested). x .id) (p .2)))
+          (r .0, r .1, r .2 ∙ sym (p .2))
 
 above-ids : (id : Id) (rs : List Request) → All (λ (other : Id). before id other ≡ true) (idsOf rs) → All (λ (r : Request). before id (r .id) ≡ true) rs
 above-ids id [] h = tt

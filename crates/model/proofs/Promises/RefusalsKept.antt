@@ -6,23 +6,22 @@ use mathlib.Core.Logic.{inl, inr}
 use mathlib.Core.List.{List, [], _∷_}
 use native.Mathlib.Omega.{arith}
 use lib.ListN.{length}
-use lib.Dec.{eqb}
-use borrow.Author.Tests.{eqb-true}
 use Rattle.model.specs.Layout.{areaSize}
 use Rattle.model.specs.Protocol.{trackedLimit, stalledLimit}
 use Rattle.model.specs.Steps.{plan, after}
 use Rattle.model.specs.Image.{wellFormed}
-use Rattle.model.specs.Calls.{Call, unless, argsOf, callFits, resultRefusal, callRefusal, stepRefusal, step, stepAnswer}
+use Rattle.model.specs.Calls.{Call, unless, argsOf, callFits, resultRefusal, callRefusal, stepRefusal, step}
 use Rattle.model.specs.Promises.Words.{Seen, seen}
 use Rattle.model.specs.Promises.Refusals
 use Rattle.model.specs.Promises.Refusals.{Unseen, FirstWrong, wrongs, allWrongs}
 use Rattle.model.proofs.StepLaws.{of-mode}
 use Rattle.model.proofs.EntryLaws.{step-refused}
-use Rattle.model.proofs.Promises.ReadLaws.{unseen, all-seen}
+use Rattle.model.proofs.Promises.SeenLaws.{number-told}
 use Rattle.model.proofs.Promises.TellsLaws.{Tells, tells-itself, le-tells, eq-tells}
 use Rattle.model.proofs.Promises.WrongCallLaws.{call-tells, fits-kind}
 use Rattle.model.proofs.Promises.WrongListLaws.{lists-tell, peers-tell}
 use Rattle.model.proofs.Promises.WrongViewLaws.{view-tells}
+use Rattle.model.proofs.Promises.ReadLaws.{unseen, all-seen}
 
 -- What a chain of tests gives, from one of them on. A record, so that a number is not opened into its cases.
 record Told (number first : ℕ) (Wrongs : List (Type 0)) : Type 0 where
@@ -39,16 +38,6 @@ then-told {ok} {Wrong} {others} {first} {Wrongs} t rest = record { told = go ok 
     go : (ok : Bool) → Tells ok Wrong → (ok ≡ true → Told others (suc first) Wrongs) → FirstWrong (unless ok first others) first (Wrong ∷ Wrongs)
     go true t rest = inr (t .passed refl, rest refl .told)
     go false t rest = inl (t .failed refl, refl)
-
-module _ (state area : List ℕ) (call : Call) where
-  -- the number told is that of the refusal, 0 or not
-  number-told : step state area call .answer .number ≡ stepRefusal state area call
-  unfolding step stepAnswer
-  number-told = go (eqb (stepRefusal state area call) 0) refl
-    where
-      go : (t : Bool) → eqb (stepRefusal state area call) 0 ≡ t → step state area call .answer .number ≡ stepRefusal state area call
-      go true e = rw e (sym (eqb-true (stepRefusal state area call) 0 e))
-      go false e = rw e
 
 -- 9: its laws need that 5 was passed
 seen-tells : (s : Seen) → callFits (s .before) (s .call) ≡ true → Tells (plan (s .before) (argsOf (s .call)) .inView) (Unseen s)
@@ -88,5 +77,6 @@ refusals-kept state area call =
     let n : step state area call .answer .number ≡ stepRefusal state area call = number-told state area call in
     record {
       first = rw n (areas-told state area call .told);
-      untouched = λ refused. step-refused state area call (step state area call .answer .number) (sym n) (positive (step state area call .answer .number) refused);
+      untouched = λ refused.
+          step-refused state area call (step state area call .answer .number) (sym n) (positive (step state area call .answer .number) refused);
     }

@@ -21,34 +21,20 @@ use Rattle.model.specs.Promises.Words.{Seen, seen}
 use Rattle.model.specs.Promises.Marks.{SaysSyncInfo}
 use Rattle.model.specs.Promises.Runs.{history, Spaced, ToldInAll, AnyRun}
 use Rattle.model.proofs.Well.{Well}
-use Rattle.model.proofs.FinishedLaws.{PassedAreas, passed, passed-areas}
 use Rattle.model.proofs.RoundLaws.{decode-encode}
-use Rattle.model.proofs.StepLaws.{opened-well, args-well, step-well}
-use Rattle.model.proofs.EntryLaws.{step-finished, step-commands-read}
+use Rattle.model.proofs.StepLaws.{opened-well}
 use Rattle.model.proofs.AgreementLaws.{Agreement}
 use Rattle.model.proofs.Demand3.{InService, called-refused, fresh-in-service, called-in-service}
-use Rattle.model.proofs.Promises.SeenLaws.{Finished, seenAs, numbers-fit}
-use Rattle.model.proofs.Promises.SaidLaws.{last-send-stays, last-send-passed, says-due}
+use Rattle.model.proofs.Promises.SeenLaws.{Finished, seenAs, number-told, finished, state-after, seen-finished, numbers-fit}
 use Rattle.model.proofs.Promises.CountLaws.{told-abandoned, told-forgotten, told-retried}
+use Rattle.model.proofs.Promises.SyncInfosKept.{last-send-past, sync-infos-kept, said-due, last-send-rises}
 
 -- ---- a run, by the finished steps of the model
-
--- the answer's number is the refusal's
-number-tells : (state area : List ℕ) (call : Call) → eqb (step state area call .answer .number) 0 ≡ eqb (stepRefusal state area call) 0
-unfolding step stepAnswer
-number-tells state area call = go (eqb (stepRefusal state area call) 0) refl
-  where
-    go : (t : Bool) → eqb (stepRefusal state area call) 0 ≡ t → eqb (step state area call .answer .number) 0 ≡ eqb (stepRefusal state area call) 0
-    go true e = rw e
-    go false e = rw e e
 
 -- A finished call of a core in service.
 module _ (core : Core) (l : Lent) (h : InService core) (width : InWidth (l .call)) (e : stepRefusal (core .area) (l .commands) (l .call) ≡ 0) where
   abbrev st : State
   st = decode (core .area)
-
-  areas : PassedAreas (core .area) (l .commands) (l .call)
-  areas = passed-areas (core .area) (l .commands) (l .call) e
 
   reads : st ≡ h .st
   reads = ap decode (h .area) ∙ decode-encode (h .st) (h .well)
@@ -60,18 +46,11 @@ module _ (core : Core) (l : Lent) (h : InService core) (width : InWidth (l .call
   agrees = rw reads (h .agreement)
 
   finishes : Finished st (l .call)
-  finishes =
-      record {
-        well = well;
-        width = width;
-        passed = passed st (l .call) (areas .finished);
-        args = args-well st (l .call) width (areas .finished);
-        wellAfter = step-well st (l .call) well width (areas .finished);
-      }
+  finishes = finished (core .area) (l .commands) (l .call) well width e
 
   area-after : decode (called core l .area) ≡ after st (argsOf (l .call))
   unfolding called
-  area-after = rw (step-finished (core .area) (l .commands) (l .call) e) (decode-encode (after st (argsOf (l .call))) (finishes .wellAfter))
+  area-after = state-after (core .area) (l .commands) (l .call) well width e
 
   abbrev outcome : ℕ
   outcome = step (core .area) (l .commands) (l .call) .answer .outcome
@@ -80,20 +59,14 @@ module _ (core : Core) (l : Lent) (h : InService core) (width : InWidth (l .call
   bytes = take (step (core .area) (l .commands) (l .call) .answer .length) (step (core .area) (l .commands) (l .call) .commands)
 
   number-none : eqb (step (core .area) (l .commands) (l .call) .answer .number) 0 ≡ true
-  number-none = number-tells (core .area) (l .commands) (l .call) ∙ eq-eqb (stepRefusal (core .area) (l .commands) (l .call)) 0 e
+  number-none = eq-eqb (step (core .area) (l .commands) (l .call) .answer .number) 0 (number-told (core .area) (l .commands) (l .call) ∙ e)
 
   book-after : bookOf (called core l .path) ≡ bookAfter (bookOf (core .path)) (l .call) outcome bytes
   unfolding called noted bookOf bookAlong
   book-after = rw number-none
 
   seen-after : seen (core .area) (l .commands) (l .call) ≡ seenAs st (l .call)
-  unfolding seen
-  seen-after =
-      rw (
-        step-commands-read (core .area) (l .commands) (l .call) well width e,
-        step-finished (core .area) (l .commands) (l .call) e,
-        decode-encode (after st (argsOf (l .call))) (finishes .wellAfter),
-      )
+  seen-after = seen-finished (core .area) (l .commands) (l .call) well width e
 
 -- A fresh core.
 fresh-read : (area : List ℕ) (o : Opening) → length area ≡ areaSize → OpeningInWidth o
@@ -125,7 +98,7 @@ module _ (P : State → Book → List Seen → Type 0)
           rw (number-none core l h w e, area-after core l h w e, book-after core l h w e, seen-after core l h w e)
           (keeps (decode (core .area)) (bookOf (core .path)) finished (l .call) (outcome core l h w e) (bytes core l h w e)
           (finishes core l h w e) (agrees core l h w e) p)
-      go false t = rw (number-tells (core .area) (l .commands) (l .call) ∙ t, called-refused core l t) p
+      go false t = rw (number-told (core .area) (l .commands) (l .call), t, called-refused core l t) p
 
   run-keeps : (calls : List Lent) (core : Core) (finished : List Seen) → All (λ (l : Lent). InWidth (l .call)) calls → InService core → Now core finished
       → Now (calledAll calls core) (history calls core finished)
@@ -137,7 +110,7 @@ module _ (P : State → Book → List Seen → Type 0)
       (w .1) (called-in-service core l (w .0) h) (called-keeps core l finished (w .0) h p)
 
   -- From a fresh core on.
-  pub any-run-keeps : (area : List ℕ) (o : Opening) (calls : List Lent) → length area ≡ areaSize → OpeningInWidth o
+  any-run-keeps : (area : List ℕ) (o : Opening) (calls : List Lent) → length area ≡ areaSize → OpeningInWidth o
       → All (λ (l : Lent). InWidth (l .call)) calls → P (opened (o .settings) (o .clock) (o .height)) (emptyBook (o .settings)) []
       → Now (calledAll calls (freshCore area o)) (history calls (freshCore area o) [])
   any-run-keeps area o calls e w ws p =
@@ -158,23 +131,24 @@ unfolding after argsOf
 sent-keeps o st finished call f h =
     let last : ℕ = st .sync .sendClock .lastSend in
     let next : ℕ = after st (argsOf call) .sync .sendClock .lastSend in
-    let rises : last ≤ next = last-send-stays st (argsOf call) (last-send-passed st call f) in
+    let due = said-due (seenAs st call) (sync-infos-kept st call f) in
+    let rises : last ≤ next = last-send-rises (seenAs st call) (sync-infos-kept st call f) (last-send-past st call f) in
     let interval : st .settings .minSendInterval ≡ o .settings .minSendInterval = ap (λ s. s .minSendInterval) (h .settings) in
     record {
       settings = h .settings;
       since = omega (arith, h .since, rises);
       earlier = (
-        λ says. omega (arith, says-due st call f says .1),
+        λ says. omega (arith, due says .1),
         all-weaker (λ (s : Seen). SaysSyncInfo s → s .call .clock ≤ last) (λ (s : Seen). SaysSyncInfo s → s .call .clock ≤ next)
             (λ s early says. omega (arith, early says, rises)) finished (h .earlier),
       );
       spaced = (
         λ says.
-            let due = says-due st call f says .0 in (
-              omega (arith, h .since, due, interval),
+            let past = due says .0 in (
+              omega (arith, h .since, past, interval),
               all-weaker (λ (s : Seen). SaysSyncInfo s → s .call .clock ≤ last)
                   (λ (s : Seen). SaysSyncInfo s → s .call .clock + o .settings .minSendInterval ≤ call .clock)
-                  (λ s early says. omega (arith, early says, due, interval)) finished (h .earlier),
+                  (λ s early says. omega (arith, early says, past, interval)) finished (h .earlier),
             ),
         h .spaced,
       );
@@ -200,14 +174,14 @@ told-keeps st b finished call outcome bytes f agreement h =
 
 module _ (area : List ℕ) (o : Opening) (calls : List Lent) (size : length area ≡ areaSize) (width : OpeningInWidth o)
     (widths : All (λ (l : Lent). InWidth (l .call)) calls) where
-  pub any-run-spaced : Spaced (o .settings .minSendInterval) (o .clock) (history calls (freshCore area o) [])
+  any-run-spaced : Spaced (o .settings .minSendInterval) (o .clock) (history calls (freshCore area o) [])
   unfolding opened
   any-run-spaced =
       any-run-keeps (λ st b finished. Sent o st finished) (λ st b finished call outcome bytes f agreement h. sent-keeps o st finished call f h)
       area o calls size width widths
       (record { settings = refl; since = omega arith; earlier = tt; spaced = tt }) .spaced
 
-  pub any-run-told : ToldInAll (history calls (freshCore area o) []) (bookOf (calledAll calls (freshCore area o) .path))
+  any-run-told : ToldInAll (history calls (freshCore area o) []) (bookOf (calledAll calls (freshCore area o) .path))
   unfolding emptyBook endedFor
   any-run-told =
       any-run-keeps (λ st b finished. ToldInAll finished b) told-keeps area o calls size width widths

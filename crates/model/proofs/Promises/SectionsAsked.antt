@@ -6,21 +6,19 @@ use mathlib.Core.Logic.{_⊎_, inl, inr, ⊎-elim}
 use mathlib.Core.List.{List, [], _∷_, _++_, append-nil}
 use mathlib.Core.Option.{Option, none, some}
 use native.Mathlib.Omega.{arith}
-use lib.Dec.{eqb, leb, ltb}
+use lib.Dec.{eqb, leb}
 use borrow.Author.Tests.{eq-eqb, le-leb, leb-true, leb-false}
 use Rattle.fields.specs.Facts.{All}
 use Rattle.fields.specs.Filter.{consIf}
 use Rattle.fields.proofs.AllLaws.{all-append, either}
 use Rattle.fields.proofs.OrderLaws.{and-right}
 use Rattle.model.specs.Protocol.{Id, headerType, windowSize}
-use Rattle.model.specs.Settings.{throttled}
 use Rattle.model.specs.Delivery.{Request, purgeAll}
 use Rattle.model.specs.State.{Mode, syncing, isMode, State}
-use Rattle.model.specs.Requests
-use Rattle.model.specs.Requests.{Act, send, syncInfoTo}
+use Rattle.model.specs.Requests.{Act}
 use Rattle.model.specs.Sections.{Section, Header, absent, present, View, Item, batchesOf, Window, missing, widen, windowWithin}
 use Rattle.model.specs.Sections.{Sections, requestSectionsFrom, requestNextSections}
-use Rattle.model.specs.Events.{announce, notAbove, continuation, tipOutcome, raisedTip}
+use Rattle.model.specs.Events.{continuation, tipOutcome, raisedTip}
 use Rattle.model.specs.Lists.{idsIn, peersIn, viewOf}
 use Rattle.model.specs.Steps
 use Rattle.model.specs.Steps.{Step, Args, Plan, isCheck, planOf, plan, remaining, after, commands, unmarked, advanceFrom}
@@ -28,14 +26,16 @@ use Rattle.model.specs.Steps.{sectionsFrom, sayTo, advancesAndRequests, 
 use Rattle.model.specs.Calls.{Call, stepOf, argsOf}
 use Rattle.model.specs.Book.{Requested, requestedIn}
 use Rattle.model.specs.Promises.Numbers as numbers
-use Rattle.model.specs.Promises.Words.{First, LeftOf}
+use Rattle.model.specs.Promises.Words.{Seen, view, First}
 use Rattle.model.specs.Promises.Outcomes.{noHeaders, tipReached}
 use Rattle.model.specs.Promises.Asked.{NextSections, inReorg, onProgress, atSectionTick, onEntry, Present, notStored, offered}
-use Rattle.model.specs.Promises.Asked.{under, PendingId, PendingThen, TypesRise, AsksWindow}
-use Rattle.model.proofs.Promises.SeenLaws.{seenAs, Finished}
+use Rattle.model.specs.Promises.Asked.{under, PendingId, PendingThen, AsksWindow}
+use Rattle.model.proofs.Promises.SeenLaws as kinds
+use Rattle.model.proofs.Promises.SeenLaws.{seenAs, Finished, step-of}
 use Rattle.model.proofs.Promises.WordLaws.{first-listed, left-same}
-use Rattle.model.proofs.Promises.ByTypeLaws.{ofType, OfPeer, batches-stepwise, AskedLower, Known, ByType, asks, own-peers, asked-by-type}
-use Rattle.model.proofs.Promises.ByTypeLaws.{askedBy, Quiet, quiet-front, quiet-back, asked-by-acts}
+use Rattle.model.proofs.Promises.ItemLaws.{OfPeer, batches-peer}
+use Rattle.model.proofs.Promises.AskedLaws.{Says, say-to-says, continuation-says, askedBy, says-front, says-back, asked-by}
+use Rattle.model.proofs.Promises.ByTypeLaws.{ofType, AskedLower, Known, ByType, asks, own-peers, asked-by-type}
 
 -- ---- the window's items
 
@@ -115,72 +115,60 @@ reached (suc n) view peer height e = go (view (suc height)) refl e (reached n vi
 
 -- ---- rule 4
 
--- What is asked for from a height on, where `Then` says what was pending.
-pub record AskedWindow (view : View) (chainHeight height peer : ℕ) (Then : Id → Type 0) (asked : List Requested) : Type 0 where
-  pub heights : ℕ
-  pub few : heights ≤ 192
-  pub ours : (heights ≡ 0) ⊎ (height + heights ≤ chainHeight)
-  pub present : (i : ℕ) → i < heights → Present (view (height + 1 + i))
-  pub reaches : (heights ≡ 192) ⊎ ((chainHeight ≤ height + heights) ⊎ (view (height + 1 + heights) ≡ some absent))
-  pub requested : (typeId : ℕ) → LeftOf (λ (id : Id). Then id ⊎ AskedLower asked typeId id) (offered typeId view height heights) (under typeId asked)
-  pub typesRise : TypesRise asked
-  pub onePeer : All (λ (q : Requested). q .peer ≡ peer) asked
+-- the window ends with 192 heights, at our chain height or at an absent header
+module _ (chainHeight height : ℕ) where
+  abbrev most : ℕ
+  most = min (height + windowSize) chainHeight - height
 
-module _ (view : View) (chainHeight height peer clock : ℕ) (pending : List Request) where
-  window-asked : (Then : Id → Type 0) → ((id : Id) → PendingId pending id → Then id) → ((id : Id) → Then id → PendingId pending id)
-      → requestSectionsFrom view chainHeight height (some peer) .inView ≡ true
-      → AskedWindow view chainHeight height peer Then (askedBy true clock (requestSectionsFrom view chainHeight height (some peer) .acts) pending)
+  in-window : (k : ℕ) → k ≤ most → (k ≡ 0) ⊎ (height + k ≤ chainHeight)
+  in-window zero l = inl refl
+  in-window (suc k) l = inr (omega arith)
+
+  window-end : (k : ℕ) → k ≡ most → (k ≡ 192) ⊎ (chainHeight ≤ height + k)
+  window-end k q = go (leb chainHeight (height + windowSize)) refl
+    where
+      go : (t : Bool) → leb chainHeight (height + windowSize) ≡ t → (k ≡ 192) ⊎ (chainHeight ≤ height + k)
+      go true e = inr (omega (arith, leb-true chainHeight (height + windowSize) e))
+      go false e = inl (omega (arith, leb-false chainHeight (height + windowSize) e))
+
+-- a step that asks for sections, from what is pending by then
+module _ (s : Seen) (peer clock : ℕ) (pending : List Request) where
+  abbrev height : ℕ
+  height = s .after .sync .downloaded
+
+  abbrev fromHere : Sections
+  fromHere = requestSectionsFrom (view s) (s .call .height) height (some peer)
+
+  window-asked : ((id : Id) → PendingId pending id → PendingThen s id) → ((id : Id) → PendingThen s id → PendingId pending id)
+      → fromHere .inView ≡ true → requestedIn (s .sent) ≡ askedBy true clock (fromHere .acts) pending → AsksWindow s peer
   unfolding requestSectionsFrom
-  window-asked Then to from e =
-      let n : ℕ = min (height + windowSize) chainHeight - height in
-      let items : List Item = windowWithin n view peer height .items in
+  window-asked to from v e =
+      let n : ℕ = most (s .call .height) height in
+      let items : List Item = windowWithin n (view s) peer height .items in
+      let own : OfPeer peer items = window-peer n (view s) peer height in
       let asked : List Requested = askedBy true clock (asks peer [] (batchesOf items)) pending in
-      let r : Reached n view peer height = reached n view peer height e in
-      let most = r .within in
-      let b : ByType peer [] items pending asked = asked-by-type clock peer [] items pending (window-peer n view peer height) in
-      rw (own-peers peer [] (batchesOf items) (batches-stepwise peer items (window-peer n view peer height)))
-      (record {
+      let r : Reached n (view s) peer height = reached n (view s) peer height v in
+      let within = r .within in
+      let b : ByType peer [] items pending asked = asked-by-type clock peer [] items pending own in
+      let all : requestedIn (s .sent) ≡ asked =
+      e ∙ ap (λ (acts : List Act). askedBy true clock acts pending) (own-peers peer [] (batchesOf items) (batches-peer peer items own))
+      in
+      record {
         heights = r .heights;
         few = omega arith;
-        ours = ours (r .heights) most;
+        ours = in-window (s .call .height) height (r .heights) within;
         present = r .present;
-        reaches = ⊎-elim (λ k. reaches (r .heights) k) (λ k. inr (inr k)) (r .stops);
+        reaches = ⊎-elim (λ k. ⊎-elim inl (λ l. inr (inl l)) (window-end (s .call .height) height (r .heights) k)) (λ k. inr (inr k)) (r .stops);
         requested =
-            λ typeId. rw (← r .offers typeId)
-            (left-same (Known [] pending asked typeId) (λ (id : Id). Then id ⊎ AskedLower asked typeId id)
+            λ typeId. rw (all, ← r .offers typeId)
+            (left-same (Known [] pending asked typeId) (λ (id : Id). PendingThen s id ⊎ AskedLower asked typeId id)
             (λ id. ⊎-elim (⊎-elim (λ k. inl (to id k)) (λ k. absurd k)) inr) (λ id. ⊎-elim (λ k. inl (inl (from id k))) inr)
             (ofType typeId items) (under typeId asked) (b .requested typeId));
-        typesRise = b .typesRise;
-        onePeer = b .onePeer;
-      })
-    where
-      ours : (k : ℕ) → k ≤ min (height + windowSize) chainHeight - height → (k ≡ 0) ⊎ (height + k ≤ chainHeight)
-      ours zero l = inl refl
-      ours (suc k) l = inr (omega arith)
-
-      reaches : (k : ℕ) → k ≡ min (height + windowSize) chainHeight - height
-          → (k ≡ 192) ⊎ ((chainHeight ≤ height + k) ⊎ (view (height + 1 + k) ≡ some absent))
-      reaches k q = go (leb chainHeight (height + windowSize)) refl
-        where
-          go : (t : Bool) → leb chainHeight (height + windowSize) ≡ t → (k ≡ 192) ⊎ ((chainHeight ≤ height + k) ⊎ (view (height + 1 + k) ≡ some absent))
-          go true e = inr (inl (omega (arith, leb-true chainHeight (height + windowSize) e)))
-          go false e = inl (omega (arith, leb-false chainHeight (height + windowSize) e))
+        typesRise = rw all (b .typesRise);
+        onePeer = rw all (b .onePeer);
+      }
 
 -- ---- plans that run rule 4
-
-say-quiet : (st : State) (a : Args) (peer : ℕ) → All Quiet (sayTo st a peer)
-unfolding sayTo syncInfoTo
-say-quiet st a peer =
-    either (All Quiet) (throttled (st .settings) (a .clock) (st .sync .sendClock .lastSend)) [] (send (Requests.syncInfo peer) ∷ []) tt (tt, tt)
-
-announce-quiet : (peer : ℕ) (ids : List Id) → All Quiet (announce peer ids)
-announce-quiet peer [] = tt
-announce-quiet peer (id ∷ ids) = (tt, tt)
-
-continuation-quiet : (parsed : Bool) (ours : ℕ) (tip : Option ℕ) (peer : ℕ) (ids : List Id) → All Quiet (continuation parsed ours tip peer ids)
-unfolding continuation
-continuation-quiet parsed ours tip peer ids =
-    either (All Quiet) (parsed && (ltb 0 ours && notAbove ours tip)) (announce peer ids) [] (announce-quiet peer ids) tt
 
 module _ (st : State) (a : Args) where
   -- It asks from the height that is downloaded behind the step, and its other acts ask for nothing.
@@ -188,8 +176,8 @@ module _ (st : State) (a : Args) where
     front : List Act
     back : List Act
     acts : p .acts ≡ front ++ (sectionsFrom st a (p .sync .downloaded) .acts ++ back)
-    quietFront : All Quiet front
-    quietBack : All Quiet back
+    saysFront : All Says front
+    saysBack : All Says back
     inView : p .inView ≡ true → sectionsFrom st a (p .sync .downloaded) .inView ≡ true
 
   advance-runs : (height : ℕ) → RunsRule4 (advancesAndRequests st a height)
@@ -200,8 +188,8 @@ module _ (st : State) (a : Args) where
         front = [];
         back = [];
         acts = sym (append-nil (sectionsFrom st a (reached .height) .acts));
-        quietFront = tt;
-        quietBack = tt;
+        saysFront = tt;
+        saysBack = tt;
         inView = and-right (reached .inView) (sectionsFrom st a (reached .height) .inView);
       }
 
@@ -212,8 +200,8 @@ module _ (st : State) (a : Args) where
         front = [];
         back = [];
         acts = sym (append-nil (sectionsFrom st a (st .sync .downloaded) .acts));
-        quietFront = tt;
-        quietBack = tt;
+        saysFront = tt;
+        saysBack = tt;
         inView = λ e. e;
       }
   progress-runs true =
@@ -221,21 +209,21 @@ module _ (st : State) (a : Args) where
         front = [];
         back = cond (st .sync .progressUsed) [] (sayTo st a (st .sync .syncPeer));
         acts = refl;
-        quietFront = tt;
-        quietBack = either (All Quiet) (st .sync .progressUsed) [] (sayTo st a (st .sync .syncPeer)) tt (say-quiet st a (st .sync .syncPeer));
+        saysFront = tt;
+        saysBack = either (All Says) (st .sync .progressUsed) [] (sayTo st a (st .sync .syncPeer)) tt (say-to-says st a (st .sync .syncPeer));
         inView = λ e. e;
       }
 
   -- entry to synced
-  tip-runs : (before : List Act) (tip : ℕ) → All Quiet before → isMode (st .mode) syncing ≡ true → RunsRule4 (isAtTip st a before tip)
+  tip-runs : (before : List Act) (tip : ℕ) → All Says before → isMode (st .mode) syncing ≡ true → RunsRule4 (isAtTip st a before tip)
   unfolding isAtTip
   tip-runs before tip q m =
       record {
         front = before;
         back = [];
         acts = rw (m, append-nil (sectionsFrom st a (st .sync .downloaded) .acts));
-        quietFront = q;
-        quietBack = tt;
+        saysFront = q;
+        saysBack = tt;
         inView = λ e. rw m at e;
       }
 
@@ -245,7 +233,7 @@ module _ (st : State) (a : Args) where
   heard-runs peer tip ids p l m =
       rw (eq-eqb peer (st .sync .syncPeer) p, le-leb tip (a .chainHeight) l)
       (tip-runs (continuation true (a .chainHeight) (some tip) peer ids) (raisedTip (st .sync .knownTip) (some tip))
-      (continuation-quiet true (a .chainHeight) (some tip) peer ids) m)
+      (continuation-says true (a .chainHeight) (some tip) peer ids) m)
 
   -- "An empty header list"
   told-runs : (peer : ℕ) → isMode (st .mode) syncing ≡ true → RunsRule4 (hearsAnnounced st a peer headerType [])
@@ -307,38 +295,24 @@ module _ (st : State) (call : Call) where
 
   -- ---- which step it is
 
-  reorg-step : call .kind ≡ numbers.reorg → stepOf call ≡ Steps.reorg (call .fork)
-  unfolding stepOf
-  reorg-step e = rw e
-
-  progress-step : call .kind ≡ numbers.progress → stepOf call ≡ Steps.progress
-  unfolding stepOf
-  progress-step e = rw e
-
-  tick-step : call .kind ≡ numbers.sectionTick → stepOf call ≡ Steps.sectionTick
-  unfolding stepOf
-  tick-step e = rw e
-
   told-step : call .kind ≡ numbers.announcedIds → call .typeid ≡ headerType → idsIn (call .ids) ≡ [] → stepOf call ≡ Steps.announced (call .peer) headerType []
-  unfolding stepOf
   told-step e t i =
-      let known : stepOf call ≡ Steps.announced (call .peer) (call .typeid) (idsIn (call .ids)) = rw e in
-      known ∙ ap (λ (ids : List Id). Steps.announced (call .peer) (call .typeid) ids) i ∙ ap (λ (typeId : ℕ). Steps.announced (call .peer) typeId []) t
+      step-of call (kinds.announcedIds e)
+      ∙ ap (λ (ids : List Id). Steps.announced (call .peer) (call .typeid) ids) i
+      ∙ ap (λ (typeId : ℕ). Steps.announced (call .peer) typeId []) t
 
   heard-step : call .kind ≡ numbers.syncInfo → call .parsed ≡ 1 → call .hastip ≡ 1
       → stepOf call ≡ Steps.syncInfo (call .peer) true (some (call .tip)) (idsIn (call .continuation))
-  unfolding stepOf
   heard-step e p h =
       let ids : List Id = idsIn (call .continuation) in
-      let known : stepOf call ≡ Steps.syncInfo (call .peer) (eqb (call .parsed) 1) (cond (eqb (call .hastip) 1) (some (call .tip)) none) ids = rw e in
-      known
+      step-of call (kinds.syncInfo e)
       ∙ ap (λ (t : Bool). Steps.syncInfo (call .peer) t (cond (eqb (call .hastip) 1) (some (call .tip)) none) ids) (eq-eqb (call .parsed) 1 p)
       ∙ ap (λ (t : Bool). Steps.syncInfo (call .peer) true (cond t (some (call .tip)) none) ids) (eq-eqb (call .hastip) 1 h)
 
   asks-next : NextSections (seenAs st call) → AsksNext (stepOf call)
-  asks-next (inReorg e) = subst AsksNext (sym (reorg-step e)) (reorg-asks e)
-  asks-next (onProgress e) = subst AsksNext (sym (progress-step e)) (progress-asks e)
-  asks-next (atSectionTick e) = subst AsksNext (sym (tick-step e)) (tick-asks e)
+  asks-next (inReorg e) = subst AsksNext (sym (step-of call (kinds.reorg e))) (reorg-asks e)
+  asks-next (onProgress e) = subst AsksNext (sym (step-of call (kinds.progress e))) (progress-asks e)
+  asks-next (atSectionTick e) = subst AsksNext (sym (step-of call (kinds.sectionTick e))) (tick-asks e)
   asks-next (onEntry (noHeaders e t i) m) = subst AsksNext (sym (told-step e t i)) (told-asks e m)
   asks-next (onEntry (tipReached tip h p l) m) =
       subst AsksNext (sym (heard-step (h .kind) (h .parsed) (h .named))) (heard-asks (h .kind) p (subst (λ (n : ℕ). n ≤ call .height) (sym (h .names)) l) m)
@@ -365,37 +339,21 @@ module _ (st : State) (call : Call) where
         let clock : ℕ = call .clock in
         let r = n .runs in
         let all : List Act = sectionsFrom st (argsOf call) from .acts in
-        asked-by-acts st (argsOf call) (n .noCheck)
+        asked-by st (argsOf call) (stepOf call) refl (n .noCheck)
         ∙ ap (λ (gate : Bool). askedBy gate clock (plan st (argsOf call) .acts) start) (eq-eqb (call .gate) 1 g)
         ∙ ap (λ (acts : List Act). askedBy true clock acts start) (r .acts)
-        ∙ quiet-front true clock (r .front) (all ++ r .back) start (r .quietFront)
-        ∙ quiet-back true clock all (r .back) start (r .quietBack)
+        ∙ says-front true clock (r .front) (all ++ r .back) start (r .saysFront)
+        ∙ says-back true clock all (r .back) start (r .saysBack)
         ∙ ap (λ (s : Sections). askedBy true clock (s .acts) start) listed
 
     next-in-view : plan st (argsOf call) .inView ≡ true → sections .inView ≡ true
     unfolding plan argsOf from
     next-in-view e = ap (λ (s : Sections). s .inView) (sym listed) ∙ n .runs .inView e
 
-    next-window : call .gate ≡ 1 → plan st (argsOf call) .inView ≡ true
-        → AskedWindow (viewOf (call .view)) (call .height) from peer (PendingThen (seenAs st call)) (requestedIn (commands st (argsOf call)))
-    unfolding sections start
-    next-window g e =
-        subst (AskedWindow (viewOf (call .view)) (call .height) from peer (PendingThen (seenAs st call))) (sym (next-asked g))
-        (window-asked (viewOf (call .view)) (call .height) from peer (call .clock) start (PendingThen (seenAs st call)) (n .pendingThen) (n .thenPending)
-        (next-in-view e))
-
 pub sections-asked : (st : State) (call : Call) → Finished st call
     → (peer : ℕ) → call .gate ≡ 1 → NextSections (seenAs st call) → First peer (peersIn (call .peers)) → AsksWindow (seenAs st call) peer
-unfolding after from
+unfolding after from sections start
 sections-asked st call f peer g next first =
-    let w = next-window st call (asks-next st call next) peer first g (f .passed .inView) in
-    record {
-      heights = w .heights;
-      few = w .few;
-      ours = w .ours;
-      present = w .present;
-      reaches = w .reaches;
-      requested = w .requested;
-      typesRise = w .typesRise;
-      onePeer = w .onePeer;
-    }
+    let n = asks-next st call next in
+    window-asked (seenAs st call) peer (call .clock) (start st call n peer first) (n .pendingThen) (n .thenPending)
+    (next-in-view st call n peer first (f .passed .inView)) (next-asked st call n peer first g)

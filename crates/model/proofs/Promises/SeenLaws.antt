@@ -3,27 +3,27 @@ use Prim.Native.Nat.{ℕ, _≤_}
 use mathlib.Core.Path.{_≡_, refl, sym, ap, _∙_, subst}
 use mathlib.Core.Bool.{Bool, true, false, cond, _&&_}
 use mathlib.Core.List.{List}
-use mathlib.Core.Option.{none, some}
+use mathlib.Core.Option.{Option, none, some}
 use lib.Dec.{eqb, leb}
-use borrow.Author.Tests.{leb-true, eqb-true}
-use Rattle.fields.specs.Facts.{Bytes}
+use borrow.Author.Tests.{leb-true, eqb-true, eqb-false}
 use Rattle.fields.proofs.OrderLaws.{and-left, and-right}
 use Rattle.model.specs.State.{State}
 use Rattle.model.specs.Steps
-use Rattle.model.specs.Steps.{Step, ofMode, planOf, plan, after, commands}
+use Rattle.model.specs.Steps.{Step, ofMode, isCheck, planOf, plan, after, commands}
 use Rattle.model.specs.Image.{decode}
 use Rattle.model.specs.Lists.{idsIn}
 use Rattle.model.specs.Calls.{Call, isFlag, stepOf, argsOf, callFits, stepRefusal, step, stepAnswer}
 use Rattle.model.specs.Demand3.{InWidth}
 use Rattle.model.specs.Promises.Numbers as numbers
 use Rattle.model.specs.Promises.Words.{Seen, seen, Promised}
+use Rattle.model.specs.Promises.Outcomes.{Heard}
 use Rattle.model.proofs.Well.{Well}
 use Rattle.model.proofs.Widths.{WellArgs}
 use Rattle.model.proofs.FinishedLaws.{Passed, passed, PassedAreas, passed-areas}
 use Rattle.model.proofs.RoundLaws.{decode-encode, decode-well}
 use Rattle.model.proofs.StepLaws.{of-mode, args-well, step-well}
 use Rattle.model.proofs.EntryLaws.{step-finished, step-commands-read}
-use Rattle.model.proofs.StepKindLaws.{by-kind}
+use Rattle.model.proofs.StepKindLaws.{by-kind, check-of-kind}
 
 -- What a step of the model shows.
 abbrev pub seenAs : State → Call → Seen
@@ -38,43 +38,51 @@ pub record Finished (st : State) (call : Call) : Type 0 where
   pub args : WellArgs (argsOf call)
   pub wellAfter : Well (after st (argsOf call))
 
-number-zero : (state area : List ℕ) (call : Call) → step state area call .answer .number ≡ 0 → stepRefusal state area call ≡ 0
-unfolding step
-number-zero state area call e = go (eqb (stepRefusal state area call) 0) refl
+-- the number told is that of the refusal, 0 or not
+pub number-told : (state area : List ℕ) (call : Call) → step state area call .answer .number ≡ stepRefusal state area call
+unfolding step stepAnswer
+number-told state area call = go (eqb (stepRefusal state area call) 0) refl
   where
-    go : (t : Bool) → eqb (stepRefusal state area call) 0 ≡ t → stepRefusal state area call ≡ 0
-    go true z = eqb-true (stepRefusal state area call) 0 z
-    go false z = let n : step state area call .answer .number ≡ stepRefusal state area call = rw z in sym n ∙ e
+    go : (t : Bool) → eqb (stepRefusal state area call) 0 ≡ t → step state area call .answer .number ≡ stepRefusal state area call
+    go true e = rw e (sym (eqb-true (stepRefusal state area call) 0 e))
+    go false e = rw e
 
-module _ (state area : List ℕ) (call : Call) (bytes : Bytes state) (width : InWidth call) (e : stepRefusal state area call ≡ 0) where
-  areas : PassedAreas state area call
-  areas = passed-areas state area call e
-
-  well : Well (decode state)
-  well = decode-well state (areas .stateSize) bytes (areas .image)
-
+module _ (state area : List ℕ) (call : Call) (well : Well (decode state)) (width : InWidth call) (e : stepRefusal state area call ≡ 0) where
   pub finished : Finished (decode state) call
   finished =
+      let p : PassedAreas state area call = passed-areas state area call e in
       record {
         well = well;
         width = width;
-        passed = passed (decode state) call (areas .finished);
-        args = args-well (decode state) call width (areas .finished);
-        wellAfter = step-well (decode state) call well width (areas .finished);
+        passed = passed (decode state) call (p .finished);
+        args = args-well (decode state) call width (p .finished);
+        wellAfter = step-well (decode state) call well width (p .finished);
       }
+
+  pub state-after : decode (step state area call .state) ≡ after (decode state) (argsOf call)
+  state-after = rw (step-finished state area call e) (decode-encode (after (decode state) (argsOf call)) (finished .wellAfter))
 
   pub seen-finished : seen state area call ≡ seenAs (decode state) call
   unfolding seen
   seen-finished =
-      rw (step-commands-read state area call well width e, step-finished state area call e, decode-encode (after (decode state) (argsOf call)) (finished .wellAfter))
+      rw (
+        step-commands-read state area call well width e,
+        step-finished state area call e,
+        decode-encode (after (decode state) (argsOf call)) (finished .wellAfter),
+      )
 
 -- A promise is kept by every finished call if the model's steps keep it.
 pub promised : (P : Seen → Type 0) → ((st : State) (call : Call) → Finished st call → P (seenAs st call)) → Promised P
 promised P keeps state area call bytes width e =
-    let z : stepRefusal state area call ≡ 0 = number-zero state area call e in
-    rw (seen-finished state area call bytes width z) (keeps (decode state) call (finished state area call bytes width z))
+    let z : stepRefusal state area call ≡ 0 = sym (number-told state area call) ∙ e in
+    let p : PassedAreas state area call = passed-areas state area call z in
+    let well : Well (decode state) = decode-well state (p .stateSize) bytes (p .image) in
+    rw (seen-finished state area call well width z) (keeps (decode state) call (finished state area call well width z))
 
 -- ---- a call's kind, and the step that it is
+
+abbrev pub syncInfoOf : Call → Step
+syncInfoOf call = Steps.syncInfo (call .peer) (eqb (call .parsed) 1) (cond (eqb (call .hastip) 1) (some (call .tip)) none) (idsIn (call .continuation))
 
 pub data Kind (call : Call) : Step → Type 0 where
   start : call .kind ≡ numbers.start → Kind call Steps.start
@@ -82,9 +90,7 @@ pub data Kind (call : Call) : Step → Type 0 where
   neededModifier : call .kind ≡ numbers.neededModifier → Kind call (Steps.neededModifier (call .typeid) (idsIn (call .ids)))
   reorg : call .kind ≡ numbers.reorg → Kind call (Steps.reorg (call .fork))
   announcedIds : call .kind ≡ numbers.announcedIds → Kind call (Steps.announced (call .peer) (call .typeid) (idsIn (call .ids)))
-  syncInfo :
-      call .kind ≡ numbers.syncInfo
-      → Kind call (Steps.syncInfo (call .peer) (eqb (call .parsed) 1) (cond (eqb (call .hastip) 1) (some (call .tip)) none) (idsIn (call .continuation)))
+  syncInfo : call .kind ≡ numbers.syncInfo → Kind call (syncInfoOf call)
   otherMessage : call .kind ≡ numbers.otherMessage → Kind call Steps.otherMessage
   lostPeer : call .kind ≡ numbers.lostPeer → Kind call (Steps.lostPeer (call .peer))
   receivedIds : call .kind ≡ numbers.receivedIds → Kind call (Steps.received (idsIn (call .ids)))
@@ -149,6 +155,28 @@ module _ (call : Call) where
       (λ e. is (rw e) (endOfStream e))
       (call .kind) l h refl
 
+-- A number is one only.
+pub apart : {n a b : ℕ} → n ≡ a → n ≡ b → eqb a b ≡ false → ⊥
+apart {n} {a} {b} e f d = eqb-false a b d (sym e ∙ f)
+
+-- ---- the tip that a sync info names, if it was understood
+
+abbrev pub heardTip : Call → Option ℕ
+heardTip call = cond (eqb (call .parsed) 1) (cond (eqb (call .hastip) 1) (some (call .tip)) none) none
+
+pub data Hears (s : Seen) : Option ℕ → Type 0 where
+  aTip : Heard s (s .call .tip) → Hears s (some (s .call .tip))
+  noTip : ((tip : ℕ) → Heard s tip → ⊥) → Hears s none
+
+pub is-heard : (s : Seen) → s .call .kind ≡ numbers.syncInfo → Hears s (heardTip (s .call))
+is-heard s k = go (eqb (s .call .parsed) 1) (eqb (s .call .hastip) 1) refl refl
+  where
+    go : (parsed named : Bool) → eqb (s .call .parsed) 1 ≡ parsed → eqb (s .call .hastip) 1 ≡ named
+        → Hears s (cond parsed (cond named (some (s .call .tip)) none) none)
+    go true true p n = aTip (record { kind = k; parsed = eqb-true (s .call .parsed) 1 p; named = eqb-true (s .call .hastip) 1 n; names = refl })
+    go true false p n = noTip (λ tip h. eqb-false (s .call .hastip) 1 n (h .named))
+    go false named p n = noTip (λ tip h. eqb-false (s .call .parsed) 1 p (h .parsed))
+
 -- ---- what a finished call has passed, said of its numbers
 
 pub record Numbers (call : Call) : Type 0 where
@@ -182,3 +210,6 @@ module _ (st : State) (call : Call) (f : Finished st call) where
 
   pub mode-of : ofMode (st .mode) (st .sync .entrySent) (stepOf call) ≡ true
   mode-of = of-mode st call (f .passed .fits)
+
+  pub is-check : eqb (call .kind) numbers.check ≡ isCheck (stepOf call)
+  is-check = check-of-kind call (numbers-fit .kindLow) (numbers-fit .kindHigh)

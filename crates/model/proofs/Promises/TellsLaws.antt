@@ -1,7 +1,7 @@
 -- A test that tells exactly what is wrong: the tests of numbers and of lists, and tests joined.
 use Prim.Native.Nat.{ℕ, zero, suc, _≤_, _<_}
 use mathlib.Core.Path.{_≡_, refl, sym, subst}
-use mathlib.Core.Bool.{Bool, true, false, _&&_, false≢true}
+use mathlib.Core.Bool.{Bool, true, false, not, _&&_, false≢true}
 use mathlib.Core.Logic.{_⊎_, inl, inr, ⊎-elim, _↔_}
 use mathlib.Core.List.{List, [], _∷_}
 use native.Mathlib.Nat.{not-suc-le-zero, le-of-suc-le-suc}
@@ -34,6 +34,18 @@ tells-not ok f g = record { passed = λ e n. n (f e); failed = λ e a. not-both 
 
 pub tells-itself : (ok : Bool) → Tells ok (ok ≡ false)
 tells-itself ok = record { passed = not-both ok; failed = λ e. e }
+
+-- a test of just this, turned around
+pub turned-tells : {A : Type 0} (t : Bool) → (t ≡ true → A) → (t ≡ false → A → ⊥) → Tells (not t) A
+turned-tells {A} true f g = tells-failed A (f refl)
+turned-tells {A} false f g = tells-passed A (g refl)
+
+pub tells-back : {A : Type 0} (t : Bool) → Tells (not t) A → Tells t (A → ⊥)
+tells-back {A} true u = tells-passed (A → ⊥) (λ n. n (u .failed refl))
+tells-back {A} false u = tells-failed (A → ⊥) (u .passed refl)
+
+pub is-tells : (a b : ℕ) → Tells (not (eqb a b)) (a ≡ b)
+is-tells a b = turned-tells (eqb a b) (eqb-true a b) (eqb-false a b)
 
 pub le-tells : (a b : ℕ) → Tells (leb a b) (b < a)
 le-tells a b = record { passed = λ e w. let l : a ≤ b = leb-true a b e in absurd (omega arith); failed = leb-false a b }

@@ -1,6 +1,6 @@
 -- What a check makes of a request, and where a retry goes: the rules' words against those of a user.
 use Prim.Native.Nat.{ℕ, suc, _+_, _-_, _≤_, _<_}
-use mathlib.Core.Path.{_≡_, refl, sym, ap, subst}
+use mathlib.Core.Path.{_≡_, refl, sym, ap, _∙_, subst}
 use mathlib.Core.Bool.{Bool, true, false, cond}
 use mathlib.Core.Logic.{_⊎_, inl, inr, ⊎-elim}
 use mathlib.Core.List.{List, [], _∷_, _++_}
@@ -11,11 +11,11 @@ use Rattle.fields.specs.Facts.{All}
 use Rattle.fields.proofs.AllLaws.{all-weaker}
 use Rattle.model.specs.Protocol.{isTransaction, transactionType}
 use Rattle.model.specs.Settings.{expired, givenUp, patience}
-use Rattle.model.specs.Delivery.{Request, Verdict, waiting, retried, abandoned, forgotten, verdict}
+use Rattle.model.specs.Delivery.{Request, Verdict, waiting, retried, abandoned, forgotten, verdict, verdictNumber}
 use Rattle.model.specs.State.{State}
 use Rattle.model.specs.Check.{retryTarget}
 use Rattle.model.specs.Calls.{Call}
-use Rattle.model.specs.Promises.Numbers
+use Rattle.model.specs.Promises.Numbers as numbers
 use Rattle.model.specs.Promises.Words.{Seen}
 use Rattle.model.specs.Promises.Pending.{GoesTo, another, again, Overdue, Forgotten, Abandoned, Retried, TakenOut}
 use Rattle.model.specs.Promises.Pending as pending
@@ -63,6 +63,20 @@ goes-to-only {peers = peers} {failed = failed} (again all) = sym (target-again p
 
 -- ---- what a check makes of a request
 
+verdictAt : ℕ → Verdict
+verdictAt n = cond (eqb n 1) retried (cond (eqb n 2) abandoned (cond (eqb n 3) forgotten waiting))
+
+numbered : (v : Verdict) → verdictAt (verdictNumber v) ≡ v
+unfolding verdictAt
+numbered waiting = refl
+numbered retried = refl
+numbered abandoned = refl
+numbered forgotten = refl
+
+-- verdicts with one number are one
+pub verdict-is : (v w : Verdict) → eqb (verdictNumber v) (verdictNumber w) ≡ true → v ≡ w
+verdict-is v w e = sym (numbered v) ∙ ap verdictAt (eqb-true (verdictNumber v) (verdictNumber w) e) ∙ numbered w
+
 abbrev pub judgement : Seen → Request → Verdict
 judgement s r = verdict (s .before .settings) (s .call .clock) r
 
@@ -94,14 +108,14 @@ module _ (s : Seen) (r : Request) where
   made-once forgotten forgotten m n = refl
 
 -- the time since a stamp that is not after the clock
-late : (timeout clock stamp : ℕ) → stamp ≤ clock → leb timeout (clock - stamp) ≡ true → stamp + timeout ≤ clock
+pub late : (timeout clock stamp : ℕ) → stamp ≤ clock → leb timeout (clock - stamp) ≡ true → stamp + timeout ≤ clock
 late timeout clock stamp h e = let l : timeout ≤ clock - stamp = leb-true timeout (clock - stamp) e in omega arith
 
-in-time : (timeout clock stamp : ℕ) → leb timeout (clock - stamp) ≡ false → stamp + timeout ≤ clock → ⊥
+pub in-time : (timeout clock stamp : ℕ) → leb timeout (clock - stamp) ≡ false → stamp + timeout ≤ clock → ⊥
 in-time timeout clock stamp e h = let l : clock - stamp < timeout = leb-false timeout (clock - stamp) e in absurd (omega arith)
 
 -- of a check, whose clock no stamp is after
-module _ (s : Seen) (check : s .call .kind ≡ Numbers.check) (r : Request) (stamp : r .stamp ≤ s .call .clock) where
+module _ (s : Seen) (check : s .call .kind ≡ numbers.check) (r : Request) (stamp : r .stamp ≤ s .call .clock) where
   pub made : Made s r (judgement s r)
   unfolding verdict expired patience givenUp isTransaction
   made = go (leb timeout (s .call .clock - r .stamp)) (eqb (r .typeId) transactionType) (leb limit (suc (r .checks))) refl refl refl
@@ -143,7 +157,7 @@ module _ (s : Seen) (check : s .call .kind ≡ Numbers.check) (r : Request) (sta
   made-verdict v e = subst (Made s r) e made
 
 -- A check takes out what it abandons or forgets, and nothing else.
-pub taken-by-check : (s : Seen) (r : Request) → s .call .kind ≡ Numbers.check → TakenOut s r → Abandoned s r ⊎ Forgotten s r
+taken-by-check : (s : Seen) (r : Request) → s .call .kind ≡ numbers.check → TakenOut s r → Abandoned s r ⊎ Forgotten s r
 taken-by-check s r check (pending.received e among) = absurd (omega (arith, e, check))
 taken-by-check s r check (pending.evicted e among) = absurd (omega (arith, e, check))
 taken-by-check s r check (pending.purged e) = absurd (omega (arith, e, check))
@@ -151,10 +165,10 @@ taken-by-check s r check (pending.orphaned e mode lost peer) = absurd (omega (ar
 taken-by-check s r check (pending.forgotten f) = inr f
 taken-by-check s r check (pending.abandoned a) = inl a
 
-pub waiting-stays : (s : Seen) (r : Request) → s .call .kind ≡ Numbers.check → (Overdue s r → ⊥) → TakenOut s r → ⊥
+pub waiting-stays : (s : Seen) (r : Request) → s .call .kind ≡ numbers.check → (Overdue s r → ⊥) → TakenOut s r → ⊥
 waiting-stays s r check m out = ⊎-elim (λ a. m (a .overdue)) (λ f. m (f .overdue)) (taken-by-check s r check out)
 
-pub retried-stays : (s : Seen) (r : Request) → s .call .kind ≡ Numbers.check → Retried s r → TakenOut s r → ⊥
+pub retried-stays : (s : Seen) (r : Request) → s .call .kind ≡ numbers.check → Retried s r → TakenOut s r → ⊥
 retried-stays s r check m out =
     ⊎-elim (λ a. let x = m .another in let y = a .last in absurd (omega arith)) (λ f. m .noTransaction (f .transaction)) (taken-by-check s r check out)
 

@@ -1,7 +1,7 @@
 -- Number 5: a call's kind, flags and mode fit unless something in the words of the promise is wrong with them.
 use Prim.Native.Nat.{ℕ, _≤_, _<_}
-use mathlib.Core.Path.{_≡_}
-use mathlib.Core.Bool.{Bool, true, false, _&&_, _||_}
+use mathlib.Core.Path.{_≡_, ap}
+use mathlib.Core.Bool.{Bool, true, false, not, _&&_, _||_}
 use mathlib.Core.Logic.{_⊎_, inl, inr, ⊎-elim}
 use native.Mathlib.Omega.{arith}
 use lib.Dec.{leb}
@@ -15,7 +15,7 @@ use Rattle.model.specs.Promises.Outcomes.{Taken}
 use Rattle.model.specs.Promises.Refusals.{NotNow}
 use Rattle.model.proofs.Promises.SeenLaws as kinds
 use Rattle.model.proofs.Promises.SeenLaws.{Kind, kind-known}
-use Rattle.model.proofs.Promises.TellsLaws.{Tells, tells-passed, tells-failed, tells-as, tells-itself, le-tells, both-tell}
+use Rattle.model.proofs.Promises.TellsLaws.{Tells, tells-passed, tells-failed, tells-as, tells-itself, tells-back, le-tells, both-tell}
 
 -- ---- a kind in each mode
 
@@ -33,20 +33,20 @@ module _ (kind : ℕ) where
   not-synced n = ⊎-elim (λ t. let l : 14 < kind = n .0 (t .0) in absurd (omega arith)) (n .1)
 
   -- a test's answer on a kind that is taken, and on one that is not
-  yes : (mode : Mode) → Taken mode kind → Tells true (NotTaken mode kind)
-  yes mode t = tells-passed (NotTaken mode kind) (λ n. n t)
+  yes : (mode : Mode) → Taken mode kind → Tells false (Taken mode kind)
+  yes mode t = tells-failed (Taken mode kind) t
 
-  no : (mode : Mode) → NotTaken mode kind → Tells false (NotTaken mode kind)
-  no mode n = tells-failed (NotTaken mode kind) n
+  no : (mode : Mode) → NotTaken mode kind → Tells true (Taken mode kind)
+  no mode n = tells-passed (Taken mode kind) n
 
-  start-taken : (mode : Mode) → kind ≡ 1 → Tells (isMode mode new) (NotTaken mode kind)
+  start-taken : (mode : Mode) → kind ≡ 1 → Tells (not (isMode mode new)) (Taken mode kind)
   start-taken new e = yes new e
   start-taken seeking e = no seeking (not-seeking (omega arith))
   start-taken syncing e = no syncing (not-syncing (omega arith))
   start-taken synced e = no synced (not-synced (omega arith))
   start-taken ended e = no ended (λ t. t)
 
-  pick-taken : (mode : Mode) → kind ≡ 2 → Tells (isMode mode seeking) (NotTaken mode kind)
+  pick-taken : (mode : Mode) → kind ≡ 2 → Tells (not (isMode mode seeking)) (Taken mode kind)
   pick-taken new e = no new (omega arith)
   pick-taken seeking e = yes seeking (inl e)
   pick-taken syncing e = no syncing (not-syncing (omega arith))
@@ -54,28 +54,28 @@ module _ (kind : ℕ) where
   pick-taken ended e = no ended (λ t. t)
 
   -- from needed modifier to scheduled tick
-  peer-taken : (mode : Mode) → 3 ≤ kind → kind ≤ 13 → Tells (hasSyncPeer mode) (NotTaken mode kind)
+  peer-taken : (mode : Mode) → 3 ≤ kind → kind ≤ 13 → Tells (not (hasSyncPeer mode)) (Taken mode kind)
   peer-taken new l h = no new (omega arith)
   peer-taken seeking l h = no seeking (not-seeking (omega arith))
   peer-taken syncing l h = yes syncing (inl (l, h))
   peer-taken synced l h = yes synced (inl (l, omega arith))
   peer-taken ended l h = no ended (λ t. t)
 
-  section-tick-taken : (mode : Mode) → kind ≡ 14 → Tells (isMode mode synced) (NotTaken mode kind)
+  section-tick-taken : (mode : Mode) → kind ≡ 14 → Tells (not (isMode mode synced)) (Taken mode kind)
   section-tick-taken new e = no new (omega arith)
   section-tick-taken seeking e = no seeking (not-seeking (omega arith))
   section-tick-taken syncing e = no syncing (not-syncing (omega arith))
   section-tick-taken synced e = yes synced (inl (omega arith))
   section-tick-taken ended e = no ended (λ t. t)
 
-  send-failure-taken : (mode : Mode) → kind ≡ 15 → Tells (isMode mode syncing) (NotTaken mode kind)
+  send-failure-taken : (mode : Mode) → kind ≡ 15 → Tells (not (isMode mode syncing)) (Taken mode kind)
   send-failure-taken new e = no new (omega arith)
   send-failure-taken seeking e = no seeking (not-seeking (omega arith))
   send-failure-taken syncing e = yes syncing (inr (inl e))
   send-failure-taken synced e = no synced (not-synced (omega arith))
   send-failure-taken ended e = no ended (λ t. t)
 
-  end-taken : (mode : Mode) → kind ≡ 16 → Tells (isMode mode seeking || hasSyncPeer mode) (NotTaken mode kind)
+  end-taken : (mode : Mode) → kind ≡ 16 → Tells (not (isMode mode seeking || hasSyncPeer mode)) (Taken mode kind)
   end-taken new e = no new (omega arith)
   end-taken seeking e = yes seeking (inr e)
   end-taken syncing e = yes syncing (inr (inr e))
@@ -95,32 +95,41 @@ abbrev OutOfMode : Mode → Bool → ℕ → Type 0
 OutOfMode mode entrySent kind = NotTaken mode kind ⊎ ((kind ≡ 15) × (entrySent ≡ false))
 
 module _ (mode : Mode) (entrySent : Bool) (call : Call) where
-  other : {ok : Bool} → (call .kind ≡ 15 → ⊥) → Tells ok (NotTaken mode (call .kind)) → Tells ok (OutOfMode mode entrySent (call .kind))
-  other n t = tells-as inl (⊎-elim (λ w. w) (λ w. absurd (n (w .0)))) t
+  -- How a step's test of its mode tells whether its kind is taken: alone, or with the mark of an entry that sent.
+  pub data Fits : Bool → Type 0 where
+    alone : (t : Bool) → (call .kind ≡ 15 → ⊥) → Tells (not t) (Taken mode (call .kind)) → Fits t
+    marked : (t : Bool) → call .kind ≡ 15 → Tells (not t) (Taken mode (call .kind)) → Fits (t && entrySent)
 
-  with-peer : (3 ≤ call .kind) × (call .kind ≤ 13) → Tells (hasSyncPeer mode) (OutOfMode mode entrySent (call .kind))
-  with-peer r = other (omega arith) (peer-taken (call .kind) mode (r .0) (r .1))
+  with-peer : (3 ≤ call .kind) × (call .kind ≤ 13) → Fits (hasSyncPeer mode)
+  with-peer r = alone (hasSyncPeer mode) (omega arith) (peer-taken (call .kind) mode (r .0) (r .1))
 
-  mode-tells : {s : Step} → Kind call s → Tells (ofMode mode entrySent s) (OutOfMode mode entrySent (call .kind))
+  pub mode-fits : {s : Step} → Kind call s → Fits (ofMode mode entrySent s)
   unfolding ofMode
-  mode-tells (kinds.start e) = other (omega arith) (start-taken (call .kind) mode e)
-  mode-tells (kinds.pick e) = other (omega arith) (pick-taken (call .kind) mode e)
-  mode-tells (kinds.neededModifier e) = with-peer (omega arith)
-  mode-tells (kinds.reorg e) = with-peer (omega arith)
-  mode-tells (kinds.announcedIds e) = with-peer (omega arith)
-  mode-tells (kinds.syncInfo e) = with-peer (omega arith)
-  mode-tells (kinds.otherMessage e) = with-peer (omega arith)
-  mode-tells (kinds.lostPeer e) = with-peer (omega arith)
-  mode-tells (kinds.receivedIds e) = with-peer (omega arith)
-  mode-tells (kinds.evictedIds e) = with-peer (omega arith)
-  mode-tells (kinds.progress e) = with-peer (omega arith)
-  mode-tells (kinds.check e) = with-peer (omega arith)
-  mode-tells (kinds.scheduledTick e) = with-peer (omega arith)
-  mode-tells (kinds.sectionTick e) = other (omega arith) (section-tick-taken (call .kind) mode e)
-  mode-tells (kinds.sendFailure e) =
-      tells-as (⊎-elim inl (λ w. inr (e, w))) (⊎-elim inl (λ w. inr (w .1)))
-      (both-tell (send-failure-taken (call .kind) mode e) (λ t. tells-itself entrySent))
-  mode-tells (kinds.endOfStream e) = other (omega arith) (end-taken (call .kind) mode e)
+  mode-fits (kinds.start e) = alone (isMode mode new) (omega arith) (start-taken (call .kind) mode e)
+  mode-fits (kinds.pick e) = alone (isMode mode seeking) (omega arith) (pick-taken (call .kind) mode e)
+  mode-fits (kinds.neededModifier e) = with-peer (omega arith)
+  mode-fits (kinds.reorg e) = with-peer (omega arith)
+  mode-fits (kinds.announcedIds e) = with-peer (omega arith)
+  mode-fits (kinds.syncInfo e) = with-peer (omega arith)
+  mode-fits (kinds.otherMessage e) = with-peer (omega arith)
+  mode-fits (kinds.lostPeer e) = with-peer (omega arith)
+  mode-fits (kinds.receivedIds e) = with-peer (omega arith)
+  mode-fits (kinds.evictedIds e) = with-peer (omega arith)
+  mode-fits (kinds.progress e) = with-peer (omega arith)
+  mode-fits (kinds.check e) = with-peer (omega arith)
+  mode-fits (kinds.scheduledTick e) = with-peer (omega arith)
+  mode-fits (kinds.sectionTick e) = alone (isMode mode synced) (omega arith) (section-tick-taken (call .kind) mode e)
+  mode-fits (kinds.sendFailure e) = marked (isMode mode syncing) e (send-failure-taken (call .kind) mode e)
+  mode-fits (kinds.endOfStream e) = alone (isMode mode seeking || hasSyncPeer mode) (omega arith) (end-taken (call .kind) mode e)
+
+  pub fits-taken : {ok : Bool} → Fits ok → ok ≡ true → Taken mode (call .kind)
+  fits-taken (alone test n t) e = t .failed (ap not e)
+  fits-taken (marked test k t) e = t .failed (ap not (and-left test entrySent e))
+
+  fits-tells : {ok : Bool} → Fits ok → Tells ok (OutOfMode mode entrySent (call .kind))
+  fits-tells (alone test n t) = tells-as inl (⊎-elim (λ w. w) (λ w. absurd (n (w .0)))) (tells-back test t)
+  fits-tells (marked test k t) =
+      tells-as (⊎-elim inl (λ w. inr (k, w))) (⊎-elim inl (λ w. inr (w .1))) (both-tell (tells-back test t) (λ e. tells-itself entrySent))
 
 -- ---- in the words of the promise
 
@@ -163,7 +172,8 @@ module _ (s : Seen) where
       let flags = both-tell (le-tells (s .call .gate) 1) (λ e. both-tell (le-tells (s .call .parsed) 1) (λ e. le-tells (s .call .hastip) 1)) in
       tells-as not-now not-now-tested
       (both-tell (both-tell (le-tells 1 k) (λ e. le-tells k 16))
-      (λ e. both-tell flags (λ f. mode-tells (s .before .mode) (s .before .sync .entrySent) (s .call) (known-kind (s .call) e))))
+      (λ e. both-tell flags (λ f. fits-tells (s .before .mode) (s .before .sync .entrySent) (s .call)
+      (mode-fits (s .before .mode) (s .before .sync .entrySent) (s .call) (known-kind (s .call) e)))))
 
 -- what the later tests rest on
 pub fits-kind : (st : State) (call : Call) → callFits st call ≡ true → Kind call (stepOf call)

@@ -41,6 +41,8 @@ pub record SyncPeer (s : Seen) : Type 0 where
   -- "BehindPeer makes that peer the sync peer"
   pub behind : s .answer .outcome ≡ Numbers.saysBehindPeer → s .after .sync .syncPeer ≡ s .call .peer
   pub kept : (Enters s → ⊥) → (s .after .mode ≡ syncing) ⊎ (s .after .mode ≡ synced) → s .after .sync .syncPeer ≡ s .before .sync .syncPeer
+  -- in new, seeking and ended there is no sync peer
+  pub none : (s .after .mode ≡ syncing → ⊥) → (s .after .mode ≡ synced → ⊥) → s .after .sync .syncPeer ≡ 0
 
 -- when the stalled set is emptied: a pick that found all listed peers stalled, progress in syncing, a peer far ahead
 pub data Emptied (s : Seen) : Type 0 where

@@ -96,8 +96,8 @@ IdsRise (r ∷ requests) = All (λ (later : Request). before (r .id) (later .id)
 pub record Pending (s : Seen) : Type 0 where
   pub stays : (r : Request) → Among r (s .before .pending) → (TakenOut s r → ⊥) → (now : Request) × Becomes s r now × Among now (s .after .pending)
   pub comes : (r : Request) → Among r (s .after .pending) → Stayed s r ⊎ Entered s r
-  -- whatever is asked for is pending afterwards
-  pub asked : (q : Requested) → Among q (requestedIn (s .sent)) → (r : Request) × Among r (s .after .pending) × (r .id ≡ q .id)
+  -- whatever is asked for is pending afterwards, just as it is asked for
+  pub asked : (q : Requested) → Among q (requestedIn (s .sent)) → (r : Request) × Among r (s .after .pending) × (asRequested r ≡ q)
   pub rising : IdsRise (s .after .pending)
 
 pub record Evicted (s : Seen) : Type 0 where
