@@ -28,7 +28,7 @@ unfolding same found protocol.isTransaction protocol.isAmong protocol.isAnnounce
     steps.after steps.commands steps.countOf
 test = refl
 
-same-lists-eq : (xs ys : List (List ℕ)) → sameLists xs ys ≡ true → xs ≡ ys
+pub same-lists-eq : (xs ys : List (List ℕ)) → sameLists xs ys ≡ true → xs ≡ ys
 same-lists-eq [] [] t = refl
 same-lists-eq [] (y ∷ ys) t = absurd (false≢true t)
 same-lists-eq (x ∷ xs) [] t = absurd (false≢true t)

@@ -35,12 +35,12 @@ use Rattle.model.proofs.BalanceLaws.{ended-reasons}
 use Rattle.model.specs.Layout.{areaSize}
 
 -- What holds of a core in service: its area is the image of a state that agrees with the book.
-record InService (core : Core) : Type 0 where
-  st : State
-  area : core .area ≡ encode st
-  well : Well st
+pub record InService (core : Core) : Type 0 where
+  pub st : State
+  pub area : core .area ≡ encode st
+  pub well : Well st
   settings : st .settings ≡ core .path .opening .settings
-  agreement : Agreement st (bookOf (core .path))
+  pub agreement : Agreement st (bookOf (core .path))
   report : lastReport (core .path .finished) ≡ length (bookOf (core .path) .open')
 
 -- what a finished step adds to the path
@@ -57,7 +57,7 @@ abbrev served : State → Core → Lent → Core
 served st core l =
     record { area = encode (after st (argsOf (l .call))); path = record { opening = core .path .opening; finished = finishedAs st l ∷ core .path .finished } }
 
-called-refused : (core : Core) (l : Lent) → eqb (stepRefusal (core .area) (l .commands) (l .call)) 0 ≡ false → called core l ≡ core
+pub called-refused : (core : Core) (l : Lent) → eqb (stepRefusal (core .area) (l .commands) (l .call)) 0 ≡ false → called core l ≡ core
 unfolding called step noted
 called-refused core l e = rw (e, e)
 
@@ -75,7 +75,7 @@ acts-well st call well w e =
     let f : Passed st call = passed st call e in
     plan-well st (argsOf call) (well .sync) (well .requests) (f .clock) (args-well st call w e) (of-mode st call (f .fits)) (f .stalledFew) .acts
 
-fresh-in-service : (area : List ℕ) (o : Opening) → length area ≡ areaSize → OpeningInWidth o → InService (freshCore area o)
+pub fresh-in-service : (area : List ℕ) (o : Opening) → length area ≡ areaSize → OpeningInWidth o → InService (freshCore area o)
 unfolding freshCore open' bookOf bookAlong opened emptyBook
 fresh-in-service area o e w =
     record {
@@ -106,7 +106,7 @@ served-in-service core l h w e =
       report = ap length (agrees .pending) ∙ length-map (bookAfter (bookOf (core .path)) (l .call) (outcomeNumber (plan (h .st) a .outcome)) bytes .open') (λ s. s .request);
     }
 
-called-in-service : (core : Core) (l : Lent) → InWidth (l .call) → InService core → InService (called core l)
+pub called-in-service : (core : Core) (l : Lent) → InWidth (l .call) → InService core → InService (called core l)
 called-in-service core l w h = go (eqb (stepRefusal (core .area) (l .commands) (l .call)) 0) refl
   where
     reads : decode (core .area) ≡ h .st

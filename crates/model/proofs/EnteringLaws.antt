@@ -254,7 +254,7 @@ wanted-new b typeId pairs ids =
     (all-weaker (λ (id : Id). not (isAmong id (openIds (b .open'))) ≡ true) (MetIfOpen b) (λ id e o. absurd (false≢true (sym (not-true (isAmong id (openIds (b .open'))) e) ∙ o)))
     (kept (λ (id : Id). not (isAmong id (openIds (b .open')))) ids) (all-pass (λ (id : Id). not (isAmong id (openIds (b .open')))) ids)))
 
-requested-list : (typeId peer : ℕ) (ids : List Id) → requestedBySendings (requestOf typeId peer ids) ≡ map (requested typeId peer) ids
+pub requested-list : (typeId peer : ℕ) (ids : List Id) → requestedBySendings (requestOf typeId peer ids) ≡ map (requested typeId peer) ids
 requested-list typeId peer [] = refl
 requested-list typeId peer (id ∷ ids) = append-nil (map (requested typeId peer) (id ∷ ids))
 

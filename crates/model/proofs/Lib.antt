@@ -4,8 +4,10 @@ pub mod BalanceLaws
 pub mod BatchLaws
 pub mod BoundLaws
 pub mod Cases
+pub mod CaseTables
 pub mod CommandLaws
 pub mod Demand3
+pub mod EdgeCases
 pub mod EnteringLaws
 pub mod EntryLaws
 pub mod FateLaws
@@ -14,6 +16,7 @@ pub mod FormedLaws
 pub mod HeaderLaws
 pub mod IdLaws
 pub mod ImageLaws
+pub mod LayoutCases
 pub mod ListLaws
 pub mod ModeLaws
 pub mod PeerLaws
@@ -31,3 +34,4 @@ pub mod StepLaws
 pub mod SyncLaws
 pub mod Well
 pub mod Widths
+pub mod Promises

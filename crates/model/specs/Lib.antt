@@ -1,11 +1,14 @@
 pub mod Layout
+pub mod LayoutCases
 pub mod Book
 pub mod Calls
 pub mod Cases
+pub mod CaseTables
 pub mod Check
 pub mod Commands
 pub mod Delivery
 pub mod Demand3
+pub mod EdgeCases
 pub mod Events
 pub mod Image
 pub mod Lists
@@ -17,3 +20,4 @@ pub mod Sections
 pub mod Settings
 pub mod State
 pub mod Steps
+pub mod Promises
