@@ -1,37 +1,46 @@
--- The promises, proved: what specs/Promises says of any finished call.
-pub mod ByTypeLaws
-pub mod OrphansAsked
-pub mod SectionsAsked
+-- The promises, proved: what specs/Promises says of any finished call, of any refused one, of any run. `Kept` has it all.
+
+-- what all start from: a finished call as it is seen, words and lists, modes
 pub mod SeenLaws
+pub mod ListLaws
+pub mod WordLaws
+pub mod ModeLaws
+-- passes over the plans: what a step comes to, what it looks at, what it asks for
+pub mod CourseLaws
+pub mod LookLaws
+pub mod ViewLaws
+pub mod PartLaws
+pub mod AskedLaws
+pub mod SparedLaws
+-- outcomes, marks, sync infos, heights
 pub mod OutcomesKept
-pub mod CountLaws
-pub mod RunsKept
+pub mod MarksKept
+pub mod SyncInfosKept
+pub mod HeightsKept
+-- who is asked for what, and how it is cut
+pub mod ItemLaws
+pub mod ByTypeLaws
+pub mod AsksKept
+pub mod SectionsAsked
+pub mod OrphansAsked
 pub mod VerdictLaws
 pub mod CheckAsked
-pub mod ViewLaws
-pub mod LookLaws
-pub mod SparedLaws
-pub mod HeightsKept
-pub mod ReadLaws
-pub mod TellsLaws
-pub mod WrongCallLaws
-pub mod WrongListLaws
-pub mod WrongViewLaws
-pub mod RefusalsKept
-pub mod WordLaws
-pub mod ListLaws
-pub mod ModeLaws
-pub mod ItemLaws
-pub mod AskedLaws
-pub mod AsksKept
 pub mod BatchesKept
+-- what is pending, and what is told
 pub mod AskingLaws
 pub mod CheckedLaws
 pub mod LeftLaws
 pub mod PendingKept
 pub mod ToldKept
-pub mod PartLaws
-pub mod CourseLaws
-pub mod SyncInfosKept
-pub mod MarksKept
+-- refusals
+pub mod TellsLaws
+pub mod WrongCallLaws
+pub mod WrongListLaws
+pub mod WrongViewLaws
+pub mod ReadLaws
+pub mod RefusalsKept
+-- runs
+pub mod CountLaws
+pub mod RunsKept
+-- all of it
 pub mod Kept
