@@ -115,13 +115,15 @@ module _ (clock : ℕ) where
         grows-then g (marks-grow ids one (all-weaker (AskedSo rs) (AskedSo one) (so-after id g) ids (so .1)))
 
     -- nobody has an id that rule 3 wants
+    unpending-so : (rs : List Request) (id : Id) → not (isPending id rs) ≡ true → AskedSo rs id
+    unpending-so rs id e r a f = absurd (pending-tells id rs .passed e (request-pending id rs r a f))
+
     wanted-so : (pairs : List Pair) (ids : List Id) (rs : List Request) → All (AskedSo rs) (wanted rs typeId pairs ids)
     unfolding wanted
     wanted-so pairs ids rs =
-        all-kept (AskedSo rs) (λ (id : Id). not (isStored pairs typeId id)) (kept (λ (id : Id). not (isPending id rs)) ids)
-        (all-weaker (λ (id : Id). not (isPending id rs) ≡ true) (AskedSo rs)
-        (λ id e r a f. absurd (pending-tells id rs .passed e (request-pending id rs r a f)))
-        (kept (λ (id : Id). not (isPending id rs)) ids) (all-pass (λ (id : Id). not (isPending id rs)) ids))
+        let isFree : Id → Bool = λ (id : Id). not (isPending id rs) in
+        all-kept (AskedSo rs) (λ (id : Id). not (isStored pairs typeId id)) (kept isFree ids)
+        (all-weaker (λ (id : Id). isFree id ≡ true) (AskedSo rs) (unpending-so rs) (kept isFree ids) (all-pass isFree ids))
 
   act-grows : (gate : Bool) (act : Act) (rs : List Request) → WellAct act
       → Grows clock rs (requestedBySendings (perform gate clock act rs .sendings)) (perform gate clock act rs .pending)
@@ -132,11 +134,15 @@ module _ (clock : ℕ) where
   act-grows gate (send (Requests.announcement peer ids)) rs w = grows-not rs
   act-grows gate (send (Requests.syncInfo peer)) rs w = grows-not rs
 
+  -- what one act sends and leaves, then what the others do
+  one-then-others : (one others : Done) {rs : List Request} → Grows clock rs (requestedBySendings (one .sendings)) (one .pending)
+      → Grows clock (one .pending) (requestedBySendings (others .sendings)) (others .pending)
+      → Grows clock rs (requestedBySendings (one .sendings ++ others .sendings)) (others .pending)
+  one-then-others one others g h = rw (requested-append (one .sendings) (others .sendings)) (grows-then g h)
+
   pub acts-grow : (gate : Bool) (acts : List Act) (rs : List Request) → All WellAct acts
       → Grows clock rs (requestedBySendings (performAll gate clock acts rs .sendings)) (performAll gate clock acts rs .pending)
   acts-grow gate [] rs w = grows-not rs
   acts-grow gate (act ∷ acts) rs w =
       let one : Done = perform gate clock act rs in
-      let others : Done = performAll gate clock acts (one .pending) in
-      rw (requested-append (one .sendings) (others .sendings))
-      (grows-then (act-grows gate act rs (w .0)) (acts-grow gate acts (one .pending) (w .1)))
+      one-then-others one (performAll gate clock acts (one .pending)) (act-grows gate act rs (w .0)) (acts-grow gate acts (one .pending) (w .1))
