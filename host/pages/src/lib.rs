@@ -13,6 +13,8 @@ pub struct Tree {
     code: HashMap<String, HashSet<String>>,
     /// The words of the files of definitions and laws with this name, of whatever crate.
     laws: HashMap<String, HashSet<String>>,
+    /// The fields of records and the cases of types with this name.
+    parts: HashMap<String, HashSet<String>>,
     /// Edits as `name` and as `crate/name`.
     edits: HashSet<String>,
     /// Edits that do not fit their crate, and why.
@@ -45,6 +47,29 @@ fn is_part(letter: char) -> bool {
 
 fn words(text: &str) -> impl Iterator<Item = String> + '_ {
     text.split(|letter| !is_part(letter)).map(str::to_string)
+}
+
+/// The records and types that a file declares, each with its fields or cases.
+fn declared(text: &str) -> Vec<(String, HashSet<String>)> {
+    let mut all: Vec<(String, HashSet<String>)> = Vec::new();
+    let mut within = false;
+    for line in text.lines() {
+        let mut parts = line.trim_start().split_whitespace();
+        if line.starts_with(' ') {
+            let name = |word: &&str| *word != "pub" && !word.starts_with("--");
+            if let (true, Some((_, last))) = (within && line.contains(':'), all.last_mut()) {
+                let before = parts.take_while(|word| *word != ":");
+                last.extend(before.filter(name).map(str::to_string));
+            }
+            continue;
+        }
+        let kind = parts.find(|word| *word != "pub");
+        within = matches!(kind, Some("record" | "data"));
+        if let (true, Some(name)) = (within, parts.next()) {
+            all.push((name.to_string(), HashSet::new()));
+        }
+    }
+    all
 }
 
 fn stem(path: &Path) -> String {
@@ -83,6 +108,9 @@ impl Tree {
                     .entry(stem(path))
                     .or_default()
                     .extend(words(&text));
+                for (name, parts) in declared(&text) {
+                    self.parts.entry(name).or_default().extend(parts);
+                }
             }
             Some("edit") => {
                 self.edits.insert(stem(path));
@@ -113,7 +141,7 @@ impl Tree {
         }
     }
 
-    /// `File.name`, a definition or a law.
+    /// `File.name`, a definition or a law, or `Record.field`.
     fn has_law(&self, name: &str) -> Option<bool> {
         let parts: Vec<&str> = name.split('.').collect();
         let plain = |part: &&str| !part.is_empty() && part.chars().all(is_part);
@@ -121,8 +149,11 @@ impl Tree {
         {
             return None;
         }
-        let words = self.laws.get(parts[0]);
-        Some(words.is_some_and(|words| parts[1..].iter().all(|part| words.contains(*part))))
+        let has = |names: &HashMap<String, HashSet<String>>| {
+            let words = names.get(parts[0]);
+            words.is_some_and(|words| parts[1..].iter().all(|part| words.contains(*part)))
+        };
+        Some(has(&self.laws) || has(&self.parts))
     }
 
     /// Several words joined by `-`, or such an edit of a crate, in a line that speaks of edits.

@@ -39,13 +39,14 @@ fn what_the_pages_name_is_there() {
 fn a_name_that_nothing_has_is_noticed() {
     let root = root();
     let tree = Tree::read(&root).expect("crates can be read");
-    let text = "`step::run` `step::walk` `Calls.step` `Calls.stride`\n\
+    let text = "`step::run` `step::walk` `Calls.step` `Calls.stride` `Asks.needed` `Asks.heeded`\n\
         edits `step/nine-at-every-step`, `always-continue`, `never-continue`\n\
         [here](docs/LAYOUT.md) [nowhere](docs/NOWHERE.md)";
     let missing = tree.missing(&root, text);
     let expected = [
         (1, "step::walk"),
         (1, "Calls.stride"),
+        (1, "Asks.heeded"),
         (2, "never-continue"),
         (3, "docs/NOWHERE.md"),
     ];
