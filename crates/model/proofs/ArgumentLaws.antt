@@ -90,7 +90,7 @@ rows-fit : (rows : List (List ℕ)) → rowsFit rows ≡ true → All (λ (row :
 rows-fit [] h = tt
 rows-fit (row ∷ rows) h = (and-left (rowFits row) (rowsFit rows) h, rows-fit rows (and-right (rowFits row) (rowsFit rows) h))
 
-row-fits : (i n : ℕ) (bytes : List ℕ) → i < n → rowsFit (entries rowSize n bytes) ≡ true → rowFits (entry rowSize i bytes) ≡ true
+pub row-fits : (i n : ℕ) (bytes : List ℕ) → i < n → rowsFit (entries rowSize n bytes) ≡ true → rowFits (entry rowSize i bytes) ≡ true
 row-fits i n bytes h f =
     let l : i < length (entries rowSize n bytes) = rw length-entries h in
     let p : rowFits (getD (entries rowSize n bytes) i []) ≡ true = all-at (λ (row : List ℕ). rowFits row ≡ true) (entries rowSize n bytes) i [] l (rows-fit (entries rowSize n bytes) f) in

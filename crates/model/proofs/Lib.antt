@@ -18,6 +18,15 @@ pub mod IdLaws
 pub mod ImageLaws
 pub mod LayoutCases
 pub mod ListLaws
+pub mod MapBehindLaws
+pub mod MapBytesLaws
+pub mod MapCallLaws
+pub mod MapCases
+pub mod MapFormedLaws
+pub mod MapLaws
+pub mod MapRowLaws
+pub mod MapRunLaws
+pub mod MapWrittenLaws
 pub mod ModeLaws
 pub mod PeerLaws
 pub mod PendingLaws

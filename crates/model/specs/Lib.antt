@@ -21,3 +21,7 @@ pub mod Settings
 pub mod State
 pub mod Steps
 pub mod Promises
+pub mod WindowMap
+pub mod MapBytes
+pub mod MapRuns
+pub mod MapCases
