@@ -1,0 +1,6 @@
+pub mod CellLaws
+pub mod MarkLaws
+pub mod FillLaws
+pub mod FormedLaws
+pub mod PassLaws
+pub mod ChangeLaws

@@ -1,0 +1,3 @@
+pub mod Answer
+pub mod Changes
+pub mod Parts

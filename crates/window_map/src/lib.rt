@@ -1,0 +1,48 @@
+// F-1's map of the window, on the 512 bytes of its area: whether it is well formed, how many heights can be passed, and
+// a section's mark set or cleared.
+//
+// Equal to `mapFits`, `mapPassable` and `mapChange` of model/specs/WindowMap.antt, for any bytes. The test of an area is
+// one pass over its 192 heights, three marks and three scans for zeros; what can be passed is then told from three
+// words. A change writes one byte and one word. `filling` has the parts of `mapFill` and `mapSlide` that read a view.
+pub mod cells;
+pub mod changing;
+pub mod filling;
+pub mod formed;
+pub mod marks;
+pub mod passing;
+
+ghost use mathlib.Core.Path.{_≡_};
+ghost use Rattle.model.specs.WindowMap.{mapFits, mapPassable};
+ghost use Rattle.window_map.specs.Answer.{passableOf};
+
+// The number of a refusal or 0, and how many heights can be passed.
+pub struct Passable {
+    pub number: u32,
+    pub heights: u32,
+}
+
+// Whether an area is 512 bytes long and well formed.
+pub fn fits(map: &[u8]) -> bool
+    ensures { λ r. ⌜ r ≡ mapFits (now (map .entry)) ⌝ }
+{
+    if map.len() != 512 {
+        return false;
+    }
+    formed::is_formed(map)
+}
+
+// How many heights can be passed, or 12 for an area that does not fit.
+pub fn map_passable(map: &[u8]) -> Passable
+    ensures { λ r. ⌜ passableOf r ≡ mapPassable (now (map .entry)) ⌝ }
+{
+    if !fits(map) {
+        return Passable {
+            number: 12,
+            heights: 0,
+        };
+    }
+    Passable {
+        number: 0,
+        heights: passing::passable(map),
+    }
+}
