@@ -19,7 +19,8 @@ use Rattle.fields.proofs.OrderLaws.{and-left, and-right, same-eq, same-refl, sa
 use Rattle.fields.proofs.PartLaws.{length-part, toBe-part}
 use Rattle.model.specs.Protocol.{windowSize}
 use Rattle.model.specs.Image.{field}
-use Rattle.model.specs.WindowMap.{Cell, absent, present, isAbsent, flagsOf, cellByte, cellOf, mark, marks, encodeMap, decodeMap, absentAbove, mapFormed, mapSize, mapFits}
+use Rattle.model.specs.Layout.{mapSize}
+use Rattle.model.specs.WindowMap.{Cell, absent, present, isAbsent, flagsOf, cellByte, cellOf, mark, marks, encodeMap, decodeMap, absentAbove, mapFormed, mapFits}
 use Rattle.model.specs.MapBytes.{byteMark, bytesFormed, bytesAbsentAbove, wordsFormed, areaFormed}
 use Rattle.model.proofs.FormedLaws.{allTrue, each-true, true-each}
 use Rattle.model.proofs.MapLaws.{WellCell, cells-well, mark-below, cell-formed}

@@ -19,7 +19,8 @@ use Rattle.fields.proofs.OrderLaws.{and-left, and-right, same-eq, same-refl}
 use Rattle.fields.proofs.PartLaws.{part-below}
 use Rattle.model.specs.Protocol.{windowSize}
 use Rattle.model.specs.Image.{field}
-use Rattle.model.specs.WindowMap.{Cell, Map, cellByte, cellOf, mark, marks, encodeMap, decodeMap, absentAbove, mapFormed, mapSize, mapFits, mapPassable, completeRun}
+use Rattle.model.specs.Layout.{mapSize}
+use Rattle.model.specs.WindowMap.{Cell, Map, cellByte, cellOf, mark, marks, encodeMap, decodeMap, absentAbove, mapFormed, mapFits, mapPassable, completeRun}
 use Rattle.model.specs.MapBytes.{runOverWords}
 use Rattle.model.proofs.MapLaws.{WellCell, WellMap, cell-below, cells-back, cells-well, mark-below, run-by-words}
 

@@ -13,7 +13,8 @@ use Rattle.model.specs.Protocol.{windowSize}
 use Rattle.model.specs.Sections.{View, advanceDownloadedHeight}
 use Rattle.model.specs.Lists.{viewOf, viewFits}
 use Rattle.model.specs.Calls.{unless}
-use Rattle.model.specs.WindowMap.{Cell, absent, Map, encodeMap, decodeMap, cellAt, cellsBehind, shows, filled, places, cellHere, inWindow, changed, newHeights, newBehind, slid, completeRun, mapSize, mapFits, fillRefusal, mapFill, changeRefusal, mapChange, slideRefusal, mapSlide, mapPassable}
+use Rattle.model.specs.Layout.{mapSize}
+use Rattle.model.specs.WindowMap.{Cell, absent, Map, encodeMap, decodeMap, cellAt, cellsBehind, shows, filled, places, cellHere, inWindow, changed, newHeights, newBehind, slid, completeRun, mapFits, fillRefusal, mapFill, changeRefusal, mapChange, slideRefusal, mapSlide, mapPassable}
 use Rattle.model.specs.MapRuns.{MapCall, fill, change, slide, mapCalled, Account, accountAfter, placesIn, hasPlace, hasRowsUpTo, answerBy, isFill, MapTested, MapRun, mapStep, mapSteps, mapBegun, rule5, Follows, MapCallInWidth, MapFollows}
 use Rattle.model.proofs.MapLaws.{WellMap}
 use Rattle.model.proofs.MapFormedLaws.{length-encodeMap, decode-encodeMap, fits-encodeMap}

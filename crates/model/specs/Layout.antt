@@ -48,6 +48,13 @@ regionAt = 2560
 abbrev pub regionSize : ℕ
 regionSize = 62976
 
+-- the map of the window (F-1), and where its heights' bytes start
+abbrev pub mapSize : ℕ
+mapSize = 512
+
+abbrev pub mapHeightsAt : ℕ
+mapHeightsAt = 64
+
 -- ---- lists at their limits
 
 -- 400 ids

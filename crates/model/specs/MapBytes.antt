@@ -8,6 +8,7 @@ use lib.Dec.{eqb, leb, ltb}
 use Rattle.fields.specs.Number.{toBe}
 use Rattle.fields.specs.Zero.{zeros, allZero}
 use Rattle.fields.specs.Order.{same}
+use Rattle.model.specs.Layout.{mapHeightsAt}
 use Rattle.model.specs.Protocol.{windowSize}
 use Rattle.model.specs.Image.{field}
 use Rattle.model.specs.WindowMap.{bits}
@@ -16,7 +17,7 @@ use Rattle.model.specs.WindowMap.{bits}
 
 -- where they stand in the area
 abbrev pub heightBytes : List ℕ → List ℕ
-heightBytes area = take windowSize (drop 64 area)
+heightBytes area = take windowSize (drop mapHeightsAt area)
 
 -- a byte that some height is written as: 128, or at most three places and no stored one beyond them
 unfoldable pub byteFormed : ℕ → Bool

@@ -12,7 +12,8 @@ use Rattle.model.specs.Protocol.{windowSize}
 use Rattle.model.specs.Sections.{Section, Header, View, absent, present, Advance, advanceDownloadedHeight}
 use Rattle.model.specs.Lists.{viewOf, viewFits}
 use Rattle.model.specs.Calls.{unless}
-use Rattle.model.specs.WindowMap.{isThere, Mapped, mapSize, mapFits, mapFill, mapChange, mapSlide, mapPassable}
+use Rattle.model.specs.Layout.{mapSize}
+use Rattle.model.specs.WindowMap.{isThere, Mapped, mapFits, mapFill, mapChange, mapSlide, mapPassable}
 
 -- a call of the map that may write it
 pub data MapCall : Type 0 where

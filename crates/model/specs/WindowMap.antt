@@ -9,6 +9,7 @@ use lib.Dec.{eqb, leb, ltb}
 use Rattle.fields.specs.Number.{toBe}
 use Rattle.fields.specs.Zero.{zeros}
 use Rattle.fields.specs.Order.{same}
+use Rattle.model.specs.Layout.{mapSize, mapHeightsAt}
 use Rattle.model.specs.Protocol.{windowSize}
 use Rattle.model.specs.Sections.{Section, Header, View}
 use Rattle.model.specs.Sections as sections
@@ -73,7 +74,7 @@ encodeMap m =
     ++ (toBe 4 (m .downloaded) ++ (toBe 4 (m .chainHeight) ++ (zeros 4 ++ (marks (m .cells) ++ (zeros 24 ++ (map cellByte (m .cells) ++ zeros 256))))))
 
 unfoldable pub decodeMap : List ℕ → Map
-decodeMap area = record { downloaded = field 4 4 area; chainHeight = field 8 4 area; cells = map cellOf (take windowSize (drop 64 area)) }
+decodeMap area = record { downloaded = field 4 4 area; chainHeight = field 8 4 area; cells = map cellOf (take windowSize (drop mapHeightsAt area)) }
 
 -- "a height above the chain height counts as one whose header is absent": heights behind a height, so many of them are cells
 abbrev pub isAbsent : Cell → Bool
@@ -182,9 +183,6 @@ completeRun (c ∷ cells) = cond (isComplete c) (suc (completeRun cells)) 0
 pub record Mapped : Type 0 where
   pub number : ℕ
   pub map : List ℕ
-
-abbrev pub mapSize : ℕ
-mapSize = 512
 
 -- finished, the map is this; refused, it stays
 abbrev pub mapped : ℕ → Map → List ℕ → Mapped

@@ -18,6 +18,11 @@ pub const STALLED_AT: usize = 512;
 
 pub const REGION_AT: usize = 2560;
 
+// The map of the window, and where its heights' bytes start.
+pub const MAP_SIZE: usize = 512;
+
+pub const MAP_HEIGHTS_AT: usize = 64;
+
 pub const CHUNK_SIZE: usize = 12800;
 
 pub const ID_LIST_SIZE: usize = 32768;
@@ -28,3 +33,6 @@ pub const WINDOW_PAIRS_SIZE: usize = 19008;
 
 // Most requests pending and ids evicted.
 pub const TRACKED_LIMIT: usize = 1024;
+
+// Heights of a window.
+pub const WINDOW_SIZE: usize = 192;

@@ -1,8 +1,11 @@
-// The exported entries: opening, step and question, on numbers and byte slices.
+// The exported entries: opening, step and question, and in `map` those of the map of the window, on numbers and byte
+// slices.
 //
 // None demands anything of its caller: any number and any bytes are answered, as docs/LAYOUT.md says. Each is one equation
 // with the entry's definition in model/specs/Calls.antt, which demand 3 speaks of. A refused call writes nothing, an
 // opening the state area, a step both areas, a question the command area. docs/SPEED.md has what they cost.
+pub mod map;
+
 ghost use mathlib.Core.Path.{_≡_};
 ghost use Rattle.model.specs.Calls.{open', step, question};
 use plan::Call;

@@ -18,7 +18,8 @@ use Rattle.fields.proofs.OverwriteLaws.{drop-take}
 use Rattle.model.specs.Protocol.{windowSize}
 use Rattle.model.specs.Image.{bit, field}
 use Rattle.model.specs.WindowMap.{Cell, absent, present, Map, cellByte, decodeMap, withFlag, places, cellHere, inWindow}
-use Rattle.model.specs.WindowMap.{Mapped, mapSize, mapFits, changeRefusal, mapChange}
+use Rattle.model.specs.Layout.{mapSize}
+use Rattle.model.specs.WindowMap.{Mapped, mapFits, changeRefusal, mapChange}
 use Rattle.model.specs.MapBytes.{heightBytes, byteMark, mapOver}
 use Rattle.model.proofs.MapLaws.{WellCell, few-below}
 use Rattle.model.proofs.MapFormedLaws.{fits-encode, fits-well}

@@ -12,7 +12,7 @@ use Rattle.fields.specs.Order.{same}
 use Rattle.fields.specs.Zero.{allZero}
 use Rattle.model.specs.Protocol.{windowSize}
 use Rattle.model.specs.Image.{field}
-use Rattle.model.specs.WindowMap.{mapSize}
+use Rattle.model.specs.Layout.{mapSize}
 use Rattle.model.specs.MapBytes.{heightBytes, byteFormed, byteMark, bytesFormed, bytesAbsentAbove, wordsFormed, areaFormed}
 use Rattle.window_map.specs.Parts.{roomZero, heightsFormed}
 

@@ -9,7 +9,8 @@ use borrow.Author.Tests.{eq-eqb, ne-eqb, eqb-true, lt-ltb, le-ltb}
 use Rattle.fields.specs.Facts.{Bytes}
 use Rattle.fields.proofs.OrderLaws.{and-left}
 use Rattle.model.specs.Image.{field}
-use Rattle.model.specs.WindowMap.{mapFormed, mapSize, mapFits, mapPassable}
+use Rattle.model.specs.Layout.{mapSize}
+use Rattle.model.specs.WindowMap.{mapFormed, mapFits, mapPassable}
 use Rattle.model.specs.MapBytes.{areaFormed, trailingOnes, runOverWords}
 use Rattle.model.proofs.MapBytesLaws.{fits-by-bytes}
 use Rattle.model.proofs.MapFormedLaws.{passable-by-words}

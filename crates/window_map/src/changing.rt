@@ -5,8 +5,12 @@ ghost use Prim.Native.Nat.{_+_, _*_, _/_, _%_, _^_, _≤_, _<_};
 ghost use lib.Dec.{leb};
 ghost use lib.ListN.{length};
 ghost use Rattle.model.specs.Image.{bit};
-ghost use Rattle.model.specs.WindowMap.{mapSize, mapChange};
-ghost use Rattle.window_map.specs.Changes.{wordAnew, cellAnew, changeable};
+ghost use Rattle.model.specs.Layout.{mapSize};
+ghost use Rattle.model.specs.Protocol.{windowSize};
+ghost use Rattle.model.specs.WindowMap.{mapChange};
+ghost use Rattle.window_map.specs.Changes.{cellAnew, changeable};
+use model::layout::MAP_HEIGHTS_AT;
+use model::layout::WINDOW_SIZE;
 
 // How many places a height has.
 fn places_of(byte: u8) -> u8
@@ -31,23 +35,14 @@ fn with_flag(byte: u8, place: u8, stored: bool) -> u8
     without
 }
 
-// The word at `at` made the mark of the 64 heights from `from` on.
-fn word_anew(map: &mut [u8], at: usize, from: usize)
-    requires { ⌜ (at + 8 ≤ length (now map)) × (from + 64 ≤ length (now map)) ⌝ }
-    ensures { λ _. ⌜ now (map .exit) ≡ wordAnew at from (now (map .entry)) ⌝ }
-{
-    let word = crate::marks::mark(map, from);
-    fields::write_u64(map, at, word);
-}
-
 // The byte of the i-th height, and the word that marks it.
 fn write_cell(map: &mut [u8], i: usize, byte: u8)
-    requires { ⌜ (length (now map) ≡ mapSize) × (i < 192) ⌝ }
+    requires { ⌜ (length (now map) ≡ mapSize) × (i < windowSize) ⌝ }
     ensures { λ _. ⌜ now (map .exit) ≡ cellAnew i byte (now (map .entry)) ⌝ }
 {
-    map[64 + i] = byte;
+    map[MAP_HEIGHTS_AT + i] = byte;
     let word = i / 64;
-    word_anew(map, 16 + 8 * word, 64 + 64 * word);
+    crate::marks::word_anew(map, 16 + 8 * word, MAP_HEIGHTS_AT + 64 * word);
 }
 
 // Whether the map is well formed, the height in its window and the place one of the height's.
@@ -62,10 +57,10 @@ fn is_changeable(map: &[u8], height: u32, place: u8) -> bool
         return false;
     }
     let i = (height - downloaded - 1) as usize;
-    if 192 <= i {
+    if WINDOW_SIZE <= i {
         return false;
     }
-    place < places_of(map[64 + i])
+    place < places_of(map[MAP_HEIGHTS_AT + i])
 }
 
 // A section's mark set or cleared, or 12 and the map as it was.
@@ -76,7 +71,7 @@ pub fn change(map: &mut [u8], height: u32, place: u8, stored: bool) -> u32
         return 12;
     }
     let i = (height - fields::read_u32(map, 4) - 1) as usize;
-    let byte = with_flag(map[64 + i], place, stored);
+    let byte = with_flag(map[MAP_HEIGHTS_AT + i], place, stored);
     write_cell(map, i, byte);
     0
 }

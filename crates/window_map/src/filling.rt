@@ -1,4 +1,4 @@
-// The bytes of heights, read from the rows of a view.
+// The bytes of heights, read from the rows of a view, and a map filled whole.
 ghost use mathlib.Core.Path.{_≡_};
 ghost use mathlib.Core.Bool.{true, _&&_};
 ghost use mathlib.Core.List.{map};
@@ -9,10 +9,13 @@ ghost use Rattle.fields.specs.Overwrite.{overwritten};
 ghost use Rattle.model.specs.Layout.{rowSize};
 ghost use Rattle.model.specs.Lists.{rowFits, firstHeight, rowCount, viewFits, viewOf};
 ghost use Rattle.model.specs.MapBytes.{rowByte};
-ghost use Rattle.model.specs.WindowMap.{cellByte, cellAt, cellsBehind, shows};
+ghost use Rattle.model.specs.WindowMap.{cellByte, cellAt, cellsBehind, shows, mapFill};
 ghost use Rattle.heights.specs.Rows.{rowAt};
+use model::layout::MAP_HEIGHTS_AT;
+use model::layout::MAP_SIZE;
 use model::layout::PLACE_SIZE;
 use model::layout::ROW_SIZE;
+use model::layout::WINDOW_SIZE;
 
 // The byte of row i, which fits.
 pub fn row_byte(view: &[u8], i: usize) -> u8
@@ -81,4 +84,23 @@ pub fn fill_heights(area: &mut [u8], at: usize, view: &[u8], chain: u32, behind:
         area[at + i] = height_byte(view, chain, behind + i as u64 + 1);
         i += 1;
     }
+}
+
+// The whole map from a view, on any 512 bytes; or 12, 8 or 9 and the bytes as they were.
+pub fn fill(map: &mut [u8], downloaded: u32, chain: u32, view: &[u8]) -> u32
+    ensures { λ r. ⌜ record { number = r; map = now (map .exit) } ≡ mapFill (now (map .entry)) downloaded chain (now (view .entry)) ⌝ }
+{
+    if map.len() != MAP_SIZE {
+        return 12;
+    }
+    if !refusals::view::view_fits(view) {
+        return 8;
+    }
+    let behind = downloaded as u64;
+    if !shows(view, chain, behind, WINDOW_SIZE) {
+        return 9;
+    }
+    fill_heights(map, MAP_HEIGHTS_AT, view, chain, behind, WINDOW_SIZE);
+    crate::writing::write_around(map, downloaded, chain);
+    0
 }

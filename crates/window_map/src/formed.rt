@@ -5,9 +5,12 @@ ghost use mathlib.Core.Path.{_≡_};
 ghost use mathlib.Core.List.{[], _∷_};
 ghost use lib.ListN.{length, take};
 ghost use Rattle.fields.specs.Order.{same};
-ghost use Rattle.model.specs.WindowMap.{mapSize};
+ghost use Rattle.model.specs.Layout.{mapSize};
 ghost use Rattle.model.specs.MapBytes.{wordsFormed, areaFormed};
 ghost use Rattle.window_map.specs.Parts.{roomZero, heightsFormed};
+use model::layout::MAP_HEIGHTS_AT;
+use model::layout::MAP_SIZE;
+use model::layout::WINDOW_SIZE;
 
 // "EDM", version 1.
 fn starts_well(map: &[u8]) -> bool
@@ -24,7 +27,7 @@ fn room_is_zero(map: &[u8]) -> bool
 {
     let numbers = spans::copying::is_zero(&map[12..16]);
     let words = spans::copying::is_zero(&map[40..64]);
-    let end = spans::copying::is_zero(&map[256..512]);
+    let end = spans::copying::is_zero(&map[256..MAP_SIZE]);
     numbers & (words & end)
 }
 
@@ -35,8 +38,8 @@ fn heights_formed(map: &[u8], downloaded: u32, chain: u32) -> bool
 {
     let mut ok = true;
     let mut i: usize = 0;
-    while i < 192 {
-        let byte = map[64 + i];
+    while i < WINDOW_SIZE {
+        let byte = map[MAP_HEIGHTS_AT + i];
         let height = downloaded as u64 + i as u64;
         let formed = crate::cells::is_formed(byte);
         ok = ok & (formed & ((height < chain as u64) | (128 <= byte)));
@@ -50,7 +53,7 @@ fn words_formed(map: &[u8]) -> bool
     requires { ⌜ length (now map) ≡ mapSize ⌝ }
     ensures { λ r. ⌜ r ≡ wordsFormed (now (map .entry)) ⌝ }
 {
-    let first = fields::read_u64(map, 16) == crate::marks::mark(map, 64);
+    let first = fields::read_u64(map, 16) == crate::marks::mark(map, MAP_HEIGHTS_AT);
     let second = fields::read_u64(map, 24) == crate::marks::mark(map, 128);
     let third = fields::read_u64(map, 32) == crate::marks::mark(map, 192);
     first & (second & third)

@@ -10,12 +10,16 @@ pub mod filling;
 pub mod formed;
 pub mod marks;
 pub mod passing;
+pub mod sliding;
+pub mod writing;
 
 ghost use mathlib.Core.Path.{_≡_};
 ghost use Rattle.model.specs.WindowMap.{mapFits, mapPassable};
 ghost use Rattle.window_map.specs.Answer.{passableOf};
+use model::layout::MAP_SIZE;
 
 // The number of a refusal or 0, and how many heights can be passed.
+#[repr(C)]
 pub struct Passable {
     pub number: u32,
     pub heights: u32,
@@ -25,7 +29,7 @@ pub struct Passable {
 pub fn fits(map: &[u8]) -> bool
     ensures { λ r. ⌜ r ≡ mapFits (now (map .entry)) ⌝ }
 {
-    if map.len() != 512 {
+    if map.len() != MAP_SIZE {
         return false;
     }
     formed::is_formed(map)

@@ -3,7 +3,7 @@ ghost use mathlib.Core.Path.{_≡_};
 ghost use Prim.Native.Nat.{_+_, _≤_};
 ghost use lib.ListN.{length};
 ghost use Rattle.model.specs.Image.{field};
-ghost use Rattle.model.specs.WindowMap.{mapSize};
+ghost use Rattle.model.specs.Layout.{mapSize};
 ghost use Rattle.model.specs.MapBytes.{trailingOnes, runOverWords};
 
 // The trailing ones of the word at `at`.

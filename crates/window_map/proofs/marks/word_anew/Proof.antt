@@ -1,8 +1,8 @@
 -- By the definition.
 use borrow.Author.Needs.{needs}
 use Rattle.window_map.specs.Changes.{wordAnew}
-use Rattle.window_map.proofs.changing.word_anew.Statement.{statement}
-use Rattle.window_map.proofs.changing.word_anew.Tie as tie
+use Rattle.window_map.proofs.marks.word_anew.Statement.{statement}
+use Rattle.window_map.proofs.marks.word_anew.Tie as tie
 
 mark-requires : tie.Need-mark-requires
 mark-requires c κs = search needs
