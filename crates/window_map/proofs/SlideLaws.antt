@@ -18,7 +18,8 @@ use Rattle.model.specs.Layout.{mapSize}
 use Rattle.model.specs.Image.{field}
 use Rattle.model.specs.Lists.{viewFits, viewOf}
 use Rattle.model.specs.Calls.{unless}
-use Rattle.model.specs.WindowMap.{Cell, Map, Mapped, cellByte, encodeMap, decodeMap, mapFits, cellsBehind, shows, fillRefusal, mapFill, newHeights, newBehind, slid, slideRefusal, mapSlide}
+use Rattle.model.specs.WindowMap.{Cell, Mapped, cellByte, encodeMap, decodeMap, mapFits, cellsBehind, shows, fillRefusal, mapFill}
+use Rattle.model.specs.WindowMap.{newHeights, newBehind, slid, slideRefusal, mapSlide}
 use Rattle.model.specs.MapBytes.{heightBytes, mapOver}
 use Rattle.model.proofs.ArgumentLaws.{view-well}
 use Rattle.model.proofs.FinishedLaws.{held}

@@ -48,8 +48,9 @@ fn write_slid(map: &mut [u8], downloaded: u32, view: &[u8])
     requires { ⌜ Slidable (now map) downloaded (now view) ⌝ }
     ensures { λ _. ⌜ now (map .exit) ≡ encodeMap (slid (decodeMap (now (map .entry))) downloaded (viewOf (now (view .entry)))) ⌝ }
 {
+    let before = fields::read_u32(map, 4);
     let chain = fields::read_u32(map, 8);
-    let new = new_heights(fields::read_u32(map, 4), downloaded);
+    let new = new_heights(before, downloaded);
     let stay = WINDOW_SIZE - new;
     spans::moving::move_down(map, MAP_HEIGHTS_AT + new, MAP_HEIGHTS_AT, stay);
     crate::filling::fill_heights(

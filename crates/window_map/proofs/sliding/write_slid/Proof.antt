@@ -12,11 +12,11 @@ module _ (c : tie.After-new-heights) where
   abbrev start : tie.Start
   start = search
 
-  abbrev chain : tie.After-read-u32
-  chain = search
-
-  abbrev before : tie.After-read-u322
+  abbrev before : tie.After-read-u32
   before = search
+
+  abbrev chain : tie.After-read-u322
+  chain = search
 
   bytes : Bytes (start .args .view .now)
   bytes = let known : tie.After-shared-slice-known = search in λ i. omega (arith, known .shared-slice-known .given i)
@@ -35,7 +35,10 @@ read-u32-requires-2 : tie.Need-read-u32-requires-2
 read-u32-requires-2 c κs = let s : tie.Start = search in let l = slid-long (s .pre) in omega (arith, l)
 
 new-heights-requires : tie.Need-new-heights-requires
-new-heights-requires c κs = let s : tie.Start = search in let before : tie.After-read-u322 = search in omega (arith, s .pre .up, before .read-u322 .ensures)
+new-heights-requires c κs =
+    let s : tie.Start = search in
+    let before : tie.After-read-u32 = search in
+    omega (arith, s .pre .up, before .read-u32 .ensures)
 
 sub-stay : tie.Need-sub-stay
 sub-stay c = search needs
@@ -81,8 +84,8 @@ returns c =
     let filled : tie.After-fill-heights = search in
     let around : tie.After-write-around = search in
     let new = counted moved in
-    slid-written (start new .pre) (before new .read-u322 .ensures) (chain new .read-u32 .ensures) (new .new-heights .ensures) (small new) (bytes new) (moved .move-down .ensures)
-    (filled .fill-heights .ensures) (around .write-around .ensures)
+    slid-written (start new .pre) (before new .read-u32 .ensures) (chain new .read-u322 .ensures) (new .new-heights .ensures) (small new) (bytes new)
+    (moved .move-down .ensures) (filled .fill-heights .ensures) (around .write-around .ensures)
 
 pub write-slid-spec : {M : Type 1} → statement M
 write-slid-spec =
