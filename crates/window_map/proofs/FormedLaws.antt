@@ -86,15 +86,15 @@ module _ (area : List ℕ) (l : length area ≡ mapSize) where
   long : windowSize ≤ length (drop 64 area)
   long = simp length-drop (omega arith)
 
-  first-part : take 64 (heightBytes area) ≡ take 64 (drop 64 area)
+  pub first-part : take 64 (heightBytes area) ≡ take 64 (drop 64 area)
   first-part = take-take 64 windowSize (drop 64 area) (omega arith)
 
-  second-part : take 64 (drop 64 (heightBytes area)) ≡ take 64 (drop 128 area)
+  pub second-part : take 64 (drop 64 (heightBytes area)) ≡ take 64 (drop 128 area)
   second-part =
       ap (take 64) (drop-take 64 128 (drop 64 area) (omega (arith, long))) ∙ take-take 64 128 (drop 64 (drop 64 area)) (omega arith)
       ∙ ap (take 64) (drop-drop 64 64 area)
 
-  third-part : drop 128 (heightBytes area) ≡ take 64 (drop 192 area)
+  pub third-part : drop 128 (heightBytes area) ≡ take 64 (drop 192 area)
   third-part = drop-take 128 64 (drop 64 area) (omega (arith, long)) ∙ ap (take 64) (drop-drop 128 64 area)
 
   pub words-are : {w₁ w₂ w₃ m₁ m₂ m₃ : ℕ} → w₁ ≡ field 16 8 area → m₁ ≡ byteMark (take 64 (drop 64 area)) → w₂ ≡ field 24 8 area

@@ -4,3 +4,5 @@ pub mod FillLaws
 pub mod FormedLaws
 pub mod PassLaws
 pub mod ChangeLaws
+pub mod WriteLaws
+pub mod SlideLaws

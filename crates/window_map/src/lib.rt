@@ -1,9 +1,10 @@
-// F-1's map of the window, on the 512 bytes of its area: whether it is well formed, how many heights can be passed, and
-// a section's mark set or cleared.
+// F-1's map of the window, on the 512 bytes of its area: whether it is well formed, how many heights can be passed, a
+// section's mark set or cleared, a whole fill and a slide.
 //
-// Equal to `mapFits`, `mapPassable` and `mapChange` of model/specs/WindowMap.antt, for any bytes. The test of an area is
-// one pass over its 192 heights, three marks and three scans for zeros; what can be passed is then told from three
-// words. A change writes one byte and one word. `filling` has the parts of `mapFill` and `mapSlide` that read a view.
+// Equal to `mapFits`, `mapPassable`, `mapChange`, `mapFill` and `mapSlide` of model/specs/WindowMap.antt, for any bytes.
+// The test of an area is one pass over its 192 heights, three marks and three scans for zeros; what can be passed is then
+// told from three words. A change writes one byte and one word. A fill and a slide write the heights' bytes, and then all
+// that stands around them.
 pub mod cells;
 pub mod changing;
 pub mod filling;
