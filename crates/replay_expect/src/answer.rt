@@ -25,7 +25,7 @@ fn first_number(answer: [u64; 9], numbers: &[u64; 17]) -> usize {
 
 // `=`. A refused call has to leave both areas as they were lent.
 pub fn answered(memory: &mut [u8], numbers: &[u64; 17], replay: Replay) -> Replay
-    requires { ⌜ 655360 ≤ length (now memory) ⌝ }
+    requires { ⌜ 663552 ≤ length (now memory) ⌝ }
 {
     if replay.awaits != AWAITS_ANSWER {
         return differs(replay, PLACE, 0);
@@ -34,6 +34,9 @@ pub fn answered(memory: &mut [u8], numbers: &[u64; 17], replay: Replay) -> Repla
     let i = first_number(answer, numbers);
     if i < 9 {
         return differs(replay, NUMBER, i);
+    }
+    if replay_text::line_words::is_map_call(replay.kind) {
+        return crate::maps::answered(memory, replay);
     }
     let mut next = replay;
     if replay.kind == ASKING {

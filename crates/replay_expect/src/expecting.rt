@@ -11,6 +11,8 @@ use crate::replay::differs;
 use replay_text::line_words::ANSWER_SIGN;
 use replay_text::line_words::AREAS_WORD;
 use replay_text::line_words::COMMAND_SIGN;
+use replay_text::line_words::LEFT_MAP_SIGN;
+use replay_text::line_words::MAP_WORD;
 use replay_text::line_words::PAIRS_SIGN;
 use replay_text::line_words::POKE_WORD;
 use replay_text::line_words::PUT_WORD;
@@ -26,7 +28,7 @@ fn give(
     words: Words,
     replay: Replay,
 ) -> Replay
-    requires { ⌜ (655360 ≤ length (now memory)) × (words .e ≤ length (now bytes)) ⌝ }
+    requires { ⌜ (663552 ≤ length (now memory)) × (words .e ≤ length (now bytes)) ⌝ }
     requires { ⌜ (words .b ≤ words .c) × ((words .c ≤ words .d) × (words .d ≤ words .e)) ⌝ }
 {
     if head == PUT_WORD {
@@ -37,6 +39,9 @@ fn give(
     }
     if head == AREAS_WORD {
         return crate::given::lengths(numbers, replay);
+    }
+    if head == MAP_WORD {
+        return crate::maps::put(memory, bytes, words, replay);
     }
     differs(replay, FORM, 0)
 }
@@ -50,7 +55,7 @@ fn hold(
     words: Words,
     replay: Replay,
 ) -> Replay
-    requires { ⌜ (655360 ≤ length (now memory)) × (words .e ≤ length (now bytes)) ⌝ }
+    requires { ⌜ (663552 ≤ length (now memory)) × (words .e ≤ length (now bytes)) ⌝ }
     requires { ⌜ (words .b ≤ words .c) × ((words .c ≤ words .d) × (words .d ≤ words .e)) ⌝ }
 {
     if head == ANSWER_SIGN {
@@ -65,12 +70,15 @@ fn hold(
     if head == PAIRS_SIGN {
         return crate::left::pairs(memory, bytes, words, replay);
     }
+    if head == LEFT_MAP_SIGN {
+        return crate::maps::left(memory, bytes, words, replay);
+    }
     give(memory, head, numbers, bytes, words, replay)
 }
 
 // A line of a stream that asks for no call.
 pub fn take(memory: &mut [u8], head: u64, line: &[u8], replay: Replay) -> Replay
-    requires { ⌜ 655360 ≤ length (now memory) ⌝ }
+    requires { ⌜ 663552 ≤ length (now memory) ⌝ }
 {
     let mut numbers = [0u64; 17];
     let mut bytes = replay_text::areas::blank();

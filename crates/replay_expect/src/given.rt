@@ -14,7 +14,7 @@ pub fn put(
     words: Words,
     replay: Replay,
 ) -> Replay
-    requires { ⌜ (655360 ≤ length (now memory)) × (words .e ≤ length (now bytes)) ⌝ }
+    requires { ⌜ (663552 ≤ length (now memory)) × (words .e ≤ length (now bytes)) ⌝ }
     requires { ⌜ (words .b ≤ words .c) × ((words .c ≤ words .d) × (words .d ≤ words .e)) ⌝ }
 {
     if !replay_text::areas::put_state(memory, numbers, 4, bytes, words) {
@@ -34,7 +34,7 @@ pub fn poke(
     words: Words,
     replay: Replay,
 ) -> Replay
-    requires { ⌜ (655360 ≤ length (now memory)) × ((words .d ≤ words .e) × (words .e ≤ length (now bytes))) ⌝ }
+    requires { ⌜ (663552 ≤ length (now memory)) × ((words .d ≤ words .e) × (words .e ≤ length (now bytes))) ⌝ }
 {
     let d = words.d;
     let e = words.e;

@@ -13,7 +13,7 @@ use replay_text::words::Words;
 
 // `?`, behind the answer to a question.
 pub fn pairs(memory: &mut [u8], bytes: &[u8], words: Words, replay: Replay) -> Replay
-    requires { ⌜ (655360 ≤ length (now memory)) × ((words .d ≤ words .e) × (words .e ≤ length (now bytes))) ⌝ }
+    requires { ⌜ (663552 ≤ length (now memory)) × ((words .d ≤ words .e) × (words .e ≤ length (now bytes))) ⌝ }
 {
     let d = words.d;
     let e = words.e;
@@ -35,7 +35,7 @@ pub fn state(
     words: Words,
     replay: Replay,
 ) -> Replay
-    requires { ⌜ (655360 ≤ length (now memory)) × (words .e ≤ length (now bytes)) ⌝ }
+    requires { ⌜ (663552 ≤ length (now memory)) × (words .e ≤ length (now bytes)) ⌝ }
     requires { ⌜ (words .b ≤ words .c) × ((words .c ≤ words .d) × (words .d ≤ words .e)) ⌝ }
 {
     if replay.awaits != AWAITS_STATE {
@@ -49,7 +49,7 @@ pub fn state(
 
 // A command with its ids, from `at` on in the area.
 fn put_command(memory: &mut [u8], at: usize, numbers: &[u64; 17], ids: &[u8])
-    requires { ⌜ (655360 ≤ length (now memory)) × ((at ≤ 65536) × (length (now ids) ≤ 65000)) ⌝ }
+    requires { ⌜ (663552 ≤ length (now memory)) × ((at ≤ 65536) × (length (now ids) ≤ 65000)) ⌝ }
 {
     let table = [0u8, 1, 1, 1, 2, 2, 4, 8, 12, 4];
     replay_text::areas::put_numbers(memory, 393216 + at, &table, numbers, 0, 5);
@@ -64,7 +64,7 @@ pub fn command(
     words: Words,
     replay: Replay,
 ) -> Replay
-    requires { ⌜ (655360 ≤ length (now memory)) × ((words .d ≤ words .e) × (words .e ≤ length (now bytes))) ⌝ }
+    requires { ⌜ (663552 ≤ length (now memory)) × ((words .d ≤ words .e) × (words .e ≤ length (now bytes))) ⌝ }
 {
     let d = words.d;
     let e = words.e;

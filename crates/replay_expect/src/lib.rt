@@ -8,5 +8,6 @@ mod given;
 mod left;
 pub mod listing;
 pub mod made;
+mod maps;
 pub mod replay;
 mod settle;

@@ -51,6 +51,10 @@ fn print_what(fault: u8) {
         io::write_all(1, b" differs in the state area, byte ");
         return;
     }
+    if fault == replay::MAP_AREA {
+        io::write_all(1, b" differs in the map, byte ");
+        return;
+    }
     io::write_all(1, b" differs in the command area, byte ");
 }
 
@@ -93,17 +97,18 @@ pub fn end_stream(listing: Listing) -> Listing {
 
 // Nothing of the stream before is kept. The area of a longer state is filled up with zeros.
 fn forget(memory: &mut [u8])
-    requires { ⌜ 655360 ≤ length (now memory) ⌝ }
+    requires { ⌜ 663552 ≤ length (now memory) ⌝ }
 {
     let blank = replay_text::areas::blank();
     spans::moving::overwrite(memory, 0, &blank);
     spans::moving::overwrite(memory, 131072, &blank);
     spans::moving::clear(memory, 196608, 65536);
+    replay_text::maps::forget(memory);
 }
 
 // A stream's first line, which has its name.
 fn begin_stream(memory: &mut [u8], line: &[u8], listing: Listing) -> Listing
-    requires { ⌜ 655360 ≤ length (now memory) ⌝ }
+    requires { ⌜ 663552 ≤ length (now memory) ⌝ }
 {
     let mut next = end_stream(listing);
     if 7 < line.len() {
@@ -121,7 +126,7 @@ fn begin_stream(memory: &mut [u8], line: &[u8], listing: Listing) -> Listing
 
 // A line that asks for no call, or one behind a difference.
 pub fn take(memory: &mut [u8], head: u64, line: &[u8], listing: Listing) -> Listing
-    requires { ⌜ 655360 ≤ length (now memory) ⌝ }
+    requires { ⌜ 663552 ≤ length (now memory) ⌝ }
 {
     if head == STREAM_WORD {
         return begin_stream(memory, line, listing);

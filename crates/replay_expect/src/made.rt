@@ -13,7 +13,7 @@ pub fn made(
     answer: [u64; 9],
     replay: Replay,
 ) -> Replay
-    requires { ⌜ 655360 ≤ length (now memory) ⌝ }
+    requires { ⌜ 663552 ≤ length (now memory) ⌝ }
 {
     let mut next = replay;
     next.awaits = AWAITS_ANSWER;

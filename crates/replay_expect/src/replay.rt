@@ -10,6 +10,8 @@ pub const AWAITS_STATE: u8 = 2;
 
 pub const AWAITS_PAIRS: u8 = 3;
 
+pub const AWAITS_MAP: u8 = 4;
+
 // Where a stream stands.
 pub struct Replay {
     pub awaits: u8,
@@ -20,6 +22,8 @@ pub struct Replay {
     // lengths of the areas of the next call
     pub long: usize,
     pub wide: usize,
+    // length of the stream's map
+    pub map: usize,
     pub calls: u64,
     // what differs, and where
     pub fault: u8,
@@ -37,6 +41,8 @@ pub const STATE_AREA: u8 = 4;
 
 pub const COMMAND_AREA: u8 = 5;
 
+pub const MAP_AREA: u8 = 6;
+
 // The stream with what differs noted.
 pub fn differs(mut replay: Replay, fault: u8, place: usize) -> Replay {
     replay.fault = fault;
@@ -53,6 +59,7 @@ pub fn at_first() -> Replay {
         end: 0,
         long: 65536,
         wide: 65536,
+        map: 512,
         calls: 0,
         fault: 0,
         place: 0,

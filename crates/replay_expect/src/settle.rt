@@ -9,7 +9,7 @@ use crate::replay::differs;
 
 // The next call is lent areas of the usual lengths: what a finished call left, or else what the stream had.
 pub fn settle(memory: &mut [u8], replay: Replay, finished: bool) -> Replay
-    requires { ⌜ 655360 ≤ length (now memory) ⌝ }
+    requires { ⌜ 663552 ≤ length (now memory) ⌝ }
 {
     let i = replay_text::areas::same_bytes(memory, 131072, 262144, 131072);
     if i < 131072 {

@@ -161,7 +161,7 @@ pub fn make(
     bytes: &[u8],
     words: Words,
 ) -> [u64; 9]
-    requires { ⌜ (655360 ≤ length (now memory)) × ((long ≤ 131072) × (wide ≤ 131072)) ⌝ }
+    requires { ⌜ (663552 ≤ length (now memory)) × ((long ≤ 131072) × (wide ≤ 131072)) ⌝ }
     requires { ⌜ (words .a ≤ words .b) × ((words .b ≤ words .c) × ((words .c ≤ words .d) × ((words .d ≤ words .e) × (words .e ≤ length (now bytes))))) ⌝ }
 {
     let mut state = replay_text::lent::lend(memory);

@@ -4,4 +4,5 @@
 // For test programs: proved to be safe and to end, no more. Reads standard input and prints; its two rooms have 1 MiB each.
 mod calling;
 pub mod list;
+mod mapping;
 mod stream;

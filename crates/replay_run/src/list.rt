@@ -7,7 +7,7 @@ use replay_text::line_words::NO_CALL;
 
 // One line of a list.
 fn take(memory: &mut [u8], line: &[u8], listing: Listing) -> Listing
-    requires { ⌜ 655360 ≤ length (now memory) ⌝ }
+    requires { ⌜ 663552 ≤ length (now memory) ⌝ }
 {
     let next = replay_expect::listing::counted(listing);
     let last = next.replay;
@@ -21,7 +21,7 @@ fn take(memory: &mut [u8], line: &[u8], listing: Listing) -> Listing
 
 // All lines of a list.
 fn lines(memory: &mut [u8], text: &[u8]) -> Listing
-    requires { ⌜ 655360 ≤ length (now memory) ⌝ }
+    requires { ⌜ 663552 ≤ length (now memory) ⌝ }
 {
     let mut listing = replay_expect::listing::at_first();
     let mut from = 0;

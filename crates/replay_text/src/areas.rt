@@ -1,4 +1,5 @@
-// What a replay holds, in one slice: five areas of 131,072 bytes, longer than any that a call is lent.
+// What a replay holds, in one slice: five areas of 131,072 bytes, longer than any that a call is lent, and two of 4,096 for
+// maps.
 //
 // | from | what |
 // |---|---|
@@ -7,6 +8,8 @@
 // | 262,144 | the state area that the call left |
 // | 393,216 | the command area that the call has to leave |
 // | 524,288 | the command area that the call left |
+// | 655,360 | the stream's map, and then the one that a call has to leave |
+// | 659,456 | the map that the call left |
 ghost use mathlib.Core.Path.{_≡_};
 ghost use Prim.Native.Nat.{_+_, _*_, _≤_, _<_};
 ghost use lib.ListN.{length};
@@ -47,7 +50,7 @@ pub fn put_numbers(
 
 // The stalled peers, the evicted ids and the pending records of a state, and how many they are.
 fn put_lists(memory: &mut [u8], bytes: &[u8], words: Words) -> bool
-    requires { ⌜ (655360 ≤ length (now memory)) × (words .e ≤ length (now bytes)) ⌝ }
+    requires { ⌜ (663552 ≤ length (now memory)) × (words .e ≤ length (now bytes)) ⌝ }
     requires { ⌜ (words .b ≤ words .c) × ((words .c ≤ words .d) × (words .d ≤ words .e)) ⌝ }
 {
     let b = words.b;
@@ -77,7 +80,7 @@ pub fn put_state(
     bytes: &[u8],
     words: Words,
 ) -> bool
-    requires { ⌜ (655360 ≤ length (now memory)) × ((first ≤ 4) × (words .e ≤ length (now bytes))) ⌝ }
+    requires { ⌜ (663552 ≤ length (now memory)) × ((first ≤ 4) × (words .e ≤ length (now bytes))) ⌝ }
     requires { ⌜ (words .b ≤ words .c) × ((words .c ≤ words .d) × (words .d ≤ words .e)) ⌝ }
 {
     spans::moving::clear(memory, 131072, 16);

@@ -4,7 +4,7 @@ ghost use Prim.Native.Nat.{_+_, _≤_};
 ghost use lib.ListN.{length};
 
 // Fills `out` with the bytes from `at` on. Its bounds are no literals: a part with such takes seconds to prove.
-fn fetch(memory: &[u8], at: usize, out: &mut [u8])
+pub fn fetch(memory: &[u8], at: usize, out: &mut [u8])
     requires { ⌜ at + length (now out) ≤ length (now memory) ⌝ }
 {
     let end = at + out.len();
@@ -13,7 +13,7 @@ fn fetch(memory: &[u8], at: usize, out: &mut [u8])
 
 // The state area of the next call. Its command area is blank, and has to stay so unless lines say otherwise.
 pub fn lend(memory: &mut [u8]) -> [u8; 131072]
-    requires { ⌜ 655360 ≤ length (now memory) ⌝ }
+    requires { ⌜ 663552 ≤ length (now memory) ⌝ }
     ensures { λ r. ⌜ 131072 ≡ length r ⌝ }
 {
     let mut area = crate::areas::blank();
@@ -24,7 +24,7 @@ pub fn lend(memory: &mut [u8]) -> [u8; 131072]
 
 // What the call left of both areas.
 pub fn keep(memory: &mut [u8], state: &[u8], commands: &[u8])
-    requires { ⌜ (655360 ≤ length (now memory)) × ((131072 ≡ length (now state)) × (131072 ≡ length (now commands))) ⌝ }
+    requires { ⌜ (663552 ≤ length (now memory)) × ((131072 ≡ length (now state)) × (131072 ≡ length (now commands))) ⌝ }
 {
     spans::moving::overwrite(memory, 262144, state);
     spans::moving::overwrite(memory, 524288, commands);

@@ -6,5 +6,6 @@
 pub mod areas;
 pub mod lent;
 pub mod line_words;
+pub mod maps;
 pub mod numbers;
 pub mod words;

@@ -13,6 +13,17 @@ pub const ASKING: u8 = 2;
 
 pub const NO_CALL: u8 = 3;
 
+// Calls of the map.
+pub const FILLING: u8 = 4;
+
+pub const ARRIVING: u8 = 5;
+
+pub const PRUNING: u8 = 6;
+
+pub const SLIDING: u8 = 7;
+
+pub const PASSING: u8 = 8;
+
 // First words, as numbers of their bytes.
 pub const STREAM_WORD: u64 = 0x73747265616d;
 
@@ -28,6 +39,18 @@ const STEP_WORD: u64 = 0x73746570;
 
 const ASK_WORD: u64 = 0x61736b;
 
+pub const MAP_WORD: u64 = 0x6d6170;
+
+const FILL_WORD: u64 = 0x66696c6c;
+
+const ARRIVED_WORD: u64 = 0x61727269766564;
+
+const PRUNED_WORD: u64 = 0x7072756e6564;
+
+const SLIDE_WORD: u64 = 0x736c696465;
+
+const PASSABLE_WORD: u64 = 0x7061737361626c65;
+
 pub const ANSWER_SIGN: u64 = 0x3d;
 
 pub const COMMAND_SIGN: u64 = 0x3e;
@@ -35,6 +58,8 @@ pub const COMMAND_SIGN: u64 = 0x3e;
 pub const PAIRS_SIGN: u64 = 0x3f;
 
 pub const STATE_SIGN: u64 = 0x2e;
+
+pub const LEFT_MAP_SIGN: u64 = 0x25;
 
 // The first word of a line as the number of its bytes, or 0.
 pub fn first_word(line: &[u8]) -> u64 {
@@ -51,14 +76,46 @@ pub fn call_of(head: u64) -> u8 {
         STEP_WORD => STEPPING,
         OPEN_WORD => OPENING,
         ASK_WORD => ASKING,
+        FILL_WORD => FILLING,
+        ARRIVED_WORD => ARRIVING,
+        PRUNED_WORD => PRUNING,
+        SLIDE_WORD => SLIDING,
+        PASSABLE_WORD => PASSING,
         _ => NO_CALL,
     }
+}
+
+// Whether a call is one of the map's.
+pub fn is_map_call(call: u8) -> bool {
+    FILLING <= call
+}
+
+// The words of a line that asks for a call of the map.
+fn map_call_words(call: u8, line: &[u8], numbers: &mut [u64; 17], bytes: &mut [u8]) -> Words
+    ensures { λ r. ⌜ (r .a ≤ r .b) × ((r .b ≤ r .c) × ((r .c ≤ r .d) × ((r .d ≤ r .e) × (r .e ≤ length (now (bytes .entry)))))) ⌝ }
+{
+    if call == FILLING {
+        return read_words(line, 5, b"44x", numbers, bytes);
+    }
+    if call == ARRIVING {
+        return read_words(line, 8, b"41", numbers, bytes);
+    }
+    if call == PRUNING {
+        return read_words(line, 7, b"41", numbers, bytes);
+    }
+    if call == SLIDING {
+        return read_words(line, 6, b"4x", numbers, bytes);
+    }
+    read_words(line, 9, b"", numbers, bytes)
 }
 
 // The words of a line that asks for a call.
 pub fn call_words(call: u8, line: &[u8], numbers: &mut [u64; 17], bytes: &mut [u8]) -> Words
     ensures { λ r. ⌜ (r .a ≤ r .b) × ((r .b ≤ r .c) × ((r .c ≤ r .d) × ((r .d ≤ r .e) × (r .e ≤ length (now (bytes .entry)))))) ⌝ }
 {
+    if is_map_call(call) {
+        return map_call_words(call, line, numbers, bytes);
+    }
     if call == OPENING {
         return read_words(line, 5, b"844444", numbers, bytes);
     }
@@ -72,13 +129,13 @@ pub fn call_words(call: u8, line: &[u8], numbers: &mut [u64; 17], bytes: &mut [u
 fn answer_words(made: u8, line: &[u8], numbers: &mut [u64; 17], bytes: &mut [u8]) -> Words
     ensures { λ r. ⌜ (r .a ≤ r .b) × ((r .b ≤ r .c) × ((r .c ≤ r .d) × ((r .d ≤ r .e) × (r .e ≤ length (now (bytes .entry)))))) ⌝ }
 {
-    if made == OPENING {
-        return read_words(line, 2, b"4", numbers, bytes);
+    if made == STEPPING {
+        return read_words(line, 2, b"444444444", numbers, bytes);
     }
-    if made == ASKING {
+    if (made == ASKING) | (made == PASSING) {
         return read_words(line, 2, b"44", numbers, bytes);
     }
-    read_words(line, 2, b"444444444", numbers, bytes)
+    read_words(line, 2, b"4", numbers, bytes)
 }
 
 // The words of a line that says what a call has to come to.
@@ -97,7 +154,7 @@ fn expected_words(
     if head == COMMAND_SIGN {
         return read_words(line, 2, b"11284x", numbers, bytes);
     }
-    if head == PAIRS_SIGN {
+    if (head == PAIRS_SIGN) | (head == LEFT_MAP_SIGN) {
         return read_words(line, 2, b"x", numbers, bytes);
     }
     answer_words(made, line, numbers, bytes)
@@ -121,6 +178,9 @@ pub fn words_of(
     }
     if head == AREAS_WORD {
         return read_words(line, 6, b"44", numbers, bytes);
+    }
+    if head == MAP_WORD {
+        return read_words(line, 4, b"x", numbers, bytes);
     }
     expected_words(head, made, line, numbers, bytes)
 }

@@ -30,7 +30,7 @@ pub fn byte(n: u64) -> u8 {
 }
 
 // The same for a number of 32 bits.
-fn half(n: u64) -> u32 {
+pub fn half(n: u64) -> u32 {
     (n % 4294967296) as u32
 }
 
