@@ -1,10 +1,10 @@
-/* The request keeper's three entries for a host in C. Every byte and number is in docs/LAYOUT.md.
+/* The request keeper's eight entries for a host in C. Every byte and number is in docs/LAYOUT.md.
  *
  * Link target/staticlib/librequest_keeper.a, which `rt staticlib request_keeper` writes.
  *
  * A list is a pointer and then its length in bytes. Any number and any bytes are answered. Of its pointers a caller
  * owes what C can't say otherwise: none is null, also where the length is 0; all the bytes of its length are there; the
- * two areas that a call writes overlap nothing else that it is given; and nobody else writes to any of them meanwhile.
+ * areas that a call writes overlap nothing else that it is given; and nobody else writes to any of them meanwhile.
  * A step uses up to 350 KiB of stack.
  */
 #ifndef REQUEST_KEEPER_H
@@ -20,6 +20,9 @@ extern "C" {
 /* Length of the state area, and least length of the command area. */
 #define REQUEST_KEEPER_STATE_BYTES 65536
 #define REQUEST_KEEPER_COMMAND_BYTES 65536
+
+/* Length of a map of the window. */
+#define REQUEST_KEEPER_MAP_BYTES 512
 
 /* Step kinds. */
 enum request_keeper_kind {
@@ -70,6 +73,12 @@ struct request_keeper_pairs {
     uint32_t length;
 };
 
+/* A map's answer: its number, and how many heights after the downloaded one can be passed. */
+struct request_keeper_passable {
+    uint32_t number;
+    uint32_t heights;   /* 0 to 192 */
+};
+
 /* Writes the opened image. Answers 0, or 1 if the area is not 65,536 bytes long. Settings and clock in milliseconds. */
 uint32_t request_keeper_open(
     uint8_t *state, size_t state_length,
@@ -105,6 +114,39 @@ struct request_keeper_pairs request_keeper_question(
     const uint8_t *state, size_t state_length,
     uint8_t *commands, size_t commands_length,
     uint8_t flag);
+
+/* The map of the window: which sections of the 192 heights after the downloaded height are stored. Each call answers 0, or
+ * with the map untouched 12, then 8, then 9. Steps neither read nor write it.
+ *
+ * Fills a map whole, on any bytes: a view with a row for each of its heights up to the chain height, also behind an absent
+ * header. After a reorg, and once a header of the window or the chain height has changed. */
+uint32_t request_keeper_map_fill(
+    uint8_t *map, size_t map_length,
+    uint32_t downloaded,
+    uint32_t chain,      /* chain height */
+    const uint8_t *view, size_t view_length);
+
+/* A section has come into the store. */
+uint32_t request_keeper_map_arrived(
+    uint8_t *map, size_t map_length,
+    uint32_t height,
+    uint8_t place);      /* 0 to 2, as in a row of a view */
+
+/* The store prunes a section. */
+uint32_t request_keeper_map_pruned(
+    uint8_t *map, size_t map_length,
+    uint32_t height,
+    uint8_t place);
+
+/* The downloaded height has risen: a view with a row for each height, up to the chain height that the map was filled with,
+ * that the window did not reach before. */
+uint32_t request_keeper_map_slide(
+    uint8_t *map, size_t map_length,
+    uint32_t downloaded,
+    const uint8_t *view, size_t view_length);
+
+/* How many heights can be passed: the run of complete heights at the window's low end. */
+struct request_keeper_passable request_keeper_map_passable(const uint8_t *map, size_t map_length);
 
 #ifdef __cplusplus
 }

@@ -1,12 +1,13 @@
-//! The three entries of the static library on bytes (docs/LAYOUT.md, "Entries"). The only module with unsafe code, and
-//! the only place where the boundary is declared in Rust; `include/request_keeper.h` declares it in C.
+//! The eight entries of the static library on bytes (docs/LAYOUT.md, "Entries"): three of the core, five of the map of the
+//! window. The only module with unsafe code, and the only place where the boundary is declared in Rust;
+//! `include/request_keeper.h` declares it in C.
 //!
 //! Nothing is asked of a caller: any number and any bytes are answered. A node has no need of this module, since
-//! [`RequestKeeper`](crate::RequestKeeper) says the same in types; it is for callers that hold bytes of their own, or bad
-//! ones.
+//! [`RequestKeeper`](crate::RequestKeeper) and [`WindowMap`](crate::WindowMap) say the same in types; it is for callers
+//! that hold bytes of their own, or bad ones.
 
 mod exported {
-    use super::{QuestionAnswer, StepAnswer};
+    use super::{MapAnswer, QuestionAnswer, StepAnswer};
 
     extern "C" {
         pub fn request_keeper_open(
@@ -54,6 +55,39 @@ mod exported {
             commands_length: usize,
             flag: u8,
         ) -> QuestionAnswer;
+
+        pub fn request_keeper_map_fill(
+            map: *mut u8,
+            map_length: usize,
+            downloaded: u32,
+            chain: u32,
+            view: *const u8,
+            view_length: usize,
+        ) -> u32;
+
+        pub fn request_keeper_map_arrived(
+            map: *mut u8,
+            map_length: usize,
+            height: u32,
+            place: u8,
+        ) -> u32;
+
+        pub fn request_keeper_map_pruned(
+            map: *mut u8,
+            map_length: usize,
+            height: u32,
+            place: u8,
+        ) -> u32;
+
+        pub fn request_keeper_map_slide(
+            map: *mut u8,
+            map_length: usize,
+            downloaded: u32,
+            view: *const u8,
+            view_length: usize,
+        ) -> u32;
+
+        pub fn request_keeper_map_passable(map: *const u8, map_length: usize) -> MapAnswer;
     }
 }
 
@@ -98,6 +132,14 @@ pub struct StepAnswer {
 pub struct QuestionAnswer {
     pub number: u32,
     pub length: u32,
+}
+
+/// The two numbers of a map that is asked how many heights can be passed.
+#[repr(C)]
+#[derive(Debug, Clone, Copy, PartialEq, Eq, Default)]
+pub struct MapAnswer {
+    pub number: u32,
+    pub heights: u32,
 }
 
 /// Opens: writes the opened image, or answers 1.
@@ -171,4 +213,51 @@ pub fn question(state: &[u8], commands: &mut [u8], flag: u8) -> QuestionAnswer {
             flag,
         )
     }
+}
+
+/// Fills a map whole, on any 512 bytes, for the heights after the downloaded one.
+pub fn map_fill(map: &mut [u8], downloaded: u32, chain: u32, view: &[u8]) -> u32 {
+    // SAFETY: two whole slices; the one that is written is borrowed alone. No number is out of bounds.
+    unsafe {
+        exported::request_keeper_map_fill(
+            map.as_mut_ptr(),
+            map.len(),
+            downloaded,
+            chain,
+            view.as_ptr(),
+            view.len(),
+        )
+    }
+}
+
+/// Sets the mark of a section that has come into the store.
+pub fn map_arrived(map: &mut [u8], height: u32, place: u8) -> u32 {
+    // SAFETY: a whole slice, borrowed alone; no number is out of bounds.
+    unsafe { exported::request_keeper_map_arrived(map.as_mut_ptr(), map.len(), height, place) }
+}
+
+/// Clears the mark of a section that the store prunes.
+pub fn map_pruned(map: &mut [u8], height: u32, place: u8) -> u32 {
+    // SAFETY: a whole slice, borrowed alone; no number is out of bounds.
+    unsafe { exported::request_keeper_map_pruned(map.as_mut_ptr(), map.len(), height, place) }
+}
+
+/// Slides a map up to a downloaded height and fills the new heights.
+pub fn map_slide(map: &mut [u8], downloaded: u32, view: &[u8]) -> u32 {
+    // SAFETY: two whole slices; the one that is written is borrowed alone. No number is out of bounds.
+    unsafe {
+        exported::request_keeper_map_slide(
+            map.as_mut_ptr(),
+            map.len(),
+            downloaded,
+            view.as_ptr(),
+            view.len(),
+        )
+    }
+}
+
+/// Asks a map how many heights can be passed.
+pub fn map_passable(map: &[u8]) -> MapAnswer {
+    // SAFETY: a whole slice, which is only read.
+    unsafe { exported::request_keeper_map_passable(map.as_ptr(), map.len()) }
 }

@@ -1,4 +1,5 @@
 use crate::boundary;
+use crate::refusal::numbered;
 use crate::surroundings::Pairs;
 use crate::{Answer, Finished, Mode, Outcome, Peer, Refusal, Settings, Step, Surroundings};
 use std::fmt::{self, Debug, Display, Formatter};
@@ -37,13 +38,6 @@ impl Display for Question {
 
 fn area(length: usize) -> Box<[u8]> {
     vec![0; length].into_boxed_slice()
-}
-
-fn numbered(number: u32) -> Result<(), Refusal> {
-    match Refusal::of(number) {
-        None => Ok(()),
-        Some(refusal) => Err(refusal),
-    }
 }
 
 impl RequestKeeper {

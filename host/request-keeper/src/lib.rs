@@ -3,8 +3,9 @@
 //!
 //! The node is the core's shell. It waits for events and timers, hands in each wake as a [`Step`] with the
 //! [`Surroundings`] of the moment, sends the commands of the answer, and keeps the bytes. Nothing is decided here: every
-//! list is handed on as it is, and what can't be served comes back as a [`Refusal`] that has changed nothing. What a
-//! shell owes is on the page [`shell`].
+//! list is handed on as it is, and what can't be served comes back as a [`Refusal`] that has changed nothing. A
+//! [`WindowMap`] beside the keeper follows which sections of the next heights are stored. What a shell owes is on the page
+//! [`shell`].
 //!
 //! ```
 //! use request_keeper::{Message, Mode, ModifierType, Outcome, Peer, Question, Refusal, RequestKeeper, Section};
@@ -70,6 +71,8 @@ mod surroundings;
 mod values;
 mod view;
 mod view_shown;
+mod window_map;
+mod window_map_shown;
 
 pub use answer::{Answer, Outcome};
 pub use command::{Command, Commands, Message};
@@ -84,6 +87,7 @@ pub use step::{Step, SyncInfo};
 pub use surroundings::{Pairs, StoredPairs, Surroundings};
 pub use values::{Id, Mode, Peer, Settings};
 pub use view::{Section, View};
+pub use window_map::{WindowMap, MAP_BYTES};
 
 #[doc = include_str!("../../../docs/SHELL.md")]
 pub mod shell {}

@@ -1,10 +1,10 @@
 use std::error::Error;
 use std::fmt::{self, Display, Formatter};
 
-/// Why a step was turned back (document 01, "Where a step can be turned back"). Nothing has changed.
+/// Why a call was turned back (document 01, "Where a step can be turned back", and document 02). Nothing has changed.
 ///
-/// The first that applies is given, in this order. What a shell does about each is on the page [`shell`](crate::shell),
-/// "Refusals".
+/// The first that applies is given, in this order; of the map's calls, whose only numbers are 12, 8 and 9, in that one.
+/// What a shell does about each is on the page [`shell`](crate::shell), "Refusals".
 #[derive(Debug, Clone, Copy, PartialEq, Eq, Hash)]
 #[non_exhaustive]
 pub enum Refusal {
@@ -24,12 +24,16 @@ pub enum Refusal {
     Peers,
     /// 8: a row of over three sections, or above height 2^32 − 1. [`View`](crate::View) makes none.
     View,
-    /// 9: the step would read a height, up to the chain height, that the view has no row for.
+    /// 9: the step would read a height, up to the chain height, that the view has no row for; or the view of a map's fill
+    /// or slide lacks a height to be filled, up to the chain height.
     HeightOutsideView,
     /// 10: more than 1,024 requests and evicted ids after the step.
     TooManyTracked,
     /// 11: a 257th stalled peer.
     TooManyStalled,
+    /// 12: of a [`WindowMap`](crate::WindowMap), a height outside its window, a place that the height lacks, a slide
+    /// downwards, or bytes to restore from that are no map. Tested before 8 and 9.
+    Map,
     /// A number that this crate does not know: the library linked is not of its version.
     Unknown(u32),
 }
@@ -50,11 +54,12 @@ impl Refusal {
             9 => Self::HeightOutsideView,
             10 => Self::TooManyTracked,
             11 => Self::TooManyStalled,
+            12 => Self::Map,
             other => Self::Unknown(other),
         })
     }
 
-    /// Document 01's number.
+    /// The number of documents 01 and 02.
     pub fn number(self) -> u32 {
         match self {
             Self::StateLength => 1,
@@ -68,11 +73,12 @@ impl Refusal {
             Self::HeightOutsideView => 9,
             Self::TooManyTracked => 10,
             Self::TooManyStalled => 11,
+            Self::Map => 12,
             Self::Unknown(number) => number,
         }
     }
 
-    /// Document 01's words: what the number is given for, exactly.
+    /// The documents' words: what the number is given for, exactly.
     pub fn words(self) -> &'static str {
         match self {
             Self::StateLength => "state not 65,536 bytes",
@@ -89,11 +95,25 @@ impl Refusal {
             Self::Lists => "id or stored list of bad length, order or size",
             Self::Peers => "peer list of bad length or size",
             Self::View => "malformed row or length",
-            Self::HeightOutsideView => "a rule would read a height, up to chain height, outside it",
+            Self::HeightOutsideView => {
+                "a rule would read a height, up to chain height, outside it, or it lacks such a height to be filled"
+            }
             Self::TooManyTracked => "pending + evicted after the step would pass 1,024",
             Self::TooManyStalled => "a 257th stalled peer",
-            Self::Unknown(_) => "a number that is not document 01's",
+            Self::Map => {
+                "map of another length or malformed, a height outside its window, a place that the height lacks, or \
+                 a slide downwards"
+            }
+            Self::Unknown(_) => "a number that is not the documents'",
         }
+    }
+}
+
+/// What a call's number says; 0 is none.
+pub(crate) fn numbered(number: u32) -> Result<(), Refusal> {
+    match Refusal::of(number) {
+        None => Ok(()),
+        Some(refusal) => Err(refusal),
     }
 }
 
@@ -107,13 +127,17 @@ impl Error for Refusal {}
 
 #[cfg(test)]
 mod tests {
-    use super::Refusal;
+    use super::{numbered, Refusal};
 
     #[test]
     fn each_number_has_its_refusal() {
         assert_eq!(Refusal::of(0), None);
-        for number in 1..=12 {
-            assert_eq!(Refusal::of(number).map(Refusal::number), Some(number));
+        for number in 1..=13 {
+            let refusal = Refusal::of(number);
+            assert_eq!(refusal.map(Refusal::number), Some(number));
+            let known = !matches!(refusal, Some(Refusal::Unknown(_)));
+            assert_eq!(known, number <= 12);
         }
+        assert_eq!(numbered(12), Err(Refusal::Map));
     }
 }

@@ -1,11 +1,11 @@
-use crate::{Id, ModifierType, Refusal};
+use crate::{Id, ModifierType, Refusal, WindowMap};
 
 const FIRST: usize = 4;
 const ROW: usize = 103;
 pub(crate) const ABSENT: u8 = 255;
 const MOST_SECTIONS: usize = 3;
-/// Heights that are requested at a time.
-const WINDOW: u32 = 192;
+/// Heights that are requested at a time, and that a map has.
+pub(crate) const WINDOW: u32 = 192;
 
 /// A section that a block needs.
 #[derive(Clone, Copy, PartialEq, Eq)]
@@ -79,6 +79,71 @@ impl View {
             }
         }
         Ok(view)
+    }
+
+    /// The rows that a step reads which passes complete heights and looks at no window (rule 5 without rule 4): start,
+    /// received ids, a check in syncing, a scheduled tick in synced. They go over the complete heights after the downloaded
+    /// one to the first that is not, not beyond the chain height.
+    ///
+    /// How many that is, a [`WindowMap`] says beforehand: [`passable`](WindowMap::passable) and one more, if the run of
+    /// complete heights ends in its window.
+    pub fn of_complete(
+        downloaded: u32,
+        chain_height: u32,
+        mut sections_at: impl FnMut(u32) -> Option<Vec<Section>>,
+    ) -> Result<Self, Refusal> {
+        let mut view = Self::from_height(downloaded.saturating_add(1));
+        for height in (downloaded..chain_height).map(|below| below + 1) {
+            if !view.push(sections_at(height))? {
+                break;
+            }
+        }
+        Ok(view)
+    }
+
+    /// The rows that a map is filled from ([`WindowMap::filled`]): the 192 heights after the downloaded one, not beyond the
+    /// chain height, and unlike a step's also those behind an absent header.
+    pub fn of_window(
+        downloaded: u32,
+        chain_height: u32,
+        sections_at: impl FnMut(u32) -> Option<Vec<Section>>,
+    ) -> Result<Self, Refusal> {
+        let last = chain_height.min(downloaded.saturating_add(WINDOW));
+        Self::of_heights(downloaded, last, sections_at)
+    }
+
+    /// The rows that a map needs to slide up to a downloaded height ([`WindowMap::slide`]): the heights of the new window
+    /// that the map does not reach yet, not beyond its chain height, also those behind an absent header.
+    pub fn of_new_heights(
+        map: &WindowMap,
+        downloaded: u32,
+        sections_at: impl FnMut(u32) -> Option<Vec<Section>>,
+    ) -> Result<Self, Refusal> {
+        let reached = map.downloaded_height().saturating_add(WINDOW);
+        let last = map.chain_height().min(downloaded.saturating_add(WINDOW));
+        Self::of_heights(reached.max(downloaded), last, sections_at)
+    }
+
+    /// A row for each height above one up to another.
+    fn of_heights(
+        below: u32,
+        last: u32,
+        mut sections_at: impl FnMut(u32) -> Option<Vec<Section>>,
+    ) -> Result<Self, Refusal> {
+        let mut view = Self::from_height(below.saturating_add(1));
+        for height in (below..last).map(|below| below + 1) {
+            view.push(sections_at(height))?;
+        }
+        Ok(view)
+    }
+
+    /// The next height's row; whether the height is complete.
+    fn push(&mut self, sections: Option<Vec<Section>>) -> Result<bool, Refusal> {
+        let Some(sections) = sections else {
+            return self.push_absent().map(|()| false);
+        };
+        self.push_header(&sections)?;
+        Ok(sections.iter().all(|section| section.stored))
     }
 
     /// The next height's header is absent. Refused above height 2^32 − 1.

@@ -74,12 +74,16 @@ static void hex(size_t length) {
     printf("\n");
 }
 
-static void print_state(void) {
+static uint64_t hash(const uint8_t *bytes, size_t length) {
     uint64_t hash = UINT64_C(0xcbf29ce484222325);
-    for (size_t index = 0; index < sizeof state; index++) {
-        hash = (hash ^ state[index]) * UINT64_C(0x100000001b3);
+    for (size_t index = 0; index < length; index++) {
+        hash = (hash ^ bytes[index]) * UINT64_C(0x100000001b3);
     }
-    printf("state %016" PRIx64 "\n", hash);
+    return hash;
+}
+
+static void print_state(void) {
+    printf("state %016" PRIx64 "\n", hash(state, sizeof state));
 }
 
 struct call {
@@ -232,6 +236,101 @@ static void ends(void) {
     step(at(REQUEST_KEEPER_END_OF_STREAM, 90000));
 }
 
+#define DOWNLOADED UINT32_C(0x01020304)
+#define CHAIN_HEIGHT (DOWNLOADED + 194)
+#define ROW 103
+
+static uint8_t map[REQUEST_KEEPER_MAP_BYTES];
+
+/* A view of up to 192 rows. */
+static uint8_t rows[4 + 192 * ROW];
+static size_t rows_length;
+
+static void rows_from(uint32_t first) {
+    for (int index = 0; index < 4; index++) {
+        rows[index] = (uint8_t)(first >> (24 - 8 * index));
+    }
+    rows_length = 4;
+}
+
+/* 255, or so many sections and a bit for each place that is stored. */
+static void add_row(uint8_t count, uint8_t stored) {
+    uint8_t *row = rows + rows_length;
+    memset(row, 0, ROW);
+    row[0] = count;
+    for (int place = 0; count <= 3 && place < count; place++) {
+        memset(row + 1 + 34 * place, 102, 33);
+        row[34 + 34 * place] = stored >> place & 1;
+    }
+    rows_length += ROW;
+}
+
+static void window(void) {
+    rows_from(DOWNLOADED + 1);
+    for (int index = 0; index < 192; index++) {
+        add_row(index % 4, index == 5 ? 0 : 7);
+    }
+}
+
+static void print_map(uint32_t number) {
+    printf("[%" PRIu32 "]\nmap %016" PRIx64 "\n", number, hash(map, sizeof map));
+}
+
+static void passable(size_t length) {
+    struct request_keeper_passable answer = request_keeper_map_passable(map, length);
+    printf("[%" PRIu32 ", %" PRIu32 "]\n", answer.number, answer.heights);
+}
+
+static void arrived(uint32_t after, uint8_t place) {
+    print_map(request_keeper_map_arrived(map, sizeof map, DOWNLOADED + after, place));
+}
+
+static void pruned(uint32_t after, uint8_t place) {
+    print_map(request_keeper_map_pruned(map, sizeof map, DOWNLOADED + after, place));
+}
+
+static uint32_t fill(size_t map_length, size_t view_length) {
+    return request_keeper_map_fill(map, map_length, DOWNLOADED, CHAIN_HEIGHT, rows, view_length);
+}
+
+static uint32_t slide(size_t map_length, uint32_t after, size_t view_length) {
+    return request_keeper_map_slide(map, map_length, DOWNLOADED + after, rows, view_length);
+}
+
+static void map_changes(void) {
+    window();
+    print_map(fill(sizeof map, rows_length));
+    passable(sizeof map);
+    arrived(6, 0);
+    passable(sizeof map);
+    pruned(4, 2);
+    passable(sizeof map);
+    static const uint8_t lacking[3][2] = {{2, 1}, {0, 0}, {193, 0}};
+    for (int index = 0; index < 3; index++) {
+        arrived(lacking[index][0], lacking[index][1]);
+        pruned(lacking[index][0], lacking[index][1]);
+    }
+}
+
+static void map_slides(void) {
+    rows_from(DOWNLOADED + 193);
+    print_map(slide(sizeof map, 2, rows_length));
+    add_row(2, 2);
+    add_row(255, 0);
+    print_map(slide(sizeof map, 2, rows_length));
+    passable(sizeof map);
+    print_map(slide(sizeof map, 1, rows_length));
+}
+
+static void map_lengths(void) {
+    size_t less = sizeof map - 1;
+    passable(less);
+    window();
+    uint32_t first = fill(less, 3), second = slide(less, 2, 3);
+    uint32_t third = fill(sizeof map, 106), fourth = slide(sizeof map, 2, 106), fifth = fill(sizeof map, 107);
+    printf("[%" PRIu32 ", %" PRIu32 ", %" PRIu32 ", %" PRIu32 ", %" PRIu32 "]\n", first, second, third, fourth, fifth);
+}
+
 int main(void) {
     memset(state, 0xa5, sizeof state);
     memset(commands, 0xa5, sizeof commands);
@@ -247,5 +346,9 @@ int main(void) {
     checks();
     reorg();
     ends();
+    memset(map, 0xa5, sizeof map);
+    map_changes();
+    map_slides();
+    map_lengths();
     return 0;
 }

@@ -207,6 +207,7 @@ fn played() -> Scenario {
     checks(&mut scenario);
     reorg(&mut scenario);
     ends(&mut scenario);
+    scenario::map::play(&mut scenario.transcript);
     scenario
 }
 

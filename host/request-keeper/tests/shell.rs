@@ -268,6 +268,42 @@ fn a_view_reaches_as_far_as_the_rules_read() {
     assert_eq!(none.map(|view| view.rows()), Ok(0));
 }
 
+/// A keeper in synced.
+fn synced() -> RequestKeeper {
+    let mut keeper = syncing();
+    let answer = keeper
+        .step(headers(&[]), &now(1_000))
+        .map(|step| step.answer);
+    assert_eq!(answer.map(|answer| answer.outcome), Ok(Outcome::Synced));
+    keeper
+}
+
+#[test]
+fn a_step_that_looks_at_no_window_reads_to_the_first_height_that_is_not_complete() {
+    let received = Step::Received { ids: &[] };
+    for (chain_height, absent, rows) in [(0, 0, 0), (50, 0, 50), (500, 0, 101), (500, 70, 70)] {
+        let view = View::of_complete(0, chain_height, |height| row_of(height, absent));
+        let view = view.expect("one section each");
+        assert_eq!(view.rows(), rows);
+        let shorter = view_to(rows.saturating_sub(1) as u32, absent);
+        for (keeper, step) in [
+            (syncing(), received),
+            (syncing(), Step::Check),
+            (synced(), received),
+            (synced(), Step::ScheduledTick),
+        ] {
+            let with = |view| Surroundings {
+                chain_height,
+                view,
+                ..now(2_000)
+            };
+            assert!(keeper.clone().step(step, &with(&view)).is_ok());
+            let refusal = keeper.clone().step(step, &with(&shorter)).err();
+            assert_eq!(refusal, (rows > 0).then_some(Refusal::HeightOutsideView));
+        }
+    }
+}
+
 #[test]
 fn bytes_that_are_no_image_are_refused() {
     for length in [0, STATE_BYTES - 1, STATE_BYTES + 1] {

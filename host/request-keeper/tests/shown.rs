@@ -3,7 +3,7 @@
 use request_keeper::{
     Answer, Command, Hex, Id, Message, Mode, ModifierType, Outcome, Peer, PendingRequest, Question,
     Refusal, RequestKeeper, Section, Sends, Settings, Step, StoredPairs, Surroundings, SyncInfo,
-    View,
+    View, WindowMap,
 };
 use std::fmt::Debug;
 
@@ -47,6 +47,10 @@ fn view() -> View {
     view.push_header(&[SECTION]).expect("one section");
     view.push_absent().expect("room for a row");
     view
+}
+
+fn map() -> WindowMap {
+    WindowMap::filled(400, 402, &view()).expect("both rows")
 }
 
 /// A keeper to which one id was announced, after `look` has seen that step.
@@ -150,6 +154,10 @@ fn in_a_few_words() {
             format!("extension {hex} of peer 9, stamp 3000, checks 2"),
         ),
         (view().to_string(), "heights 401 to 402".to_string()),
+        (
+            map().to_string(),
+            "heights 401 to 402, none can be passed".to_string(),
+        ),
         (stored().to_string(), "1 stored".to_string()),
         (
             ANNOUNCED.to_string(),
@@ -193,4 +201,17 @@ fn in_a_few_words() {
     for (value, words) in shown {
         assert_eq!(value, words);
     }
+}
+
+#[test]
+fn a_map_shows_what_is_stored() {
+    let mut map = map();
+    let shown = "WindowMap { downloaded_height: 400, chain_height: 402, passable: 0, heights: [[missing], absent] }";
+    assert_eq!(format!("{map:?}"), shown);
+    map.arrived(401, 0).expect("a section of the window");
+    let shown = "WindowMap { downloaded_height: 400, chain_height: 402, passable: 1, heights: [[stored], absent] }";
+    assert_eq!(format!("{map:?}"), shown);
+    assert_eq!(map.to_string(), "heights 401 to 402, 1 can be passed");
+    let empty = WindowMap::filled(402, 402, &View::EMPTY).expect("no row is needed");
+    assert_eq!(empty.to_string(), "no heights");
 }

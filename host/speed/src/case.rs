@@ -160,4 +160,10 @@ impl Areas {
         let bytes = self.state.bytes();
         usize::from(u16::from_be_bytes([bytes[70], bytes[71]]))
     }
+
+    /// The downloaded height in the state area.
+    pub fn downloaded(&self) -> u32 {
+        let bytes = self.state.bytes();
+        u32::from_be_bytes([bytes[60], bytes[61], bytes[62], bytes[63]])
+    }
 }

@@ -14,6 +14,7 @@ mod data;
 mod growth;
 mod hostile;
 mod ids;
+mod map;
 mod measure;
 mod repeat;
 mod table;
@@ -58,6 +59,7 @@ fn show_all(areas: &mut Areas) -> Vec<String> {
     for (title, columns, cases) in tables {
         over.extend(shown(title, columns, cases, areas));
     }
+    over.extend(map::show(areas));
     over.extend(growth::show(areas));
     over.extend(hostile::show(areas));
     over

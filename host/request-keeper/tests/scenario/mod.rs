@@ -1,4 +1,6 @@
-//! A keeper that notes in a transcript what it is asked and answers, and the values of the calls.
+//! A keeper and a map that note in a transcript what they are asked and answer, and the values of the calls.
+
+pub mod map;
 
 use request_keeper::{
     Answer, Id, ModifierType, Peer, Question, Refusal, RequestKeeper, Section, Settings, Step,
@@ -61,15 +63,15 @@ fn hex(transcript: &mut String, bytes: &[u8]) {
     transcript.push('\n');
 }
 
+fn hash(bytes: &[u8]) -> u64 {
+    bytes.iter().fold(0xcbf2_9ce4_8422_2325_u64, |hash, byte| {
+        (hash ^ u64::from(*byte)).wrapping_mul(0x0100_0000_01b3)
+    })
+}
+
 impl Scenario {
     fn state(&mut self) {
-        let hash = self
-            .keeper
-            .as_bytes()
-            .iter()
-            .fold(0xcbf2_9ce4_8422_2325_u64, |hash, byte| {
-                (hash ^ u64::from(*byte)).wrapping_mul(0x0100_0000_01b3)
-            });
+        let hash = hash(self.keeper.as_bytes());
         writeln!(self.transcript, "state {hash:016x}").expect("a string takes all");
     }
 
