@@ -2,8 +2,9 @@
 // slices.
 //
 // None demands anything of its caller: any number and any bytes are answered, as docs/LAYOUT.md says. Each is one equation
-// with the entry's definition in model/specs/Calls.antt, which demand 3 speaks of. A refused call writes nothing, an
-// opening the state area, a step both areas, a question the command area. docs/SPEED.md has what they cost.
+// with the entry's definition in model/specs/Calls.antt, which demand 3 speaks of, or in WindowMap.antt. A refused call
+// writes nothing, an opening the state area, a step both areas, a question the command area, a call of the map the map.
+// docs/SPEED.md has what they cost.
 pub mod map;
 
 ghost use mathlib.Core.Path.{_≡_};

@@ -5,4 +5,5 @@ pub mod FormedLaws
 pub mod PassLaws
 pub mod ChangeLaws
 pub mod WriteLaws
+pub mod WholeFillLaws
 pub mod SlideLaws

@@ -1,67 +1,32 @@
--- A map filled whole, and a map that slides: the tests one by one, and the bytes that are written.
+-- A map that slides: the tests one by one, and the bytes that are written.
 use Prim.Native.Nat.{ℕ, _+_, _-_, _^_, _≤_, _<_, min}
-use mathlib.Core.Path.{_≡_, refl, sym, ap, _∙_}
+use mathlib.Core.Path.{_≡_, sym, ap, _∙_}
 use mathlib.Core.Bool.{Bool, true, false, _&&_}
 use mathlib.Core.List.{List, _++_, map}
 use native.Mathlib.Omega.{arith}
-use lib.Dec.{eqb, leb}
+use lib.Dec.{leb}
 use lib.ListN.{length, take, drop, length-map, length-append, length-drop}
 use lib.Seq.{drop-drop, length-take-le}
-use borrow.Author.Tests.{eq-eqb, ne-eqb, le-leb, lt-leb, leb-true}
+use borrow.Author.Tests.{ne-eqb, le-leb, lt-leb, leb-true}
 use Rattle.fields.specs.Facts.{Bytes}
 use Rattle.fields.specs.Overwrite.{overwritten}
 use Rattle.fields.proofs.OrderLaws.{and-left, and-right}
-use Rattle.fields.proofs.OverwriteLaws.{drop-take, read-back}
+use Rattle.fields.proofs.OverwriteLaws.{drop-take}
 use Rattle.spans.specs.Move.{moved}
 use Rattle.model.specs.Protocol.{windowSize}
 use Rattle.model.specs.Layout.{mapSize}
 use Rattle.model.specs.Image.{field}
 use Rattle.model.specs.Lists.{viewFits, viewOf}
-use Rattle.model.specs.Calls.{unless}
-use Rattle.model.specs.WindowMap.{Cell, Mapped, cellByte, encodeMap, decodeMap, mapFits, cellsBehind, shows, fillRefusal, mapFill}
+use Rattle.model.specs.WindowMap.{Cell, Mapped, cellByte, encodeMap, decodeMap, mapFits, cellsBehind, shows}
 use Rattle.model.specs.WindowMap.{newHeights, newBehind, slid, slideRefusal, mapSlide}
 use Rattle.model.specs.MapBytes.{heightBytes, mapOver}
 use Rattle.model.proofs.ArgumentLaws.{view-well}
 use Rattle.model.proofs.FinishedLaws.{held}
 use Rattle.model.proofs.MapCallLaws.{length-behind}
-use Rattle.model.proofs.MapWrittenLaws.{filled-over, slid-over}
+use Rattle.model.proofs.MapWrittenLaws.{slid-over}
 use Rattle.window_map.specs.Slides.{Slidable}
 use Rattle.window_map.proofs.PassLaws.{fits-long}
-use Rattle.window_map.proofs.WriteLaws.{written-next}
-
--- the bytes of all heights written
-heights-read : (area heights : List ℕ) → length area ≡ mapSize → length heights ≡ windowSize → heightBytes (overwritten 64 heights area) ≡ heights
-heights-read area heights l n = rw n at (read-back 64 heights area (omega arith))
-
--- ---- a whole fill
-
-module _ (area : List ℕ) (downloaded chain : ℕ) (view : List ℕ) where
-  pub fill-other-length : (length area ≡ mapSize → ⊥) → _≡_ {A = Mapped} (record { number = 12; map = area }) (mapFill area downloaded chain view)
-  unfolding mapFill fillRefusal
-  fill-other-length h = rw (ne-eqb (length area) mapSize h)
-
-  module _ (l : length area ≡ mapSize) where
-    pub fill-other-view : viewFits view ≡ false → _≡_ {A = Mapped} (record { number = 8; map = area }) (mapFill area downloaded chain view)
-    unfolding mapFill fillRefusal
-    fill-other-view v = rw (eq-eqb (length area) mapSize l, v)
-
-    module _ (v : viewFits view ≡ true) where
-      pub fill-lacking : shows (viewOf view) chain downloaded windowSize ≡ false
-          → _≡_ {A = Mapped} (record { number = 9; map = area }) (mapFill area downloaded chain view)
-      unfolding mapFill fillRefusal
-      fill-lacking s = rw (eq-eqb (length area) mapSize l, v, s)
-
-      pub fill-finished : Bytes view → shows (viewOf view) chain downloaded windowSize ≡ true → {t₁ t₂ : List ℕ}
-          → t₁ ≡ overwritten 64 (map cellByte (cellsBehind (viewOf view) chain downloaded windowSize)) area
-          → t₂ ≡ mapOver downloaded chain (heightBytes t₁)
-          → _≡_ {A = Mapped} (record { number = 0; map = t₂ }) (mapFill area downloaded chain view)
-      unfolding mapFill fillRefusal
-      fill-finished b s {t₁} {t₂} e₁ e₂ =
-          let cells : List Cell = cellsBehind (viewOf view) chain downloaded windowSize in
-          let n : length (map cellByte cells) ≡ windowSize = length-map cells cellByte ∙ length-behind (viewOf view) chain downloaded windowSize in
-          let heights : heightBytes t₁ ≡ map cellByte cells = ap heightBytes e₁ ∙ heights-read area (map cellByte cells) l n in
-          let written = e₂ ∙ ap (mapOver downloaded chain) heights ∙ sym (filled-over downloaded chain (viewOf view) (view-well view b v)) in
-          rw (eq-eqb (length area) mapSize l, v, s, written)
+use Rattle.window_map.proofs.WriteLaws.{written-next, heights-read}
 
 -- ---- the tests of a slide
 
@@ -124,7 +89,7 @@ module _ {area : List ℕ} {downloaded : ℕ} {view : List ℕ} (g : Slidable ar
   over d b = slid-over area (g .fits) downloaded (viewOf view) (g .up) d (view-well view b (g .shown))
 
   module _ {before chain new : ℕ} (r : before ≡ field 4 4 area) (c : chain ≡ field 8 4 area) (n : new ≡ min (downloaded - before) windowSize) where
-    pub slid-few : new ≤ windowSize
+    slid-few : new ≤ windowSize
     slid-few = omega (arith, n)
 
     same-new : newHeights (decodeMap area) downloaded ≡ new

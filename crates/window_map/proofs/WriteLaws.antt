@@ -8,8 +8,9 @@ use lib.Seq.{take-append-add}
 use Rattle.fields.specs.Number.{toBe}
 use Rattle.fields.specs.Overwrite.{overwritten}
 use Rattle.fields.specs.Zero.{zeros}
-use Rattle.fields.proofs.OverwriteLaws.{overwritten-next, drop-after}
+use Rattle.fields.proofs.OverwriteLaws.{overwritten-next, drop-after, read-back}
 use Rattle.model.specs.Layout.{mapSize}
+use Rattle.model.specs.Protocol.{windowSize}
 use Rattle.model.specs.MapBytes.{heightBytes, byteMark, mapOver}
 use Rattle.window_map.specs.Around.{numbersOf, wordsOf}
 use Rattle.window_map.specs.Changes.{wordAnew}
@@ -94,3 +95,7 @@ around-written s l downloaded chain {t₁} {t₂} {t₃} {t₄} e₁ e₂ e₃ e
     let m₂ : t₂ ≡ overwritten 0 (a ++ b) s = written-next 0 16 a b s (omega arith) (omega arith) e₁ n₂ in
     let m₃ : t₃ ≡ overwritten 0 ((a ++ b) ++ zeros 24) s = written-next 0 40 (a ++ b) (zeros 24) s (omega arith) (omega arith) m₂ e₃ in
     e₄ ∙ ap (overwritten 256 (zeros 256)) m₃ ∙ between ((a ++ b) ++ zeros 24) s (zeros 256) lc (sym l) ∙ over-parts downloaded chain heights
+
+-- the bytes of all heights written
+pub heights-read : (area heights : List ℕ) → length area ≡ mapSize → length heights ≡ windowSize → heightBytes (overwritten 64 heights area) ≡ heights
+heights-read area heights l n = rw n at (read-back 64 heights area (omega arith))

@@ -10,7 +10,7 @@ use Rattle.model.specs.Layout.{mapSize}
 use Rattle.model.specs.Lists.{viewFits, viewOf}
 use Rattle.model.specs.Protocol.{windowSize}
 use Rattle.model.specs.WindowMap.{shows}
-use Rattle.window_map.proofs.SlideLaws.{fill-other-length, fill-other-view, fill-lacking, fill-finished}
+use Rattle.window_map.proofs.WholeFillLaws.{fill-other-length, fill-other-view, fill-lacking, fill-finished}
 use Rattle.window_map.proofs.filling.fill.Statement.{statement}
 use Rattle.window_map.proofs.filling.fill.Tie as tie
 

@@ -3,7 +3,7 @@ use borrow.Author.Needs.{needs}
 use native.Mathlib.Omega.{arith}
 use Prim.Native.Nat.{_^_, _<_}
 use Rattle.fields.specs.Facts.{Bytes}
-use Rattle.window_map.proofs.SlideLaws.{slid-long, slid-few, slid-written}
+use Rattle.window_map.proofs.SlideLaws.{slid-long, slid-written}
 use Rattle.window_map.proofs.sliding.write_slid.Statement.{statement}
 use Rattle.window_map.proofs.sliding.write_slid.Tie as tie
 
