@@ -7,24 +7,38 @@ use replay_text::line_words::PASSING;
 use replay_text::line_words::PRUNING;
 use replay_text::numbers;
 
-// Through the exported entries: number, and of `passable` the heights.
-fn run(kind: u8, map: &mut [u8], numbers: &[u64; 17], view: &[u8]) -> [u64; 9] {
+// A call that may write the map answers its number.
+fn write(kind: u8, map: &mut [u8], numbers: &[u64; 17], view: &[u8]) -> u32 {
     let height = numbers::half(numbers[0]);
     let place = numbers::byte(numbers[1]);
-    if kind == PASSING {
-        let answer = request_keeper::map::request_keeper_map_passable(map);
-        return [answer.number as u64, answer.heights as u64, 0, 0, 0, 0, 0, 0, 0];
+    if kind == FILLING {
+        let chain = numbers::half(numbers[1]);
+        return request_keeper::map::request_keeper_map_fill(map, height, chain, view);
     }
-    let number = match kind {
-        FILLING => {
-            let chain = numbers::half(numbers[1]);
-            request_keeper::map::request_keeper_map_fill(map, height, chain, view)
-        }
-        ARRIVING => request_keeper::map::request_keeper_map_arrived(map, height, place),
-        PRUNING => request_keeper::map::request_keeper_map_pruned(map, height, place),
-        _ => request_keeper::map::request_keeper_map_slide(map, height, view),
-    };
-    [number as u64, 0, 0, 0, 0, 0, 0, 0, 0]
+    if kind == ARRIVING {
+        return request_keeper::map::request_keeper_map_arrived(map, height, place);
+    }
+    if kind == PRUNING {
+        return request_keeper::map::request_keeper_map_pruned(map, height, place);
+    }
+    request_keeper::map::request_keeper_map_slide(map, height, view)
+}
+
+// `passable` answers number and heights.
+fn passable(map: &[u8]) -> [u64; 9] {
+    let answer = request_keeper::map::request_keeper_map_passable(map);
+    let number = answer.number as u64;
+    let heights = answer.heights as u64;
+    [number, heights, 0, 0, 0, 0, 0, 0, 0]
+}
+
+// Whichever call it is.
+fn run(kind: u8, map: &mut [u8], numbers: &[u64; 17], view: &[u8]) -> [u64; 9] {
+    if kind == PASSING {
+        return passable(map);
+    }
+    let number = write(kind, map, numbers, view) as u64;
+    [number, 0, 0, 0, 0, 0, 0, 0, 0]
 }
 
 // On the first bytes of the map.
