@@ -42,5 +42,7 @@ pub mod RefusalsKept
 -- runs
 pub mod CountLaws
 pub mod RunsKept
+-- the map of the window
+pub mod MapFormed
 -- all of it
 pub mod Kept
