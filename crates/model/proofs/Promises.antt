@@ -44,5 +44,6 @@ pub mod CountLaws
 pub mod RunsKept
 -- the map of the window
 pub mod MapFormed
+pub mod MapAreas
 -- all of it
 pub mod Kept

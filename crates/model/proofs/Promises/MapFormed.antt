@@ -31,7 +31,7 @@ use Rattle.model.proofs.Promises.TellsLaws.{Tells, tells-not, every}
 digit-none : (b : ℕ) → digit b 0 ≡ 0
 digit-none b = rw (zero-div (2 ^ b))
 
-digit-next : (b n : ℕ) → digit (suc b) n ≡ digit b (n / 2)
+pub digit-next : (b n : ℕ) → digit (suc b) n ≡ digit b (n / 2)
 digit-next b n =
     let p : 2 ^ suc b ≡ 2 * 2 ^ b = pow-suc 2 b ∙ mul-comm (2 ^ b) 2 in
     rw (p, ← div-div-eq-div-mul n 2 (2 ^ b))
@@ -204,7 +204,7 @@ complete-byte byte (inr (inr (inl e))) = rw e
 complete-byte byte (inr (inr (inr e))) = rw e
 
 -- one height's mark, as its digit
-marked-is : (area : List ℕ) (w b : ℕ) → Marked area w b → markAt area w b ≡ bit (byteComplete (byteAt area (64 * w + b)))
+pub marked-is : (area : List ℕ) (w b : ℕ) → Marked area w b → markAt area w b ≡ bit (byteComplete (byteAt area (64 * w + b)))
 marked-is area w b (inl (c, e)) = e ∙ sym (ap bit (complete-byte (byteAt area (64 * w + b)) c))
 marked-is area w b (inr (n, e)) = go (byteComplete (byteAt area (64 * w + b))) refl
   where
