@@ -45,5 +45,7 @@ pub mod RunsKept
 -- the map of the window
 pub mod MapFormed
 pub mod MapAreas
+pub mod MapRows
+pub mod MapsKept
 -- all of it
 pub mod Kept

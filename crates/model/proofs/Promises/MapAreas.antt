@@ -3,7 +3,7 @@ use Prim.Native.Nat.{ℕ, zero, suc, _+_, _-_, _*_, _/_, _%_, _^_, _≤_, _<_}
 use mathlib.Core.Path.{_≡_, refl, sym, ap, _∙_}
 use mathlib.Core.Bool.{Bool, true, false}
 use mathlib.Core.Logic.{_⊎_, inl, inr}
-use mathlib.Core.List.{List, [], _∷_}
+use mathlib.Core.List.{List}
 use native.Mathlib.Nat.{pow-suc}
 use native.Mathlib.Omega.{arith}
 use lib.Dec.{ltb}
@@ -15,7 +15,7 @@ use Rattle.fields.proofs.NumberLaws.{fromBe-injective, bytes-take, bytes-drop}
 use Rattle.fields.proofs.PartLaws.{length-part, part-below}
 use Rattle.model.specs.Image.{bit, field}
 use Rattle.model.specs.MapBytes.{byteComplete}
-use Rattle.model.specs.Promises.Maps.{downloadedIn, chainHeightIn, byteAt, digit, markAt, WellFormed}
+use Rattle.model.specs.Promises.Maps.{downloadedIn, chainHeightIn, byteAt, digit, WellFormed}
 use Rattle.model.proofs.Promises.MapFormed.{digit-next, marked-is}
 
 -- a number by its lowest digits

@@ -1,15 +1,15 @@
 -- F-1's well-formed area, said byte by byte: what a call tests of an area that it is lent is just this.
 use Prim.Native.Nat.{ℕ, zero, suc, _+_, _-_, _*_, _/_, _%_, _^_, _≤_, _<_}
 use mathlib.Core.Path.{_≡_, refl, sym, ap, _∙_, subst}
-use mathlib.Core.Bool.{Bool, true, false, cond, _&&_, _||_, false≢true}
-use mathlib.Core.Logic.{_⊎_, inl, inr, ⊎-elim}
+use mathlib.Core.Bool.{Bool, true, false, _&&_, _||_}
+use mathlib.Core.Logic.{inl, inr}
 use mathlib.Core.List.{List, [], _∷_, map}
 use native.Mathlib.Nat.{lt-irrefl, pow-suc, mul-comm, zero-div, div-div-eq-div-mul}
 use native.Mathlib.Omega.{arith}
 use lib.Dec.{eqb, leb, ltb}
 use lib.ListN.{length, take, drop, getD, length-map, length-drop}
 use lib.Seq.{getD-take, getD-drop, length-take-le, take-all}
-use borrow.Author.Tests.{eqb-true, eqb-false, eq-eqb, ne-eqb, leb-true, leb-false, le-leb, ltb-true, lt-ltb}
+use borrow.Author.Tests.{eqb-true, eq-eqb, leb-true, leb-false, ltb-true, lt-ltb}
 use Rattle.fields.specs.Facts.{All, Bytes}
 use Rattle.fields.specs.Zero.{allZero}
 use Rattle.fields.specs.Order.{same}
@@ -21,10 +21,10 @@ use Rattle.model.specs.WindowMap.{Map, bits, encodeMap, mapFits}
 use Rattle.model.specs.MapBytes.{heightBytes, byteFormed, byteComplete, byteMark, bytesFormed, bytesAbsentAbove, wordsFormed, areaFormed}
 use Rattle.model.specs.Promises.Maps.{downloadedIn, chainHeightIn, byteAt, digit, markAt, HeightByte, Complete, Marked, Unused, WellFormed}
 use Rattle.model.proofs.FormedLaws.{allTrue, each-true, true-each}
-use Rattle.model.proofs.MapLaws.{WellMap, bit-most, bits-below}
+use Rattle.model.proofs.MapLaws.{WellMap, bit-most}
 use Rattle.model.proofs.MapFormedLaws.{encodeMap-bytes, fits-encodeMap}
 use Rattle.model.proofs.MapBytesLaws.{fits-by-bytes}
-use Rattle.model.proofs.Promises.TellsLaws.{Tells, tells-not, every}
+use Rattle.model.proofs.Promises.TellsLaws.{every}
 
 -- ---- a number by its digits
 
@@ -345,10 +345,13 @@ module _ (area : List ℕ) (l : length area ≡ 512) where
   from-formed b f =
       let low : (at : ℕ) → at + 8 ≤ 512 → field at 8 area < 2 ^ 64 = λ at h. part-below at 8 area (rw l h) b in
       let w : allTrue words ≡ true =
-      true-each words
-      (marks-word area 0 part₀ long₀ at₀ (low 16 (omega arith)) (λ i h. f .marks 0 i (omega arith) h),
-      (marks-word area 1 part₁ long₁ at₁ (low 24 (omega arith)) (λ i h. f .marks 1 i (omega arith) h),
-      (marks-word area 2 part₂ long₂ at₂ (low 32 (omega arith)) (λ i h. f .marks 2 i (omega arith) h), tt)))
+      true-each words (
+        marks-word area 0 part₀ long₀ at₀ (low 16 (omega arith)) (λ i h. f .marks 0 i (omega arith) h),
+        (
+          marks-word area 1 part₁ long₁ at₁ (low 24 (omega arith)) (λ i h. f .marks 1 i (omega arith) h),
+          (marks-word area 2 part₂ long₂ at₂ (low 32 (omega arith)) (λ i h. f .marks 2 i (omega arith) h), tt),
+        ),
+      )
       in
       let formed : bytesFormed bytes ≡ true =
       formed-every bytes
@@ -363,11 +366,16 @@ module _ (area : List ℕ) (l : length area ≡ 512) where
       rw last-part at (at-zero area 256 256 (omega arith) (λ i h. f .unused (256 + i) (inr (inr (omega arith)))))
       in
       tests-are
-      ∙ true-each tests
-      (eq-same (take 4 area) (69 ∷ 68 ∷ 77 ∷ 1 ∷ []) (f .start),
-      (at-zero area 12 4 (omega arith) (λ i h. f .unused (12 + i) (inl (omega arith))),
-      (at-zero area 40 24 (omega arith) (λ i h. f .unused (40 + i) (inr (inl (omega arith)))),
-      (last, (formed, (above, (w, tt)))))))
+      ∙ true-each tests (
+        eq-same (take 4 area) (69 ∷ 68 ∷ 77 ∷ 1 ∷ []) (f .start),
+        (
+          at-zero area 12 4 (omega arith) (λ i h. f .unused (12 + i) (inl (omega arith))),
+          (
+            at-zero area 40 24 (omega arith) (λ i h. f .unused (40 + i) (inr (inl (omega arith)))),
+            (last, (formed, (above, (w, tt)))),
+          ),
+        ),
+      )
 
 -- what a call tests of an area that it is lent
 module _ (area : List ℕ) (b : Bytes area) where
