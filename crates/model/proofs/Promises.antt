@@ -47,5 +47,6 @@ pub mod MapFormed
 pub mod MapAreas
 pub mod MapRows
 pub mod MapsKept
+pub mod MapOnce
 -- all of it
 pub mod Kept

@@ -10,7 +10,6 @@ use lib.Dec.{ltb}
 use lib.ListN.{length, take, drop, getD}
 use lib.Seq.{getD-take, getD-drop, ext-getD}
 use borrow.Author.Tests.{ltb-true, ltb-false}
-use Rattle.fields.specs.Facts.{Bytes}
 use Rattle.fields.proofs.NumberLaws.{fromBe-injective, bytes-take, bytes-drop}
 use Rattle.fields.proofs.PartLaws.{length-part, part-below}
 use Rattle.model.specs.Image.{bit, field}
@@ -37,7 +36,7 @@ below-or a b = go (ltb a b) refl
     go true e = inl (ltb-true a b e)
     go false e = inr (ltb-false a b e)
 
-module _ (a b : List ℕ) (f : WellFormed a) (g : WellFormed b) (x : Bytes a) (y : Bytes b) where
+module _ (a b : List ℕ) (f : WellFormed a) (g : WellFormed b) where
   -- bytes of a number that is the same in both
   part-same : (at width : ℕ) → at + width ≤ 512 → field at width a ≡ field at width b → (j : ℕ) → at ≤ j → j < at + width → getD a j 0 ≡ getD b j 0
   part-same at width h e j p q =
@@ -46,7 +45,7 @@ module _ (a b : List ℕ) (f : WellFormed a) (g : WellFormed b) (x : Bytes a) (y
       let lb : length (take width (drop at b)) ≡ width = length-part at width b (rw (g .size) h) in
       let same : take width (drop at a) ≡ take width (drop at b) =
       fromBe-injective (take width (drop at a)) (take width (drop at b)) (la ∙ sym lb)
-      (bytes-take width (drop at a) (bytes-drop at a x)) (bytes-take width (drop at b) (bytes-drop at b y)) e
+      (bytes-take width (drop at a) (bytes-drop at a (f .bytes))) (bytes-take width (drop at b) (bytes-drop at b (g .bytes))) e
       in
       let there : (s : List ℕ) → getD (take width (drop at s)) (j - at) 0 ≡ getD s j 0 =
       λ (s : List ℕ). getD-take width (drop at s) (j - at) 0 (omega arith) ∙ getD-drop at s (j - at) 0 ∙ ap (λ (n : ℕ). getD s n 0) k
@@ -57,7 +56,7 @@ module _ (a b : List ℕ) (f : WellFormed a) (g : WellFormed b) (x : Bytes a) (y
   word-same : (w : ℕ) → w < 3 → ((c : ℕ) → c < 64 → byteAt a (64 * w + c) ≡ byteAt b (64 * w + c)) → field (16 + 8 * w) 8 a ≡ field (16 + 8 * w) 8 b
   word-same w h e =
       digits-same 64 (field (16 + 8 * w) 8 a) (field (16 + 8 * w) 8 b)
-      (part-below (16 + 8 * w) 8 a (rw (f .size) (omega arith)) x) (part-below (16 + 8 * w) 8 b (rw (g .size) (omega arith)) y)
+      (part-below (16 + 8 * w) 8 a (rw (f .size) (omega arith)) (f .bytes)) (part-below (16 + 8 * w) 8 b (rw (g .size) (omega arith)) (g .bytes))
       (λ c k.
       marked-is a w c (f .marks w c h k) ∙ ap (λ (byte : ℕ). bit (byteComplete byte)) (e c k) ∙ sym (marked-is b w c (g .marks w c h k)))
 

@@ -22,7 +22,7 @@ use Rattle.model.specs.MapBytes.{heightBytes, byteFormed, byteComplete, 
 use Rattle.model.specs.Promises.Maps.{downloadedIn, chainHeightIn, byteAt, digit, markAt, HeightByte, Complete, Marked, Unused, WellFormed}
 use Rattle.model.proofs.FormedLaws.{allTrue, each-true, true-each}
 use Rattle.model.proofs.MapLaws.{WellMap, bit-most}
-use Rattle.model.proofs.MapFormedLaws.{encodeMap-bytes, fits-encodeMap}
+use Rattle.model.proofs.MapFormedLaws.{fits-encodeMap, fits-bytes}
 use Rattle.model.proofs.MapBytesLaws.{fits-by-bytes}
 use Rattle.model.proofs.Promises.TellsLaws.{every}
 
@@ -300,8 +300,8 @@ module _ (area : List ℕ) (l : length area ≡ 512) where
   last-part : take 256 (drop 256 area) ≡ drop 256 area
   last-part = take-all 256 (drop 256 area) (simp length-drop (omega arith))
 
-  formed-from : areaFormed area ≡ true → WellFormed area
-  formed-from f =
+  formed-from : Bytes area → areaFormed area ≡ true → WellFormed area
+  formed-from b f =
       let t : All (λ (x : Bool). x ≡ true) tests = each-true tests (sym tests-are ∙ f) in
       let t₃ = t .1 .1 .1 in
       let w : All (λ (x : Bool). x ≡ true) words = each-true words (t₃ .1 .1 .1 .0) in
@@ -312,6 +312,7 @@ module _ (area : List ℕ) (l : length area ≡ 512) where
       in
       record {
         size = l;
+        bytes = b;
         start = same-eq (take 4 area) (69 ∷ 68 ∷ 77 ∷ 1 ∷ []) (t .0);
         unused = λ i u. unused-at (t .1 .0) (t .1 .1 .0) last i u;
         heights = formed;
@@ -341,9 +342,9 @@ module _ (area : List ℕ) (l : length area ≡ 512) where
       marks-at x y z (suc (suc zero)) b h k = word-marks area 2 part₂ long₂ at₂ z b k
       marks-at x y z (suc (suc (suc w))) b h k = absurd (lt-irrefl 0 (omega arith))
 
-  from-formed : Bytes area → WellFormed area → areaFormed area ≡ true
-  from-formed b f =
-      let low : (at : ℕ) → at + 8 ≤ 512 → field at 8 area < 2 ^ 64 = λ at h. part-below at 8 area (rw l h) b in
+  from-formed : WellFormed area → areaFormed area ≡ true
+  from-formed f =
+      let low : (at : ℕ) → at + 8 ≤ 512 → field at 8 area < 2 ^ 64 = λ at h. part-below at 8 area (rw l h) (f .bytes) in
       let w : allTrue words ≡ true =
       true-each words (
         marks-word area 0 part₀ long₀ at₀ (low 16 (omega arith)) (λ i h. f .marks 0 i (omega arith) h),
@@ -378,16 +379,16 @@ module _ (area : List ℕ) (l : length area ≡ 512) where
       )
 
 -- what a call tests of an area that it is lent
-module _ (area : List ℕ) (b : Bytes area) where
-  pub fits-formed : mapFits area ≡ true → WellFormed area
-  fits-formed h =
-      let both : eqb (length area) mapSize && areaFormed area ≡ true = sym (fits-by-bytes area b) ∙ h in
-      formed-from area (eqb-true (length area) mapSize (and-left (eqb (length area) mapSize) (areaFormed area) both))
-      (and-right (eqb (length area) mapSize) (areaFormed area) both)
+pub fits-formed : (area : List ℕ) → mapFits area ≡ true → WellFormed area
+fits-formed area h =
+    let b : Bytes area = fits-bytes area h in
+    let both : eqb (length area) mapSize && areaFormed area ≡ true = sym (fits-by-bytes area b) ∙ h in
+    formed-from area (eqb-true (length area) mapSize (and-left (eqb (length area) mapSize) (areaFormed area) both)) b
+    (and-right (eqb (length area) mapSize) (areaFormed area) both)
 
-  pub formed-fits : WellFormed area → mapFits area ≡ true
-  formed-fits f = fits-by-bytes area b ∙ rw (f .size, from-formed area (f .size) b f)
+pub formed-fits : (area : List ℕ) → WellFormed area → mapFits area ≡ true
+formed-fits area f = fits-by-bytes area (f .bytes) ∙ rw (f .size, from-formed area (f .size) f)
 
 -- a written map
 pub written-formed : (m : Map) → WellMap m → WellFormed (encodeMap m)
-written-formed m w = fits-formed (encodeMap m) (encodeMap-bytes m (w .cells)) (fits-encodeMap m w)
+written-formed m w = fits-formed (encodeMap m) (fits-encodeMap m w)

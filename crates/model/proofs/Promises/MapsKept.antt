@@ -25,7 +25,7 @@ use Rattle.model.proofs.Widths.{WellView}
 use Rattle.model.proofs.ArgumentLaws.{view-well}
 use Rattle.model.proofs.MapLaws.{WellCell, WellMap, run-most}
 use Rattle.model.proofs.MapRowLaws as rows
-use Rattle.model.proofs.MapFormedLaws.{encodeMap-bytes, decode-encodeMap, fits-encodeMap, fits-well}
+use Rattle.model.proofs.MapFormedLaws.{decode-encodeMap, fits-encodeMap, fits-well}
 use Rattle.model.proofs.MapCallLaws.{mapped-number, fill-view, fill-long, fill-shows, fill-writes, change-tests, changed-well, slide-passed, slide-view, slide-fits, slide-up, slide-shows, slide-writes}
 use Rattle.model.proofs.MapBehindLaws.{behind-at}
 use Rattle.model.proofs.MapWrittenLaws.{flag-of-byte, changed-byte, places-of-byte}
@@ -123,7 +123,7 @@ has-place c place w h = go (leb 128 (cellByte c)) refl (rw (places-of-byte c w) 
 place-had : (c : Cell) (place : ℕ) → WellCell c → cellByte c < 128 → place < cellByte c / 16 → place < places c
 place-had c place w low h = rw (places-of-byte c w, lt-leb 128 (cellByte c) low) h
 
-module _ (area : List ℕ) (b : Bytes area) (height place : ℕ) where
+module _ (area : List ℕ) (height place : ℕ) where
   abbrev m : Map
   m = decodeMap area
 
@@ -176,7 +176,7 @@ module _ (area : List ℕ) (b : Bytes area) (height place : ℕ) where
       let byte : byteAt area i ≡ cellByte here = byte-held area (p .fits) i (omega arith) in
       let had = has-place here place (here-well (p .fits)) (p .has) in
       record {
-        formed = fits-formed area b (p .fits);
+        formed = fits-formed area (p .fits);
         above = p .above;
         within = p .within;
         hasHeader = rw byte (had .0);
@@ -185,7 +185,7 @@ module _ (area : List ℕ) (b : Bytes area) (height place : ℕ) where
 
   by-words : HasPlace area height place → Passed
   by-words h =
-      let fits = formed-fits area b (h .formed) in
+      let fits = formed-fits area (h .formed) in
       let low = h .above in
       let high = h .within in
       let byte : byteAt area i ≡ cellByte here = byte-held area fits i (omega arith) in
@@ -202,7 +202,6 @@ module _ (area : List ℕ) (b : Bytes area) (height place : ℕ) where
 -- what a finished change leaves of an area, by its heights
 record Leaves (area map : List ℕ) (i place : ℕ) (flag : Bool) : Type 0 where
   formed : WellFormed map
-  bytes : Bytes map
   low : downloadedIn map ≡ downloadedIn area
   chain : chainHeightIn map ≡ chainHeightIn area
   set : digit place (byteAt map i) ≡ asBit flag
@@ -210,25 +209,25 @@ record Leaves (area map : List ℕ) (i place : ℕ) (flag : Bool) : Type 0 where
   other : (k : ℕ) → k < 192 → (k ≡ i → ⊥) → byteAt map k ≡ byteAt area k
 
 -- that byte or another
-this-or : (P : ℕ → Type 0) (i k : ℕ) → P i → ((k ≡ i → ⊥) → P k) → P k
+pub this-or : (P : ℕ → Type 0) (i k : ℕ) → P i → ((k ≡ i → ⊥) → P k) → P k
 this-or P i k p f = go (eqb k i) refl
   where
     go : (t : Bool) → eqb k i ≡ t → P k
     go true t = subst P (sym (eqb-true k i t)) p
     go false t = f (eqb-false k i t)
 
-module _ {area map : List ℕ} {i place : ℕ} {flag : Bool} (f : WellFormed area) (b : Bytes area) (l : Leaves area map i place flag) where
+module _ {area map : List ℕ} {i place : ℕ} {flag : Bool} (f : WellFormed area) (l : Leaves area map i place flag) where
   leaves-changed : Changed area map i place flag
   leaves-changed =
       record {
         formed = l .formed;
         set = l .set;
         alone = l .alone;
-        others = alike-but map area (l .formed) f (l .bytes) b (l .low) (l .chain) i (l .other);
+        others = alike-but map area (l .formed) f (l .low) (l .chain) i (l .other);
         again =
             λ s.
             let same : byteAt map i ≡ byteAt area i = let a = rw s at (l .alone) in omega arith in
-            alike map area (l .formed) f (l .bytes) b (l .low) (l .chain)
+            alike map area (l .formed) f (l .low) (l .chain)
             (λ k h. this-or (λ (k : ℕ). byteAt map k ≡ byteAt area k) i k same (l .other k h));
       }
 
@@ -238,22 +237,22 @@ module _ {area map : List ℕ} {i place : ℕ} {flag : Bool} (f : WellFormed are
       let first = rw was at (l .alone) in
       let second = rw (l .set) at (m .alone) in
       let same : byteAt last i ≡ byteAt area i = omega arith in
-      alike last area (m .formed) f (m .bytes) b (m .low ∙ l .low) (m .chain ∙ l .chain)
+      alike last area (m .formed) f (m .low ∙ l .low) (m .chain ∙ l .chain)
       (λ k h. this-or (λ (k : ℕ). byteAt last k ≡ byteAt area k) i k same (λ n. m .other k h n ∙ l .other k h n))
 
-module _ (flag : Bool) (area : List ℕ) (b : Bytes area) (height place : ℕ) where
+module _ (flag : Bool) (area : List ℕ) (height place : ℕ) where
   change-number : ((HasPlace area height place → ⊥) × (mapChange flag area height place .number ≡ 12))
       ⊎ (HasPlace area height place × (mapChange flag area height place .number ≡ 0))
   unfolding mapChange changeRefusal
   change-number =
-      rw (mapped-number (changeRefusal area height place) (changed (decodeMap area) height flag place) area) (go (ok area b height place) refl)
+      rw (mapped-number (changeRefusal area height place) (changed (decodeMap area) height flag place) area) (go (ok area height place) refl)
     where
-      go : (t : Bool) → ok area b height place ≡ t
+      go : (t : Bool) → ok area height place ≡ t
           → ((HasPlace area height place → ⊥) × (unless t 12 0 ≡ 12)) ⊎ (HasPlace area height place × (unless t 12 0 ≡ 0))
-      go true t = inr (in-words area b height place (passed area b height place t), refl)
-      go false t = inl (has-tells area b height place .failed t, refl)
+      go true t = inr (in-words area height place (passed area height place t), refl)
+      go false t = inl (has-tells area height place .failed t, refl)
 
-  module _ (p : Passed area b height place) where
+  module _ (p : Passed area height place) where
     abbrev new : Map
     new = changed (decodeMap area) height flag place
 
@@ -261,7 +260,7 @@ module _ (flag : Bool) (area : List ℕ) (b : Bytes area) (height place : ℕ) w
     at = indexOf area height
 
     abbrev old : Cell
-    old = here area b height place
+    old = here area height place
 
     at-in : at < 192
     at-in = let low = p .above in let high = p .within in omega arith
@@ -287,10 +286,9 @@ module _ (flag : Bool) (area : List ℕ) (b : Bytes area) (height place : ℕ) w
     unfolding changed decodeMap
     new-leaves =
         let byte = byte-held area (p .fits) at at-in in
-        let well = here-well area b height place (p .fits) in
+        let well = here-well area height place (p .fits) in
         record {
           formed = written-formed new new-well;
-          bytes = encodeMap-bytes new (new-well .cells);
           low = low-written new new-well;
           chain = chain-written new new-well;
           set = rw new-byte (flag-set flag place old well (p .has));
@@ -299,7 +297,7 @@ module _ (flag : Bool) (area : List ℕ) (b : Bytes area) (height place : ℕ) w
         }
 
     -- the same place of the map that is left
-    passed-after : Passed (encodeMap new) (encodeMap-bytes new (new-well .cells)) height place
+    passed-after : Passed (encodeMap new) height place
     passed-after =
         let low : downloadedIn (encodeMap new) ≡ downloadedIn area = new-leaves .low in
         let same : indexOf (encodeMap new) height ≡ at = rw low in
@@ -317,46 +315,45 @@ module _ (flag : Bool) (area : List ℕ) (b : Bytes area) (height place : ℕ) w
 
     changed-made : mapChange flag area height place ≡ record { number = 0; map = encodeMap new }
     unfolding mapChange changeRefusal
-    changed-made = rw (passes area b height place p)
+    changed-made = rw (passes area height place p)
 
-  change-passed : mapChange flag area height place .number ≡ 0 → Passed area b height place
-  change-passed e = passed area b height place (change-tests flag area height place e)
+  change-passed : mapChange flag area height place .number ≡ 0 → Passed area height place
+  change-passed e = passed area height place (change-tests flag area height place e)
 
 -- put back to what it was
-module _ (flag : Bool) (area : List ℕ) (b : Bytes area) (height place : ℕ) (p : Passed area b height place) where
+module _ (flag : Bool) (area : List ℕ) (height place : ℕ) (p : Passed area height place) where
   change-undone : (before : Bool) → digit place (byteAt area (indexOf area height)) ≡ asBit before
-      → mapChange before (encodeMap (new flag area b height place p)) height place ≡ record { number = 0; map = area }
+      → mapChange before (encodeMap (new flag area height place p)) height place ≡ record { number = 0; map = area }
   change-undone before was =
-      let left : List ℕ = encodeMap (new flag area b height place p) in
-      let c : Bytes left = encodeMap-bytes (new flag area b height place p) (new-well flag area b height place p .cells) in
-      let q : Passed left c height place = passed-after flag area b height place p in
-      let first = new-leaves flag area b height place p in
+      let left : List ℕ = encodeMap (new flag area height place p) in
+      let q : Passed left height place = passed-after flag area height place p in
+      let first = new-leaves flag area height place p in
       let same : indexOf left height ≡ indexOf area height = rw (first .low) in
-      let last : List ℕ = encodeMap (new before left c height place q) in
+      let last : List ℕ = encodeMap (new before left height place q) in
       let second : Leaves left last (indexOf area height) place before =
-      subst (λ (k : ℕ). Leaves left last k place before) same (new-leaves before left c height place q)
+      subst (λ (k : ℕ). Leaves left last k place before) same (new-leaves before left height place q)
       in
-      changed-made before left c height place q
-      ∙ ap (λ (map : List ℕ). record { number = 0; map = map }) (leaves-twice (fits-formed area b (p .fits)) b first before last was second)
+      changed-made before left height place q
+      ∙ ap (λ (map : List ℕ). record { number = 0; map = map }) (leaves-twice (fits-formed area (p .fits)) first before last was second)
 
-change-kept : (flag : Bool) (area : List ℕ) (height place : ℕ) → Bytes area → Change flag area height place
-change-kept flag area height place b =
+change-kept : (flag : Bool) (area : List ℕ) (height place : ℕ) → Change flag area height place
+change-kept flag area height place =
     record {
-      number = change-number flag area b height place;
+      number = change-number flag area height place;
       finished =
           λ e.
-          let p = change-passed flag area b height place e in
-          rw (changed-made flag area b height place p)
-          (leaves-changed (fits-formed area b (p .fits)) b (new-leaves flag area b height place p));
+          let p = change-passed flag area height place e in
+          rw (changed-made flag area height place p)
+          (leaves-changed (fits-formed area (p .fits)) (new-leaves flag area height place p));
       undone =
           λ before e was.
-          let p = change-passed flag area b height place e in
-          rw (changed-made flag area b height place p) (change-undone flag area b height place p before was);
+          let p = change-passed flag area height place e in
+          rw (changed-made flag area height place p) (change-undone flag area height place p before was);
     }
 
 -- ---- a slide
 
-module _ (area : List ℕ) (b : Bytes area) (downloaded : ℕ) (view : List ℕ) where
+module _ (area : List ℕ) (downloaded : ℕ) (view : List ℕ) where
   abbrev held : Map
   held = decodeMap area
 
@@ -369,10 +366,10 @@ module _ (area : List ℕ) (b : Bytes area) (downloaded : ℕ) (view : List ℕ)
       tells-not canSlide
       (λ e.
       record {
-        formed = fits-formed area b (and-left (mapFits area) (leb (downloadedIn area) downloaded) e);
+        formed = fits-formed area (and-left (mapFits area) (leb (downloadedIn area) downloaded) e);
         up = leb-true (downloadedIn area) downloaded (and-right (mapFits area) (leb (downloadedIn area) downloaded) e);
       })
-      (λ c. rw (formed-fits area b (c .formed)) (le-leb (downloadedIn area) downloaded (c .up)))
+      (λ c. rw (formed-fits area (c .formed)) (le-leb (downloadedIn area) downloaded (c .up)))
 
   -- the heights to be filled: above the old window and the new downloaded height, up to the new window's end
   new-low : downloadedIn area ≤ downloaded → newBehind held downloaded ≡ max downloaded (downloadedIn area + 192)
@@ -489,7 +486,7 @@ module _ (area : List ℕ) (b : Bytes area) (downloaded : ℕ) (view : List ℕ)
                 (filled-byte view (chainHeightIn area) (downloaded + 1 + j) (view-well view c (slide-view area downloaded view e .0)) (row-comes j h k));
             byNone =
                 λ s.
-                alike (encodeMap next) area formed (fits-formed area b fits) (encodeMap-bytes next (next-well .cells)) b (next-low ∙ s) next-chain
+                alike (encodeMap next) area formed (fits-formed area fits) (next-low ∙ s) next-chain
                 (λ k h. byte-stays k k h h (ap (λ (n : ℕ). n + k) (sym s)));
           }
 
@@ -511,18 +508,18 @@ module _ (area : List ℕ) (b : Bytes area) (downloaded : ℕ) (view : List ℕ)
     slide-past : downloadedIn area + 192 ≤ downloaded → mapFill area downloaded (chainHeightIn area) view ≡ mapSlide area downloaded view
     unfolding mapFill fillRefusal mapSlide
     slide-past h =
-        let long : length area ≡ 512 = fits-formed area b fits .size in
+        let long : length area ≡ 512 = fits-formed area fits .size in
         rw (long, slide-view area downloaded view e .0, seen-whole h, slide-passed area downloaded view e, next-whole h)
 
-slide-kept : (area : List ℕ) (downloaded : ℕ) (view : List ℕ) → Bytes area → Slide area downloaded view
-slide-kept area downloaded view b =
+slide-kept : (area : List ℕ) (downloaded : ℕ) (view : List ℕ) → Slide area downloaded view
+slide-kept area downloaded view =
     record {
-      number = slide-number area b downloaded view;
+      number = slide-number area downloaded view;
       finished =
           λ d c e.
           subst (λ (map : List ℕ). Slid area map downloaded view) (sym (slide-writes area downloaded view e d c .written))
-          (slide-left area b downloaded view e d c);
-      past = λ e h. slide-past area b downloaded view e h;
+          (slide-left area downloaded view e d c);
+      past = λ e h. slide-past area downloaded view e h;
     }
 
 -- ---- what can be passed
@@ -547,7 +544,7 @@ run-ends (c ∷ cells) h = go (isComplete c) refl h (run-ends cells)
     go true t h f = f (omega arith)
     go false t h f = t
 
-module _ (area : List ℕ) (b : Bytes area) where
+module _ (area : List ℕ) where
   abbrev cells : List Cell
   cells = decodeMap area .cells
 
@@ -571,7 +568,7 @@ module _ (area : List ℕ) (b : Bytes area) where
       go true fits =
           let most : completeRun cells ≤ 192 = subst (λ (n : ℕ). completeRun cells ≤ n) (fits-well area fits .many) (run-most cells) in
           record {
-            number = inr (fits-formed area b fits, ap (λ (p : Passable). p .number) (run-read fits));
+            number = inr (fits-formed area fits, ap (λ (p : Passable). p .number) (run-read fits));
             most = rw (run-read fits) most;
             complete =
                 λ i h.
@@ -587,10 +584,10 @@ module _ (area : List ℕ) (b : Bytes area) where
           }
       go false unfit =
           record {
-            number = inl ((λ f. not-both (mapFits area) (formed-fits area b f) unfit), not-read unfit);
+            number = inl ((λ f. not-both (mapFits area) (formed-fits area f) unfit), not-read unfit);
             most = rw (not-read unfit) (omega arith);
             complete = λ i h. let k : i < 0 = rw (not-read unfit) at h in absurd (lt-irrefl 0 (omega arith));
-            asFar = λ f h c. not-both (mapFits area) (formed-fits area b f) unfit;
+            asFar = λ f h c. not-both (mapFits area) (formed-fits area f) unfit;
           }
 
 -- ---- all of it

@@ -57,6 +57,7 @@ Unused i = ((12 ≤ i) × (i < 16)) ⊎ (((40 ≤ i) × (i < 64)) ⊎ ((256 ≤ 
 
 pub record WellFormed (area : List ℕ) : Type 0 where
   pub size : length area ≡ 512
+  pub bytes : Bytes area
   -- "EDM", version 1
   pub start : take 4 area ≡ 69 ∷ 68 ∷ 77 ∷ 1 ∷ []
   pub unused : (i : ℕ) → Unused i → getD area i 0 ≡ 0
@@ -203,6 +204,6 @@ pub record Pass (area : List ℕ) : Type 0 where
 
 pub record Maps : Type 0 where
   pub fill : (area : List ℕ) (downloaded chainHeight : ℕ) (view : List ℕ) → Fill area downloaded chainHeight view
-  pub change : (flag : Bool) (area : List ℕ) (height place : ℕ) → Bytes area → Change flag area height place
-  pub slide : (area : List ℕ) (downloaded : ℕ) (view : List ℕ) → Bytes area → Slide area downloaded view
-  pub passable : (area : List ℕ) → Bytes area → Pass area
+  pub change : (flag : Bool) (area : List ℕ) (height place : ℕ) → Change flag area height place
+  pub slide : (area : List ℕ) (downloaded : ℕ) (view : List ℕ) → Slide area downloaded view
+  pub passable : (area : List ℕ) → Pass area
