@@ -199,6 +199,7 @@ slidWindows =
 abbrev pub fills : List (Entry Case)
 fills =
     (calls 511 (fill 0 3 (0 ∷ []) ∷ []) gives unread 12 ∷ [])
+    ∷ (calls 513 (fill 0 3 three ∷ []) gives unread 12 ∷ [])
     ∷ (calls 512 (fill 0 3 (0 ∷ []) ∷ fill 0 3 (viewFrom 1 (bare ++ single 0)) ∷ fill 0 3 (viewFrom 1 (headless ++ bare)) ∷ []) gives
     unread 8 ∷ unread 9 ∷ unread 9 ∷ [])
     ∷ (calls 512 (fill 0 2 (viewFrom 1 (bare ++ single 1)) ∷ fill 0 3 (viewFrom 1 (bare ++ single 0)) ∷ fill 5 0 empty ∷ []) gives
