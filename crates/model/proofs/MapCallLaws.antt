@@ -108,7 +108,7 @@ flag-absent : (flag : Bool) (place : ℕ) (c : Cell) → isAbsent (withFlag flag
 flag-absent flag place absent = refl
 flag-absent flag place (present flags) = refl
 
-at-well : (cells : List Cell) (i : ℕ) → All WellCell cells → WellCell (getD cells i absent)
+pub at-well : (cells : List Cell) (i : ℕ) → All WellCell cells → WellCell (getD cells i absent)
 at-well [] i w = tt
 at-well (c ∷ cells) zero w = w .0
 at-well (c ∷ cells) (suc i) w = at-well cells i (w .1)

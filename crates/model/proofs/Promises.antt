@@ -46,6 +46,9 @@ pub mod RunsKept
 pub mod MapFormed
 pub mod MapAreas
 pub mod MapRows
+pub mod MapFilled
+pub mod MapChanged
+pub mod MapSlid
 pub mod MapsKept
 pub mod MapOnce
 -- all of it

@@ -1,15 +1,15 @@
 -- Two well-formed maps side by side: alike in the two numbers at the start and in the heights' bytes, they are alike in every byte.
 use Prim.Native.Nat.{ℕ, zero, suc, _+_, _-_, _*_, _/_, _%_, _^_, _≤_, _<_}
-use mathlib.Core.Path.{_≡_, refl, sym, ap, _∙_}
+use mathlib.Core.Path.{_≡_, refl, sym, ap, _∙_, subst}
 use mathlib.Core.Bool.{Bool, true, false}
 use mathlib.Core.Logic.{_⊎_, inl, inr}
 use mathlib.Core.List.{List}
 use native.Mathlib.Nat.{pow-suc}
 use native.Mathlib.Omega.{arith}
-use lib.Dec.{ltb}
+use lib.Dec.{eqb, ltb}
 use lib.ListN.{length, take, drop, getD}
 use lib.Seq.{getD-take, getD-drop, ext-getD}
-use borrow.Author.Tests.{ltb-true, ltb-false}
+use borrow.Author.Tests.{eqb-true, eqb-false, ltb-true, ltb-false}
 use Rattle.fields.proofs.NumberLaws.{fromBe-injective, bytes-take, bytes-drop}
 use Rattle.fields.proofs.PartLaws.{length-part, part-below}
 use Rattle.model.specs.Image.{bit, field}
@@ -97,3 +97,11 @@ module _ (a b : List ℕ) (f : WellFormed a) (g : WellFormed b) where
     alike e =
         ext-getD 0 a b (f .size ∙ sym (g .size))
         (λ j h. let k : j < 512 = rw (f .size) at h in alike-but 4096 (λ i l n. e i l) j k (λ s. absurd (omega arith)) (λ s t. absurd (omega arith)))
+
+-- that byte or another
+pub this-or : (P : ℕ → Type 0) (i k : ℕ) → P i → ((k ≡ i → ⊥) → P k) → P k
+this-or P i k p f = go (eqb k i) refl
+  where
+    go : (t : Bool) → eqb k i ≡ t → P k
+    go true t = subst P (sym (eqb-true k i t)) p
+    go false t = f (eqb-false k i t)

@@ -15,8 +15,7 @@ use Rattle.model.specs.Image.{field}
 use Rattle.model.specs.Sections.{Header, absent, present}
 use Rattle.model.specs.Lists.{viewOf}
 use Rattle.model.specs.Promises.Maps.{downloadedIn, byteAt, RowByte, FilledByte, Filled, Changed, Slid}
-use Rattle.model.proofs.Promises.MapAreas.{below-or, alike}
-use Rattle.model.proofs.Promises.MapsKept.{this-or}
+use Rattle.model.proofs.Promises.MapAreas.{below-or, alike, this-or}
 
 -- ---- a height filled from a view has one byte
 
