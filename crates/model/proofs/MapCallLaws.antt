@@ -108,7 +108,7 @@ flag-absent : (flag : Bool) (place : ℕ) (c : Cell) → isAbsent (withFlag flag
 flag-absent flag place absent = refl
 flag-absent flag place (present flags) = refl
 
-at-well : (cells : List Cell) (i : ℕ) → All WellCell cells → WellCell (getD cells i absent)
+pub at-well : (cells : List Cell) (i : ℕ) → All WellCell cells → WellCell (getD cells i absent)
 at-well [] i w = tt
 at-well (c ∷ cells) zero w = w .0
 at-well (c ∷ cells) (suc i) w = at-well cells i (w .1)
@@ -206,17 +206,23 @@ pub record Writes (r : Mapped) (m : Map) : Type 0 where
   pub written : r .map ≡ encodeMap m
 
 module _ (area : List ℕ) (downloaded chainHeight : ℕ) (view : List ℕ) (e : mapFill area downloaded chainHeight view .number ≡ 0) where
-  fill-passed : fillRefusal area downloaded chainHeight view ≡ 0
+  pub fill-passed : fillRefusal area downloaded chainHeight view ≡ 0
   unfolding mapFill
   fill-passed = sym (mapped-number (fillRefusal area downloaded chainHeight view) (filled downloaded chainHeight (viewOf view)) area) ∙ e
 
-  fill-view : (viewFits view ≡ true) × (shows (viewOf view) chainHeight downloaded windowSize ≡ true)
+  pub fill-view : (viewFits view ≡ true) × (shows (viewOf view) chainHeight downloaded windowSize ≡ true)
   unfolding fillRefusal
   fill-view =
       let nine = unless (shows (viewOf view) chainHeight downloaded windowSize) 9 0 in
       let h = held (eqb (length area) mapSize) 12 (unless (viewFits view) 8 nine) (omega arith) fill-passed in
       let k = held (viewFits view) 8 nine (omega arith) (h .1) in
       (k .0, held (shows (viewOf view) chainHeight downloaded windowSize) 9 0 (omega arith) (k .1) .0)
+
+  pub fill-long : length area ≡ mapSize
+  unfolding fillRefusal
+  fill-long =
+      let eight = unless (viewFits view) 8 (unless (shows (viewOf view) chainHeight downloaded windowSize) 9 0) in
+      eqb-true (length area) mapSize (held (eqb (length area) mapSize) 12 eight (omega arith) fill-passed .0)
 
   pub fill-shows : shows (viewOf view) chainHeight downloaded windowSize ≡ true
   fill-shows = fill-view .1
@@ -238,7 +244,7 @@ module _ (flag : Bool) (area : List ℕ) (height place : ℕ) (e : mapChange fla
   unfolding mapChange
   change-passed = sym (mapped-number (changeRefusal area height place) (changed (decodeMap area) height flag place) area) ∙ e
 
-  change-tests : mapFits area && placed ≡ true
+  pub change-tests : mapFits area && placed ≡ true
   unfolding changeRefusal
   change-tests = held (mapFits area && placed) 12 0 (omega arith) change-passed .0
 
@@ -264,7 +270,7 @@ module _ (area : List ℕ) (downloaded : ℕ) (view : List ℕ) (e : mapSlide ar
   abbrev seen : Bool
   seen = shows (viewOf view) (decodeMap area .chainHeight) (newBehind (decodeMap area) downloaded) (newHeights (decodeMap area) downloaded)
 
-  slide-passed : slideRefusal area downloaded view ≡ 0
+  pub slide-passed : slideRefusal area downloaded view ≡ 0
   unfolding mapSlide
   slide-passed = sym (mapped-number (slideRefusal area downloaded view) (slid (decodeMap area) downloaded (viewOf view)) area) ∙ e
 
@@ -278,7 +284,7 @@ module _ (area : List ℕ) (downloaded : ℕ) (view : List ℕ) (e : mapSlide ar
   pub slide-up : decodeMap area .downloaded ≤ downloaded
   slide-up = leb-true (decodeMap area .downloaded) downloaded (and-right (mapFits area) (leb (decodeMap area .downloaded) downloaded) (slide-tests .0))
 
-  slide-view : (viewFits view ≡ true) × (unless seen 9 0 ≡ 0)
+  pub slide-view : (viewFits view ≡ true) × (unless seen 9 0 ≡ 0)
   slide-view = held (viewFits view) 8 (unless seen 9 0) (omega arith) (slide-tests .1)
 
   pub slide-shows : shows (viewOf view) (decodeMap area .chainHeight) (newBehind (decodeMap area) downloaded) (newHeights (decodeMap area) downloaded) ≡ true

@@ -10,7 +10,7 @@ use Rattle.model.specs.WindowMap as window
 use Rattle.model.specs.MapBytes as bytes
 use Rattle.model.specs.MapRuns as runs
 use Rattle.model.specs.CaseTables.{Hold, allAsExpected}
-use Rattle.model.specs.MapCases.{found, arrivals, slides, windows, slidWindows, fills}
+use Rattle.model.specs.MapCases.{found, arrivals, edges, slides, windows, slidWindows, fills, written, malformed}
 use Rattle.model.proofs.CaseTables.{each}
 
 -- Every definition that a case computes with, opened by one name.
@@ -28,6 +28,13 @@ arrival-test = refl
 
 pub arrival-cases : Hold found arrivals
 arrival-cases = each found arrivals arrival-test
+
+edge-test : allAsExpected found edges ≡ true
+unfolding rules
+edge-test = refl
+
+pub edge-cases : Hold found edges
+edge-cases = each found edges edge-test
 
 slide-test : allAsExpected found slides ≡ true
 unfolding rules
@@ -56,3 +63,17 @@ slid-window-test = refl
 
 pub slid-window-cases : Hold found slidWindows
 slid-window-cases = each found slidWindows slid-window-test
+
+written-test : allAsExpected found written ≡ true
+unfolding rules
+written-test = refl
+
+pub written-cases : Hold found written
+written-cases = each found written written-test
+
+malformed-test : allAsExpected found malformed ≡ true
+unfolding rules
+malformed-test = refl
+
+pub malformed-cases : Hold found malformed
+malformed-cases = each found malformed malformed-test

@@ -110,8 +110,8 @@ module _ (area : List ℕ) (l : length area ≡ mapSize) (h : mapFormed area ≡
   unfolding decodeMap
   few-flags = cells-well (take windowSize (drop 64 area))
 
-  bytes : Bytes area
-  bytes = subst Bytes (sym encode-decodeMap) (encodeMap-bytes (decodeMap area) few-flags)
+  pub formed-bytes : Bytes area
+  formed-bytes = subst Bytes (sym encode-decodeMap) (encodeMap-bytes (decodeMap area) few-flags)
 
   pub formed-wellMap : WellMap (decodeMap area)
   unfolding decodeMap mapFormed
@@ -119,8 +119,8 @@ module _ (area : List ℕ) (l : length area ≡ mapSize) (h : mapFormed area ≡
       let m = decodeMap area in
       let n : length (take windowSize (drop 64 area)) ≡ windowSize = length-take-le windowSize (drop 64 area) (simp length-drop (omega arith)) in
       record {
-        downloaded = part-below 4 4 area (omega arith) bytes;
-        chainHeight = part-below 8 4 area (omega arith) bytes;
+        downloaded = part-below 4 4 area (omega arith) formed-bytes;
+        chainHeight = part-below 8 4 area (omega arith) formed-bytes;
         many = length-map (take windowSize (drop 64 area)) cellOf ∙ n;
         cells = few-flags;
         above = and-right (same area (encodeMap m)) (absentAbove (m .chainHeight) (m .downloaded) (m .cells)) h;
@@ -137,6 +137,9 @@ module _ (area : List ℕ) (h : mapFits area ≡ true) where
 
   pub fits-encode : area ≡ encodeMap (decodeMap area)
   fits-encode = encode-decodeMap area fits-long fits-formed
+
+  pub fits-bytes : Bytes area
+  fits-bytes = formed-bytes area fits-long fits-formed
 
   pub fits-well : WellMap (decodeMap area)
   fits-well = formed-wellMap area fits-long fits-formed

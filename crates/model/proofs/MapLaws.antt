@@ -139,7 +139,7 @@ ones-run cells l = trailing-run 64 cells l
 
 -- ---- a run over two lists
 
-run-most : (cells : List Cell) → completeRun cells ≤ length cells
+pub run-most : (cells : List Cell) → completeRun cells ≤ length cells
 run-most [] = omega arith
 run-most (c ∷ cells) = go (isComplete c) (run-most cells)
   where

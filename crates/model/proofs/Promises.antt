@@ -42,5 +42,14 @@ pub mod RefusalsKept
 -- runs
 pub mod CountLaws
 pub mod RunsKept
+-- the map of the window
+pub mod MapFormed
+pub mod MapAreas
+pub mod MapRows
+pub mod MapFilled
+pub mod MapChanged
+pub mod MapSlid
+pub mod MapsKept
+pub mod MapOnce
 -- all of it
 pub mod Kept

@@ -3,7 +3,7 @@ use Prim.Native.Nat.{ℕ, _*_}
 use mathlib.Core.Bool.{true, false, cond}
 use mathlib.Core.Option.{some}
 use mathlib.Core.List.{List, [], _∷_, _++_}
-use lib.ListN.{take, drop, replicate}
+use lib.ListN.{take, drop, set, replicate}
 use lib.Dec.{eqb}
 use Rattle.fields.specs.Number.{toBe}
 use Rattle.model.specs.Sections.{View, present}
@@ -18,6 +18,10 @@ pub data Case : Type 0 where
   -- filled behind height 0 from a view where all heights but one are complete, slid to a height with another such view: chain height, that
   -- height, the other view's; the run of complete heights, and the same by the three words
   slidTo : ℕ → ℕ → ℕ → ℕ → Case
+  -- on 512 bytes of 255, one call after another; then so many bytes from an offset on
+  bytes : List MapCall → ℕ → ℕ → Case
+  -- filled, then this one byte put at an offset: the number of a change of height 2 at place 0, then of a slide by 0, then passable
+  spoilt : MapCall → ℕ → ℕ → Case
 
 abbrev pub answersFrom : List ℕ → List MapCall → List (List ℕ)
 answersFrom area [] = []
@@ -33,9 +37,25 @@ abbrev pub bothRuns : List Cell → List (List ℕ)
 bothRuns cells =
     (completeRun cells ∷ runOverWords (mark (take 64 cells)) (mark (take 64 (drop 64 cells))) (mark (drop 128 cells)) ∷ []) ∷ []
 
+abbrev pub areaAfter : List ℕ → List MapCall → List ℕ
+areaAfter area [] = area
+areaAfter area (call ∷ others) = areaAfter (mapCalled area call .map) others
+
+-- what the calls say of an area
+abbrev pub saidOf : List ℕ → List (List ℕ)
+saidOf area =
+    (mapCalled area (change true 2 0) .number
+    ∷ mapCalled area (slide 0 (replicate 4 0)) .number
+    ∷ mapPassable area .number
+    ∷ mapPassable area .heights
+    ∷ [])
+    ∷ []
+
 unfoldable pub found : Case → List (List ℕ)
 found (calls size list) = answersFrom (replicate size 0) list
 found (slidTo chainHeight first downloaded second) = bothRuns (slid (filled 0 chainHeight (allBut first)) downloaded (allBut second) .cells)
+found (bytes list at many) = take many (drop at (areaAfter (replicate 512 255) list)) ∷ []
+found (spoilt call at byte) = saidOf (set (mapCalled (replicate 512 0) call .map) at byte)
 
 -- ---- views
 
@@ -43,7 +63,7 @@ found (slidTo chainHeight first downloaded second) = bothRuns (slid (filled 0 ch
 abbrev pub place : ℕ → List ℕ
 place stored = 102 ∷ replicate 32 170 ++ (stored ∷ [])
 
--- rows: no sections, an absent header, one section, three
+-- rows: no sections, an absent header, one section, two, three
 abbrev pub bare : List ℕ
 bare = replicate 103 0
 
@@ -52,6 +72,9 @@ headless = 255 ∷ replicate 102 0
 
 abbrev pub single : ℕ → List ℕ
 single stored = 1 ∷ place stored ++ replicate 68 0
+
+abbrev pub double : ℕ → ℕ → List ℕ
+double a b = 2 ∷ place a ++ (place b ++ replicate 34 0)
 
 abbrev pub triple : ℕ → ℕ → ℕ → List ℕ
 triple a b c = 3 ∷ place a ++ (place b ++ place c)
@@ -96,6 +119,37 @@ arrivals =
     finished 0 ∷ finished 0 ∷ finished 1 ∷ finished 0 ∷ refused 12 0 ∷ [])
     -- nothing without a map
     ∷ (calls 512 (change true 2 0 ∷ slide 1 empty ∷ fill 0 3 three ∷ []) gives unread 12 ∷ unread 12 ∷ finished 1 ∷ []) ∷ []
+
+-- both ends of the window, with a section at each: 1 to 192, then 2 to 193; what a slide lacks, and 12 before 8 before 9
+abbrev pub edges : List (Entry Case)
+edges =
+    (calls 512 (
+    fill 0 193 (viewFrom 1 (single 0 ++ (bares 190 ++ (single 0 ++ single 0))))
+    ∷ change true 0 0
+    ∷ change true 1 0
+    ∷ change true 193 0
+    ∷ change true 192 0
+    ∷ slide 1 empty
+    ∷ slide 1 (0 ∷ [])
+    ∷ slide 1 (viewFrom 193 (single 0))
+    ∷ change true 1 0
+    ∷ slide 0 (0 ∷ [])
+    ∷ change true 193 0
+    ∷ []
+    ) gives
+    finished 0
+    ∷ refused 12 0
+    ∷ finished 191
+    ∷ refused 12 191
+    ∷ finished 192
+    ∷ refused 9 192
+    ∷ refused 8 192
+    ∷ finished 191
+    ∷ refused 12 191
+    ∷ refused 12 191
+    ∷ finished 192
+    ∷ [])
+    ∷ []
 
 -- "the map slides with it": by 0, by 1, past the chain height, downwards, by millions
 abbrev pub slides : List (Entry Case)
@@ -145,8 +199,68 @@ slidWindows =
 abbrev pub fills : List (Entry Case)
 fills =
     (calls 511 (fill 0 3 (0 ∷ []) ∷ []) gives unread 12 ∷ [])
+    ∷ (calls 513 (fill 0 3 three ∷ []) gives unread 12 ∷ [])
     ∷ (calls 512 (fill 0 3 (0 ∷ []) ∷ fill 0 3 (viewFrom 1 (bare ++ single 0)) ∷ fill 0 3 (viewFrom 1 (headless ++ bare)) ∷ []) gives
     unread 8 ∷ unread 9 ∷ unread 9 ∷ [])
     ∷ (calls 512 (fill 0 2 (viewFrom 1 (bare ++ single 1)) ∷ fill 0 3 (viewFrom 1 (bare ++ single 0)) ∷ fill 5 0 empty ∷ []) gives
     finished 2 ∷ refused 9 2 ∷ finished 0 ∷ [])
     ∷ (calls 512 (fill 4294967294 4294967295 (viewFrom 4294967295 bare) ∷ slide 4294967295 empty ∷ []) gives finished 1 ∷ finished 0 ∷ []) ∷ []
+
+-- ---- the bytes
+
+-- docs/LAYOUT.md: "Filled at downloaded height 400 and chain height 402 with block 401 stored (two sections) and 402 of one section, not
+-- stored"
+abbrev pub page : MapCall
+page = fill 400 402 (viewFrom 401 (double 1 1 ++ single 0))
+
+-- heights 1 to 131 without sections, but 64 and 128 with one, the second's stored, and 130 with an absent header; 131 is above the chain
+abbrev pub words : MapCall
+words = fill 0 130 (viewFrom 1 (bares 63 ++ (single 0 ++ (bares 63 ++ (single 1 ++ (bares 1 ++ (headless ++ bares 1)))))))
+
+abbrev pub written : List (Entry Case)
+written =
+    (bytes (page ∷ []) 0 16 gives (69 ∷ 68 ∷ 77 ∷ 1 ∷ 0 ∷ 0 ∷ 1 ∷ 144 ∷ 0 ∷ 0 ∷ 1 ∷ 146 ∷ 0 ∷ 0 ∷ 0 ∷ 0 ∷ []) ∷ [])
+    ∷ (bytes (page ∷ []) 16 48 gives (replicate 7 0 ++ (1 ∷ replicate 40 0)) ∷ [])
+    ∷ (bytes (page ∷ []) 64 192 gives (35 ∷ 16 ∷ replicate 190 128) ∷ [])
+    ∷ (bytes (page ∷ []) 256 300 gives replicate 256 0 ∷ [])
+    -- the lowest height is the lowest bit of the first word's last byte
+    ∷ (bytes (words ∷ []) 16 24 gives (127 ∷ replicate 15 255 ++ (replicate 7 0 ++ (1 ∷ []))) ∷ [])
+    ∷ (bytes (words ∷ []) 126 6 gives (0 ∷ 16 ∷ 0 ∷ 0 ∷ 0 ∷ 0 ∷ []) ∷ [])
+    ∷ (bytes (words ∷ []) 190 6 gives (0 ∷ 17 ∷ 0 ∷ 128 ∷ 128 ∷ 128 ∷ []) ∷ [])
+    -- a change: one bit of one byte, and its mark
+    ∷ (bytes (words ∷ change true 64 0 ∷ change false 128 0 ∷ []) 16 24 gives (replicate 8 255 ++ (127 ∷ replicate 7 255 ++ (replicate 7 0 ++ (1 ∷ [])))) ∷ [])
+    ∷ (bytes (fill 7 8 (viewFrom 8 (triple 0 1 0)) ∷ []) 64 1 gives (50 ∷ []) ∷ [])
+    ∷ (bytes (fill 7 8 (viewFrom 8 (triple 0 1 0)) ∷ change true 8 2 ∷ []) 64 1 gives (54 ∷ []) ∷ [])
+    ∷ (bytes (fill 7 8 (viewFrom 8 (triple 1 1 1)) ∷ change false 8 1 ∷ []) 64 2 gives (53 ∷ 128 ∷ []) ∷ [])
+    -- a slide: 402 keeps its byte, whatever the view says of it, and the chain height stays
+    ∷ (bytes (page ∷ change true 402 0 ∷ slide 401 (viewFrom 402 bare) ∷ []) 0 16 gives
+    (69 ∷ 68 ∷ 77 ∷ 1 ∷ 0 ∷ 0 ∷ 1 ∷ 145 ∷ 0 ∷ 0 ∷ 1 ∷ 146 ∷ 0 ∷ 0 ∷ 0 ∷ 0 ∷ []) ∷ [])
+    ∷ (bytes (page ∷ change true 402 0 ∷ slide 401 (viewFrom 402 bare) ∷ []) 64 3 gives (17 ∷ 128 ∷ 128 ∷ []) ∷ []) ∷ []
+
+-- ---- malformed: one byte put wrong
+
+-- number of a change, of a slide, of passable; heights
+abbrev pub said : ℕ → ℕ → List (List ℕ)
+said number heights = (number ∷ number ∷ number ∷ heights ∷ []) ∷ []
+
+abbrev pub refusedAll : List (List ℕ)
+refusedAll = said 12 0
+
+abbrev pub malformed : List (Entry Case)
+malformed =
+    (spoilt (fill 0 3 three) 0 69 gives said 0 1)
+    ∷ (spoilt (fill 0 3 three) 0 70 gives refusedAll)
+    ∷ (spoilt (fill 0 3 three) 2 75 gives refusedAll)
+    ∷ (spoilt (fill 0 3 three) 3 2 gives refusedAll)
+    ∷ (spoilt (fill 0 3 three) 12 1 gives refusedAll)
+    ∷ (spoilt (fill 0 3 three) 23 3 gives refusedAll)
+    ∷ (spoilt (fill 0 3 three) 39 1 gives refusedAll)
+    ∷ (spoilt (fill 0 3 three) 63 1 gives refusedAll)
+    -- a mark that is missing, a place beyond the height's, one of an absent header; above the chain height a header, a byte of no height
+    ∷ (spoilt (fill 0 3 three) 65 17 gives refusedAll)
+    ∷ (spoilt (fill 0 3 three) 65 18 gives refusedAll)
+    ∷ (spoilt (fill 0 3 three) 66 129 gives refusedAll)
+    ∷ (spoilt (fill 0 3 three) 67 16 gives refusedAll)
+    ∷ (spoilt (fill 0 3 three) 67 64 gives refusedAll)
+    ∷ (spoilt (fill 0 3 three) 256 1 gives refusedAll)
+    ∷ (spoilt (fill 0 3 three) 511 1 gives refusedAll) ∷ []

@@ -13,6 +13,7 @@ pub mod Asked
 pub mod Batches
 pub mod Refusals
 pub mod Runs
+pub mod Maps
 
 -- All promises of a finished call.
 pub record Promises (s : Words.Seen) : Type 0 where
@@ -31,6 +32,7 @@ pub record Promises (s : Words.Seen) : Type 0 where
   pub evicted : Pending.Evicted s
   pub told : Told.Told s
 
--- For any finished call on any areas. Refusals and runs have statements of their own (Promises.Refusals, Promises.Runs).
+-- For any finished call on any areas. Refusals, runs and the map have statements of their own (Promises.Refusals,
+-- Promises.Runs, Promises.Maps).
 abbrev pub AnyFinished : Type 0
 AnyFinished = Words.Promised Promises

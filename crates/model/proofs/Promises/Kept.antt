@@ -1,10 +1,11 @@
--- All promises, proved: of any finished call, of any refused one, of any run.
+-- All promises, proved: of any finished call, of any refused one, of any run, of any call of the map.
 use Rattle.model.specs.State.{State}
 use Rattle.model.specs.Calls.{Call}
 use Rattle.model.specs.Promises.{Promises, AnyFinished}
 use Rattle.model.specs.Promises.Asked.{Asks}
 use Rattle.model.specs.Promises.Refusals.{Refusals}
 use Rattle.model.specs.Promises.Runs.{AnyRun}
+use Rattle.model.specs.Promises.Maps.{Maps}
 use Rattle.model.proofs.Promises.SeenLaws.{seenAs, Finished, promised}
 use Rattle.model.proofs.Promises.OutcomesKept.{outcomes-kept, modes-kept}
 use Rattle.model.proofs.Promises.MarksKept.{sync-peer-kept, stalled-set-kept, marks-kept}
@@ -19,6 +20,7 @@ use Rattle.model.proofs.Promises.PendingKept.{pending-kept, evicted-kep
 use Rattle.model.proofs.Promises.ToldKept.{told-kept}
 use Rattle.model.proofs.Promises.RefusalsKept.{refusals-kept}
 use Rattle.model.proofs.Promises.RunsKept.{any-run}
+use Rattle.model.proofs.Promises.MapsKept.{maps-kept}
 
 asks-kept : (st : State) (call : Call) → Finished st call → Asks (seenAs st call)
 asks-kept st call f =
@@ -62,3 +64,7 @@ refusals = refusals-kept
 -- What is promised along any run.
 pub runs : AnyRun
 runs = any-run
+
+-- What is promised of the map's calls, on any lent bytes.
+pub maps : Maps
+maps = maps-kept

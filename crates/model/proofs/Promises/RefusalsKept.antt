@@ -55,7 +55,7 @@ call-told s =
     (λ e. then-told (call-tells s)
     (λ fits. then-told (lists-tell s)
     (λ e. then-told (peers-tell s)
-    (λ e. then-told (view-tells s)
+    (λ e. then-told (view-tells (s .call .view))
     (λ e. then-told (seen-tells s fits)
     (λ e. then-told (le-tells (length (end .pending) + length (end .sync .evicted)) trackedLimit)
     (λ e. then-told (le-tells (length (end .sync .stalledPeers)) stalledLimit) (λ e. none-told))))))))

@@ -16,7 +16,6 @@ use Rattle.fields.proofs.OrderLaws.{and-left, and-right}
 use Rattle.fields.proofs.EntriesLaws.{length-entry}
 use Rattle.model.specs.Image.{field}
 use Rattle.model.specs.Lists.{flagsFit, usedPlaces, rowFits, rowsFit, firstHeight, rowCount, viewFits}
-use Rattle.model.specs.Promises.Words.{Seen}
 use Rattle.model.specs.Promises.Refusals.{Places, BadRow, BadView}
 use Rattle.model.proofs.Promises.TellsLaws.{Tells, tells-as, tells-not, tells-joined, le-tells, eq-tells, both-tell}
 use Rattle.model.proofs.Promises.TellsLaws.{Somewhere, every, every-tells, entries-tell}
@@ -167,16 +166,15 @@ module _ (bytes : List ℕ) where
       tells-as (λ w. (rows, (has-rows e, w))) (λ w. subst BadRows (row-count (w .0) (w .1 .0)) (w .1 .1))
       (both-tell (le-tells (firstHeight bytes + rows) (2 ^ 32)) (λ f. rows-tell (has-rows e)))))
 
-module _ (s : Seen) where
-  bad-view : BadViewAsTested (s .call .view) → BadView s
+  bad-view : BadViewAsTested → BadView bytes
   bad-view =
       ⊎-elim (λ n. BadView.size (λ rows e. n (rows, e)))
       (λ w. ⊎-elim (BadView.pastEnd (w .0) (w .1 .0)) (λ r. BadView.row (w .0) (r .0) (w .1 .0) (r .1 .0) (r .1 .1)) (w .1 .1))
 
-  bad-view-tested : BadView s → BadViewAsTested (s .call .view)
+  bad-view-tested : BadView bytes → BadViewAsTested
   bad-view-tested (BadView.size n) = inl (λ w. n (w .0) (w .1))
   bad-view-tested (BadView.pastEnd rows e l) = inr (rows, (e, inl l))
   bad-view-tested (BadView.row rows i e l b) = inr (rows, (e, inr (i, (l, b))))
 
-  pub view-tells : Tells (viewFits (s .call .view)) (BadView s)
-  view-tells = tells-as bad-view bad-view-tested (tested-tells (s .call .view))
+  pub view-tells : Tells (viewFits bytes) (BadView bytes)
+  view-tells = tells-as bad-view bad-view-tested tested-tells

@@ -63,10 +63,10 @@ pub data BadRow (row : List ℕ) : Type 0 where
   unused : (n i : ℕ) → Places row n → n * 34 < i → i < 103 → (getD row i 0 ≡ 0 → ⊥) → BadRow row
 
 -- 8: "malformed row or length"
-pub data BadView (s : Seen) : Type 0 where
-  size : ((rows : ℕ) → length (s .call .view) ≡ 4 + rows * 103 → ⊥) → BadView s
-  pastEnd : (rows : ℕ) → length (s .call .view) ≡ 4 + rows * 103 → 2 ^ 32 < field 0 4 (s .call .view) + rows → BadView s
-  row : (rows i : ℕ) → length (s .call .view) ≡ 4 + rows * 103 → i < rows → BadRow (entry 103 i (drop 4 (s .call .view))) → BadView s
+pub data BadView (view : List ℕ) : Type 0 where
+  size : ((rows : ℕ) → length view ≡ 4 + rows * 103 → ⊥) → BadView view
+  pastEnd : (rows : ℕ) → length view ≡ 4 + rows * 103 → 2 ^ 32 < field 0 4 view + rows → BadView view
+  row : (rows i : ℕ) → length view ≡ 4 + rows * 103 → i < rows → BadRow (entry 103 i (drop 4 view)) → BadView view
 
 -- ---- 9, by the heights that a step reads
 
@@ -112,7 +112,7 @@ FirstWrong number first (Wrong ∷ others) = (Wrong × (number ≡ first)) ⊎ (
 
 -- What the numbers from 4 to 11 say.
 abbrev pub wrongs : Seen → List (Type 0)
-wrongs s = Early s ∷ NotNow s ∷ BadIds s ∷ BadPeers s ∷ BadView s ∷ Unseen s ∷ Overfull s ∷ TooManyStalled s ∷ []
+wrongs s = Early s ∷ NotNow s ∷ BadIds s ∷ BadPeers s ∷ BadView (s .call .view) ∷ Unseen s ∷ Overfull s ∷ TooManyStalled s ∷ []
 
 -- What 1, 2 and 3 say of the areas, in front of them. What "malformed" means is `wellFormed`, held by the round trips of images.
 abbrev pub allWrongs : List ℕ → List ℕ → Seen → List (Type 0)

@@ -84,7 +84,3 @@ Counted Such (x ∷ xs) n = ((Such x → ⊥) × Counted Such xs n) ⊎ (Such x 
 -- of every request among the commands
 abbrev pub EachRequest : (Command → Type 0) → Seen → Type 0
 EachRequest P s = All (λ (c : Command). c .kind ≡ numbers.aRequest → P c) (s .sent)
-
--- no request goes out
-abbrev pub NoRequest : Seen → Type 0
-NoRequest s = EachRequest (λ (c : Command). ⊥) s
