@@ -9,5 +9,6 @@ pub mod hostile;
 pub mod judge;
 pub mod keepers;
 pub mod list;
+pub mod maps;
 pub mod report;
 pub mod tell;
