@@ -6,6 +6,7 @@ pub mod beside;
 pub mod cases;
 pub mod differences;
 pub mod hostile;
+pub mod hostile_maps;
 pub mod judge;
 pub mod keepers;
 pub mod list;

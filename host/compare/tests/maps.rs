@@ -2,7 +2,8 @@
 //! with a fault is found.
 
 use keeper_compare::report::Report;
-use keeper_compare::{keepers, maps};
+use keeper_compare::{hostile_maps, keepers, maps, tell};
+use keeper_play::record;
 use keeper_reference::{map, Reference, Rules, PLAIN};
 use keeper_streams::maps::scripts;
 use keeper_values::Keeper;
@@ -76,4 +77,47 @@ fn a_fault_is_found_beside_the_reference() {
     };
     assert!(found(&[&plain, &Reference { rules }]) > 0);
     assert_eq!(found(&[&plain, &plain]), 0);
+}
+
+#[test]
+fn a_fault_is_found_on_damaged_maps() {
+    let found = |rules: Rules| {
+        let mut report = Report::default();
+        let keeper = Reference { rules };
+        (0..40).any(|seed| hostile_maps::random(&keeper, seed, &mut report).is_err())
+    };
+    let faults = [
+        Rules {
+            map_version_fits: |_| true,
+            ..PLAIN
+        },
+        Rules {
+            marks_fit: |_, _| true,
+            ..PLAIN
+        },
+        Rules {
+            absent_above: |_| true,
+            ..PLAIN
+        },
+        Rules {
+            view_shows: |_, _, _| true,
+            ..PLAIN
+        },
+    ];
+    assert!(faults.into_iter().all(found));
+    assert!(!found(PLAIN));
+}
+
+#[test]
+fn directed_streams_tell_every_variant() {
+    let mut variants = keeper_variants::all();
+    variants.retain(|variant| variant.place == "F-1");
+    assert!(variants.len() >= 50);
+    let mut lines = Vec::new();
+    for script in scripts() {
+        lines.extend(record(&Reference::plain(), &script.lines()).expect("can be played"));
+    }
+    let untold = tell::untold(&variants, &lines);
+    let faults: Vec<&str> = untold.iter().map(|variant| variant.fault).collect();
+    assert!(faults.is_empty(), "{faults:?}");
 }

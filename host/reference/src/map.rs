@@ -72,13 +72,13 @@ fn cell_of(byte: u8) -> Cell {
     (byte != ABSENT).then(|| (0..places).map(|place| byte >> place & 1 == 1).collect())
 }
 
-fn cells(area: &[u8]) -> Vec<Cell> {
+pub fn cells(area: &[u8]) -> Vec<Cell> {
     let bytes = area[HEIGHTS..HEIGHTS_END].iter();
     bytes.map(|byte| cell_of(*byte)).collect()
 }
 
 /// The mark of a height of the window, counted from 0.
-fn marked(area: &[u8], index: usize) -> bool {
+pub fn marked(area: &[u8], index: usize) -> bool {
     let word = number(area, MARKS + 8 * (index / WORD_BITS), 8);
     word >> (index % WORD_BITS) & 1 == 1
 }
@@ -130,11 +130,16 @@ pub fn read(rules: &Rules, area: &[u8]) -> Mapped {
     ];
     let formed = tests.iter().all(|test| test(area)) && (rules.marks_fit)(rules, area);
     refused_unless(formed, 12)?;
-    Ok(Map {
+    Ok(contents(area))
+}
+
+/// What the fields of an area say.
+pub fn contents(area: &[u8]) -> Map {
+    Map {
         downloaded: number32(area, 4),
         chain: number32(area, 8),
         cells: cells(area),
-    })
+    }
 }
 
 /// The area of a map; every byte that no field takes is zero.

@@ -7,6 +7,7 @@ mod control;
 mod delivery;
 mod heights;
 mod losses;
+mod maps;
 mod messages;
 mod requests;
 mod results;
@@ -18,7 +19,7 @@ use keeper_reference::{Reference, Rules};
 /// A keeper with one fault.
 #[derive(Clone, Copy)]
 pub struct Variant {
-    /// Where document 01 states what is broken.
+    /// Where document 01 or 02 states what is broken.
     pub place: &'static str,
     /// What it does instead.
     pub fault: &'static str,
@@ -33,7 +34,7 @@ fn variant(place: &'static str, fault: &'static str, rules: Rules) -> Variant {
     }
 }
 
-/// All variants, in document 01's order.
+/// All variants, in document 01's order; then those of document 02.
 pub fn all() -> Vec<Variant> {
     [
         delivery::variants(),
@@ -47,6 +48,7 @@ pub fn all() -> Vec<Variant> {
         areas::variants(),
         calls::variants(),
         results::variants(),
+        maps::variants(),
     ]
     .concat()
 }

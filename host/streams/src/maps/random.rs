@@ -183,7 +183,13 @@ impl RandomMap {
             to.min(u64::from(u32::MAX))
         };
         let window = WINDOW as u64;
-        let first = (u64::from(old) + window).max(downloaded) + 1;
+        // Now and then the view also has the heights that stay, as the world has them by now.
+        let reached = if self.rng.once_in(4) {
+            downloaded
+        } else {
+            (u64::from(old) + window).max(downloaded)
+        };
+        let first = reached + 1;
         let last = (downloaded + window).min(chain.into());
         MapCall::Slide {
             downloaded: downloaded as u32,

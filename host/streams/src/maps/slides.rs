@@ -3,7 +3,9 @@
 use super::{both, malformed_views, no_rows, view, Build, MapScript};
 use super::{ABSENT, KINDS, WINDOW};
 
-const AMOUNTS: [u32; 13] = [0, 1, 7, 8, 63, 64, 65, 128, 190, 191, 192, 193, 3_000_000];
+const AMOUNTS: [u32; 15] = [
+    0, 1, 7, 8, 63, 64, 65, 128, 190, 191, 192, 193, 256, 257, 3_000_000,
+];
 
 pub fn scripts() -> Vec<MapScript> {
     let mut scripts = amounts();
