@@ -143,6 +143,15 @@ pub fn quick(seed: Option<u64>) -> Done {
     }
 }
 
+/// Random streams of the map, until its calls have their share.
+fn maps_share(next: &mut u64, report: &mut Report) -> Done {
+    while report.map_calls() * STEPS_A_MAP_CALL < report.steps() {
+        maps::try_random(&keepers::all(), *next, report)?;
+        *next = next.wrapping_add(1);
+    }
+    Ok(())
+}
+
 /// A long run, with a progress line on standard error and the report on standard output.
 pub fn run(steps: u64, seed: Option<u64>) -> Done {
     if !SOURCE_FOUND {
@@ -153,17 +162,16 @@ pub fn run(steps: u64, seed: Option<u64>) -> Done {
     let start = Instant::now();
     let keepers = keepers::all();
     let mut report = Report::default();
-    let mut fault = known_streams(3, &mut report).and_then(|()| known_maps(&mut report));
     let mut next = seed;
     let mut next_map = seed;
+    let mut fault = known_streams(3, &mut report)
+        .and_then(|()| known_maps(&mut report))
+        .and_then(|()| maps_share(&mut next_map, &mut report));
     let mut shown = 0;
     while fault.is_ok() && report.steps() < steps {
-        fault = cases::try_random(&keepers, next, &mut report);
+        fault = cases::try_random(&keepers, next, &mut report)
+            .and_then(|()| maps_share(&mut next_map, &mut report));
         next = next.wrapping_add(1);
-        while fault.is_ok() && report.map_calls() * STEPS_A_MAP_CALL < report.steps() {
-            fault = maps::try_random(&keepers, next_map, &mut report);
-            next_map = next_map.wrapping_add(1);
-        }
         if report.steps() / 100_000 > shown {
             shown = report.steps() / 100_000;
             eprint!(

@@ -3,8 +3,8 @@
 use crate::cases::{random_lines, script_lines, try_random, try_script};
 use crate::maps::{try_random as try_random_map, try_script as try_map_script};
 use crate::report::Report;
-use crate::tell::streams;
-use keeper_play::{record, told_apart};
+use crate::tell::{streams, tells};
+use keeper_play::record;
 use keeper_reference::Reference;
 use keeper_streams::maps::{self, RandomMap};
 use keeper_streams::text::Line;
@@ -65,7 +65,7 @@ fn candidate(variants: &[Variant], calls: &[Line]) -> Result<Candidate, String> 
     let lines = record(&Reference::plain(), calls)?;
     let mut keys = shown(&lines);
     for (index, variant) in variants.iter().enumerate() {
-        if told_apart(&variant.keeper, &lines) {
+        if tells(variant, &lines) {
             keys.insert(index as u64);
         }
     }

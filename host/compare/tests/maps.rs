@@ -111,7 +111,7 @@ fn a_fault_is_found_on_damaged_maps() {
 #[test]
 fn directed_streams_tell_every_variant() {
     let mut variants = keeper_variants::all();
-    variants.retain(|variant| variant.place == "F-1");
+    variants.retain(|variant| variant.place == keeper_variants::MAP);
     assert!(variants.len() >= 50);
     let mut lines = Vec::new();
     for script in scripts() {

@@ -16,6 +16,9 @@ mod ticks;
 
 use keeper_reference::{Reference, Rules};
 
+/// The place of the map's variants.
+pub const MAP: &str = "F-1";
+
 /// A keeper with one fault.
 #[derive(Clone, Copy)]
 pub struct Variant {

@@ -7,7 +7,7 @@ mod heights;
 mod orders;
 mod slides;
 
-use crate::{variant, Variant};
+use crate::{variant, Variant, MAP};
 use keeper_reference::Rules;
 
 pub fn variants() -> Vec<Variant> {
@@ -23,5 +23,5 @@ pub fn variants() -> Vec<Variant> {
 }
 
 fn f1(fault: &'static str, rules: Rules) -> Variant {
-    variant("F-1", fault, rules)
+    variant(MAP, fault, rules)
 }
