@@ -90,8 +90,8 @@ pub fn random_map_lines(seed: u64, most: usize) -> Vec<Line> {
     lines
 }
 
-/// Candidates: directed streams and random ones that the oracle agrees with, and hostile ones that it can't judge; streams
-/// of the map that rule 5 agrees with.
+/// Candidates: directed streams and random ones that the oracle agrees with, and hostile ones that it can't judge;
+/// streams of the map that rule 5 agrees with.
 fn candidates(variants: &[Variant], seeds: u64) -> Result<Vec<Candidate>, String> {
     let reference = Reference::plain();
     let mut report = Report::default();

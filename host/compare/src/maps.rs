@@ -1,5 +1,5 @@
-//! F-1's map: streams of its calls on the reference and on other keepers beside it, byte for byte, and against an account of
-//! their own: the rows as filled and the flags as changed since, judged by rule 5.
+//! F-1's map: streams of its calls on the reference and on other keepers beside it, byte for byte, and against an
+//! account of their own: the rows as filled and the flags as changed since, judged by rule 5.
 
 use crate::report::Report;
 use keeper_reference::inputs::{row, view_fits, Inputs};

@@ -1,5 +1,5 @@
-//! The map of the window: every directed stream answers as it says, random ones go where they are meant to go, and a keeper
-//! with a fault is found.
+//! The map of the window: every directed stream answers as it says, random ones go where they are meant to go, and a
+//! keeper with a fault is found.
 
 use keeper_compare::report::Report;
 use keeper_compare::{hostile_maps, keepers, maps, tell};

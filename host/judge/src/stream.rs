@@ -1,5 +1,5 @@
-//! A stream as a pupil meets it: an opening, then steps and questions. No state is put in, no byte is damaged, and no map
-//! is kept.
+//! A stream as a pupil meets it: an opening, then steps and questions. No state is put in, no byte is damaged, and no
+//! map is kept.
 
 use keeper_streams::text::Line;
 use keeper_values::numbers::kinds;

@@ -1,4 +1,5 @@
-//! Every decision of the reference as a field. [`PLAIN`] is document 01 with F-1; a variant is `Rules { one: .., ..PLAIN }`.
+//! Every decision of the reference as a field. [`PLAIN`] is document 01 with F-1; a variant is
+//! `Rules { one: .., ..PLAIN }`.
 
 use crate::delivery::{Check, Retry};
 use crate::entries::Before;

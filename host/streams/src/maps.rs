@@ -1,5 +1,6 @@
-//! Streams of calls on the map of the window (F-1): directed ones at each limit, malformed maps, random ones from a seed, and
-//! damaged copies. A height is said by its byte in a map (docs/LAYOUT.md): 128, or 16 × sections + those stored.
+//! Streams of calls on the map of the window (F-1): directed ones at each limit, malformed maps, random ones from a
+//! seed, and damaged copies. A height is said by its byte in a map (docs/LAYOUT.md): 128, or 16 × sections + those
+//! stored.
 
 mod changes;
 mod damage;

@@ -34,7 +34,8 @@ fn change(rng: &mut Rng, map: &mut [u8]) {
     };
 }
 
-/// A copy of a map: as it is, with a byte or several changed, heights changed and marked so, of another length, or noise.
+/// A copy of a map: as it is, with a byte or several changed, heights changed and marked so, of another length, or
+/// noise.
 pub fn damaged(rng: &mut Rng, map: &[u8]) -> Vec<u8> {
     let mut map = map.to_vec();
     match rng.below(10) {

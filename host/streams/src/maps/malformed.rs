@@ -1,5 +1,5 @@
-//! Areas that are no map: of another length, or with a field that docs/LAYOUT.md does not allow. Every call but a whole fill
-//! is refused as 12, whatever else is wrong with it.
+//! Areas that are no map: of another length, or with a field that docs/LAYOUT.md does not allow. Every call but a whole
+//! fill is refused as 12, whatever else is wrong with it.
 
 use super::{mark, no_rows, ready, view, Build, MapScript};
 use super::{ABSENT, WINDOW};

@@ -1,5 +1,5 @@
-//! Random streams of a map: a world of rows and flags, fills, arrivals, prunings, slides by odd amounts, chain heights that
-//! fall into the window, and calls that are refused among them.
+//! Random streams of a map: a world of rows and flags, fills, arrivals, prunings, slides by odd amounts, chain heights
+//! that fall into the window, and calls that are refused among them.
 
 use super::{ABSENT, WINDOW};
 use crate::damage;
@@ -143,12 +143,12 @@ impl RandomMap {
 
     fn change(&mut self, map: &[u8], stored: bool) -> MapCall {
         let (height, place) = self.section(map);
-        let began_stored = match self.row(height) {
+        let held = match self.row(height) {
             Row::Present(places) => places.get(usize::from(place)).map(|place| place.stored),
             Row::Absent => None,
         };
-        // Now and then the world has moved on without the map.
-        if began_stored.is_some_and(|now| now != stored) && !self.rng.once_in(8) {
+        // Now and then the world does not follow, so that later views say otherwise.
+        if held.is_some_and(|held| held != stored) && !self.rng.once_in(8) {
             let turned = (height, place);
             if !self.turned.remove(&turned) {
                 self.turned.insert(turned);
