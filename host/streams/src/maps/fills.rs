@@ -11,6 +11,7 @@ pub fn scripts() -> Vec<MapScript> {
     scripts.extend(views());
     scripts.extend(last_heights());
     scripts.push(afresh());
+    scripts.extend(again());
     scripts
 }
 
@@ -226,4 +227,19 @@ fn afresh() -> MapScript {
         .fill(10, 11, view(11, &[16]), 0)
         .passable(0)
         .done()
+}
+
+/// The same heights are filled again, with other flags.
+fn again() -> Vec<MapScript> {
+    let mut scripts = Vec::new();
+    for (before, after) in [(35, 32), (33, 34), (16, 17), (55, 51)] {
+        let name = format!("a height {before} filled again as {after}");
+        let run = |height| u32::from(super::complete(height));
+        scripts.extend(both(&name, 10, 11, &[before], |b| {
+            b.passable(run(before))
+                .fill(10, 11, view(11, &[after]), 0)
+                .passable(run(after))
+        }));
+    }
+    scripts
 }

@@ -11,10 +11,12 @@ pub fn variants() -> Vec<Variant> {
         f1(
             "a window of 191 heights is filled",
             Rules {
-                fill: |rules, area, downloaded, chain, view| {
-                    let end = downloaded.saturating_add(191);
-                    let map = map::fill(rules, area, downloaded, chain.min(end), view)?;
-                    Ok(Map { chain, ..map })
+                filled: |rules, view, chain, heights| {
+                    let mut cells = map::filled(rules, view, chain, heights)?;
+                    if let Some(last) = cells.last_mut() {
+                        *last = None;
+                    }
+                    Ok(cells)
                 },
                 ..PLAIN
             },
