@@ -2,8 +2,7 @@
 
 use super::f1;
 use crate::Variant;
-use keeper_reference::map::{self, Map};
-use keeper_reference::{inputs, sync, Refusal, Rules, PLAIN};
+use keeper_reference::{inputs, map, sync, Refusal, Rules, PLAIN};
 use keeper_values::Row;
 
 pub fn variants() -> Vec<Variant> {
