@@ -1,10 +1,11 @@
 //! The commands.
 
 use keeper_compare::report::Report;
-use keeper_compare::{cases, differences, hostile as hostiles, keepers, list, tell};
+use keeper_compare::{cases, differences, hostile as hostiles, hostile_maps, keepers, list};
+use keeper_compare::{maps, tell};
 use keeper_oracle::SOURCE_FOUND;
 use keeper_streams::text::Line;
-use keeper_streams::{directed, exhaustive};
+use keeper_streams::{directed, exhaustive, maps as map_streams};
 use std::time::{Duration, Instant, SystemTime, UNIX_EPOCH};
 
 type Done = Result<(), String>;
@@ -13,6 +14,12 @@ const LIST: &str = include_str!("../../fixed/streams.txt");
 
 /// Time that the quick command gives to random streams under the oracle.
 const QUICK_RANDOM: Duration = Duration::from_secs(12);
+
+/// Time that the quick command gives to random streams of the map.
+const QUICK_MAPS: Duration = Duration::from_millis(800);
+
+/// Steps for each call of the map, in a run and under damage.
+const STEPS_A_MAP_CALL: u64 = 5;
 
 const NO_SOURCE: &str =
     "oracle: SKIPPED, the original Rust was not found when this was built (shared/docs/src beside \
@@ -66,6 +73,34 @@ fn oracle_quick(seed: u64) -> Done {
     Ok(())
 }
 
+/// Directed streams of the map, which need no oracle.
+fn known_maps(report: &mut Report) -> Done {
+    let keepers = keepers::all();
+    for script in map_streams::scripts() {
+        maps::try_script(&keepers, &script, report)?;
+    }
+    Ok(())
+}
+
+fn maps_quick(seed: u64) -> Done {
+    let mut report = Report::default();
+    known_maps(&mut report)?;
+    let known = report.map_calls();
+    let mut next = seed;
+    let start = Instant::now();
+    while start.elapsed() < QUICK_MAPS {
+        maps::try_random(&keepers::all(), next, &mut report)?;
+        next = next.wrapping_add(1);
+    }
+    let on = keepers::CORE.map_or("reference", |_| "reference and core");
+    println!(
+        "maps: {known} directed calls, {} random from seed {seed} on {on}, no difference, and each run \
+is rule 5's",
+        report.map_calls() - known
+    );
+    Ok(())
+}
+
 fn say_without_core() {
     if keepers::CORE.is_none() {
         println!("{NO_CORE}");
@@ -85,6 +120,7 @@ pub fn quick(seed: Option<u64>) -> Done {
     } else {
         println!("{NO_SOURCE}");
     }
+    maps_quick(seed).map_err(|fault| format!("maps: {fault}"))?;
     let lines = fixed_list()?;
     let streams = list::count(&lines);
     for (keeper, name) in keepers::all().into_iter().zip(["reference", "core"]) {
@@ -107,6 +143,15 @@ pub fn quick(seed: Option<u64>) -> Done {
     }
 }
 
+/// Random streams of the map, until its calls have their share.
+fn maps_share(next: &mut u64, report: &mut Report) -> Done {
+    while report.map_calls() * STEPS_A_MAP_CALL < report.steps() {
+        maps::try_random(&keepers::all(), *next, report)?;
+        *next = next.wrapping_add(1);
+    }
+    Ok(())
+}
+
 /// A long run, with a progress line on standard error and the report on standard output.
 pub fn run(steps: u64, seed: Option<u64>) -> Done {
     if !SOURCE_FOUND {
@@ -117,11 +162,15 @@ pub fn run(steps: u64, seed: Option<u64>) -> Done {
     let start = Instant::now();
     let keepers = keepers::all();
     let mut report = Report::default();
-    let mut fault = known_streams(3, &mut report);
     let mut next = seed;
+    let mut next_map = seed;
+    let mut fault = known_streams(3, &mut report)
+        .and_then(|()| known_maps(&mut report))
+        .and_then(|()| maps_share(&mut next_map, &mut report));
     let mut shown = 0;
     while fault.is_ok() && report.steps() < steps {
-        fault = cases::try_random(&keepers, next, &mut report);
+        fault = cases::try_random(&keepers, next, &mut report)
+            .and_then(|()| maps_share(&mut next_map, &mut report));
         next = next.wrapping_add(1);
         if report.steps() / 100_000 > shown {
             shown = report.steps() / 100_000;
@@ -136,9 +185,10 @@ pub fn run(steps: u64, seed: Option<u64>) -> Done {
     report.differences += u64::from(fault.is_err());
     let seconds = start.elapsed().as_secs();
     println!(
-        "{}, seeds {seed} to {}, {seconds} s\n\n{report}",
+        "{}, seeds {seed} to {}, of maps to {}, {seconds} s\n\n{report}",
         keepers::names(),
-        next.wrapping_sub(1)
+        next.wrapping_sub(1),
+        next_map.wrapping_sub(1)
     );
     fault
 }
@@ -178,6 +228,26 @@ fn hostile_steps(steps: u64, seed: u64) -> Done {
     println!(
         "hostile: {known} calls with a known number, {} damaged from seed {seed}, on {on}",
         report.steps() - known
+    );
+    hostile_maps_calls(steps / STEPS_A_MAP_CALL, seed).map_err(|fault| format!("hostile: {fault}"))
+}
+
+fn hostile_maps_calls(calls: u64, seed: u64) -> Done {
+    let mut report = Report::default();
+    let keeper = keepers::on_bytes();
+    for script in map_streams::scripts() {
+        hostile_maps::known(keeper, &script, &mut report)?;
+    }
+    let known = report.map_calls();
+    let mut next = seed;
+    while report.map_calls() < calls + known {
+        hostile_maps::random(keeper, next, &mut report)?;
+        next = next.wrapping_add(1);
+    }
+    let on = keepers::CORE.map_or("the reference", |_| "core and reference");
+    println!(
+        "hostile: {known} calls of the map with a known number, {} on damaged maps from seed {seed}, on {on}",
+        report.map_calls() - known
     );
     Ok(())
 }

@@ -1,12 +1,15 @@
 //! The fixed list: made and written.
 
 use crate::cases::{random_lines, script_lines, try_random, try_script};
+use crate::maps::{try_random as try_random_map, try_script as try_map_script};
 use crate::report::Report;
-use crate::tell::streams;
-use keeper_play::{record, told_apart};
+use crate::tell::{streams, tells};
+use keeper_play::record;
 use keeper_reference::Reference;
+use keeper_streams::maps::{self, RandomMap};
 use keeper_streams::text::Line;
 use keeper_streams::{directed, hostile};
+use keeper_values::{Keeper, MAP_BYTES};
 use keeper_variants::Variant;
 use std::collections::{BTreeMap, BTreeSet};
 
@@ -30,7 +33,8 @@ struct Candidate {
     keys: BTreeSet<u64>,
 }
 
-/// Kind, mode and outcome of each finished step, number and mode of each refused one, so that the list shows all.
+/// Kind, mode and outcome of each finished step, number and mode of each refused one, and each call of the map with its
+/// number, so that the list shows all.
 fn shown(lines: &[Line]) -> BTreeSet<u64> {
     let mut keys = BTreeSet::new();
     let mut mode = 0;
@@ -45,6 +49,9 @@ fn shown(lines: &[Line]) -> BTreeSet<u64> {
                     10_000 + 100 * number + mode
                 });
             }
+            [Line::MapCall(call), Line::Answer(numbers)] => {
+                keys.insert(20_000 + 100 * call.kind() as u64 + u64::from(numbers[0]));
+            }
             [_, Line::State(state) | Line::Put(state)] | [Line::Put(state), _] => {
                 mode = u64::from(state.mode.number());
             }
@@ -58,7 +65,7 @@ fn candidate(variants: &[Variant], calls: &[Line]) -> Result<Candidate, String> 
     let lines = record(&Reference::plain(), calls)?;
     let mut keys = shown(&lines);
     for (index, variant) in variants.iter().enumerate() {
-        if told_apart(&variant.keeper, &lines) {
+        if tells(variant, &lines) {
             keys.insert(index as u64);
         }
     }
@@ -69,7 +76,22 @@ fn candidate(variants: &[Variant], calls: &[Line]) -> Result<Candidate, String> 
     })
 }
 
-/// Candidates: directed streams and random ones that the oracle agrees with, and hostile ones that it can't judge.
+/// A random stream of the map, cut after some calls, with the question after each.
+pub fn random_map_lines(seed: u64, most: usize) -> Vec<Line> {
+    let reference = Reference::plain();
+    let mut random = RandomMap::new(seed);
+    let mut map = vec![0; MAP_BYTES];
+    let mut lines = vec![Line::Stream(format!("random map {seed}"))];
+    for _ in 0..random.length.min(most) {
+        let call = random.next(&map);
+        reference.map_call(&mut map, &call);
+        lines.extend([Line::MapCall(call), Line::Passable]);
+    }
+    lines
+}
+
+/// Candidates: directed streams and random ones that the oracle agrees with, and hostile ones that it can't judge;
+/// streams of the map that rule 5 agrees with.
 fn candidates(variants: &[Variant], seeds: u64) -> Result<Vec<Candidate>, String> {
     let reference = Reference::plain();
     let mut report = Report::default();
@@ -87,6 +109,14 @@ fn candidates(variants: &[Variant], seeds: u64) -> Result<Vec<Candidate>, String
             variants,
             &random_lines(seed, 12, seed % 3 == 0)?,
         )?);
+    }
+    for script in maps::scripts() {
+        try_map_script(&[&reference], &script, &mut report)?;
+        all.push(candidate(variants, &script.lines())?);
+    }
+    for seed in 1..=seeds {
+        try_random_map(&[&reference], seed, &mut report)?;
+        all.push(candidate(variants, &random_map_lines(seed, 8))?);
     }
     Ok(all)
 }

@@ -2,7 +2,7 @@
 
 use keeper_oracle::{Reason, Sent};
 use keeper_values::numbers::kinds;
-use keeper_values::{Call, Mode, Row, State};
+use keeper_values::{Call, MapCall, Mode, Row, State};
 use std::fmt::{self, Display, Formatter};
 
 const KINDS: usize = kinds::LAST as usize + 2;
@@ -20,6 +20,17 @@ const MET: [&str; 9] = [
     "a height of 2^32 - 1",
 ];
 
+/// The numbers that a call of the map may have.
+const MAP_NUMBERS: [u32; 4] = [0, 12, 8, 9];
+
+/// What finished calls of the map are counted for besides, by the run after them.
+const MAP_MET: [&str; 4] = [
+    "no height can be passed",
+    "1 to 63 heights can be passed",
+    "64 to 191 heights can be passed",
+    "all 192 heights can be passed",
+];
+
 #[derive(Debug, Clone, Default)]
 pub struct Report {
     finished: [[u64; 5]; KINDS],
@@ -27,6 +38,8 @@ pub struct Report {
     out_of_domain: [u64; 3],
     outcomes: [u64; 6],
     met: [u64; MET.len()],
+    map: [[u64; MAP_NUMBERS.len()]; MapCall::NAMES.len()],
+    map_met: [u64; MAP_MET.len()],
     pub streams: u64,
     pub questions: u64,
     pub differences: u64,
@@ -73,12 +86,56 @@ impl Report {
         }
     }
 
+    /// A call of the map, with its number and how many heights can be passed after it.
+    pub fn map_call(&mut self, call: &MapCall, number: u32, heights: u32) {
+        let column = MAP_NUMBERS.iter().position(|known| *known == number);
+        if let Some(column) = column {
+            self.map[call.kind()][column] += 1;
+        }
+        if number == 0 {
+            let met = match heights {
+                0 => 0,
+                1..=63 => 1,
+                64..=191 => 2,
+                _ => 3,
+            };
+            self.map_met[met] += 1;
+        }
+    }
+
+    pub fn map_calls(&self) -> u64 {
+        self.map.iter().flatten().sum()
+    }
+
     pub fn out_of_domain(&mut self, reason: Reason) {
         self.out_of_domain[reason as usize] += 1;
     }
 
     pub fn steps(&self) -> u64 {
         self.finished.iter().flatten().sum::<u64>() + self.refused.iter().sum::<u64>()
+    }
+}
+
+impl Report {
+    fn maps(&self, out: &mut Formatter<'_>) -> fmt::Result {
+        writeln!(out, "\n| map call | finished | 12 | 8 | 9 |")?;
+        writeln!(out, "|---|---|---|---|---|")?;
+        for (name, numbers) in MapCall::NAMES.iter().zip(self.map) {
+            write!(out, "| {name} |")?;
+            for count in numbers {
+                match count {
+                    0 => write!(out, " |")?,
+                    count => write!(out, " {count} |")?,
+                }
+            }
+            writeln!(out)?;
+        }
+        writeln!(out, "\n| after finished map calls | calls |")?;
+        writeln!(out, "|---|---|")?;
+        for (name, count) in MAP_MET.iter().zip(self.map_met) {
+            writeln!(out, "| {name} | {count} |")?;
+        }
+        Ok(())
     }
 }
 
@@ -123,12 +180,16 @@ impl Display for Report {
         )?;
         writeln!(out, "| a sum of the Rust overflows | {panic} |")?;
         writeln!(out, "| no such place in the Rust | {place} |")?;
+        if self.map_calls() > 0 {
+            self.maps(out)?;
+        }
         writeln!(
             out,
-            "\n{} streams, {} steps, {} questions, {} differences",
+            "\n{} streams, {} steps, {} questions, {} map calls, {} differences",
             self.streams,
             self.steps(),
             self.questions,
+            self.map_calls(),
             self.differences
         )
     }

@@ -32,14 +32,21 @@ pub fn streams(lines: &[Line]) -> Vec<(&str, &[Line])> {
     starts.windows(2).map(part).collect()
 }
 
+/// Whether a recorded stream tells a variant. The map's rules play no part in a stream that never calls on one.
+pub fn tells(variant: &Variant, lines: &[Line]) -> bool {
+    let of_a_map = |line: &Line| matches!(line, Line::MapCall(_) | Line::Passable);
+    (variant.place != keeper_variants::MAP || lines.iter().any(of_a_map))
+        && told_apart(&variant.keeper, lines)
+}
+
 /// The variants that no recorded stream tells. A variant is played up to the first stream that does.
 pub fn untold(variants: &[Variant], lines: &[Line]) -> Vec<Variant> {
     let streams = streams(lines);
-    let tells = |variant: &Variant| {
+    let told = |variant: &Variant| {
         let mut parts = streams.iter();
-        parts.any(|(_, part)| told_apart(&variant.keeper, part))
+        parts.any(|(_, part)| tells(variant, part))
     };
-    let untold = variants.iter().filter(|variant| !tells(variant));
+    let untold = variants.iter().filter(|variant| !told(variant));
     untold.copied().collect()
 }
 
@@ -49,7 +56,7 @@ pub fn table(variants: &[Variant], lines: &[Line]) -> Vec<Told> {
     let told = |variant: &Variant| {
         let telling: Vec<&str> = streams
             .iter()
-            .filter(|(_, part)| told_apart(&variant.keeper, part))
+            .filter(|(_, part)| tells(variant, part))
             .map(|(name, _)| *name)
             .collect();
         Told {

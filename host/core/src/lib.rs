@@ -1,9 +1,9 @@
 //! The proved core as a keeper, on the bytes of its boundary, to be held against oracle and reference.
 
-use keeper_values::{Answer, Arguments, Keeper, Settings};
+use keeper_values::{Answer, Arguments, Keeper, MapCall, Settings};
 use request_keeper::boundary;
 
-/// The three entries of the static library.
+/// The entries of the static library.
 #[derive(Debug, Clone, Copy, Default)]
 pub struct Core;
 
@@ -55,5 +55,23 @@ impl Keeper for Core {
     fn question(&self, state: &[u8], commands: &mut [u8], flag: u8) -> (u32, u32) {
         let answer = boundary::question(state, commands, flag);
         (answer.number, answer.length)
+    }
+
+    fn map_call(&self, map: &mut [u8], call: &MapCall) -> u32 {
+        match call {
+            MapCall::Fill {
+                downloaded,
+                chain,
+                view,
+            } => boundary::map_fill(map, *downloaded, *chain, view),
+            MapCall::Arrived { height, place } => boundary::map_arrived(map, *height, *place),
+            MapCall::Pruned { height, place } => boundary::map_pruned(map, *height, *place),
+            MapCall::Slide { downloaded, view } => boundary::map_slide(map, *downloaded, view),
+        }
+    }
+
+    fn map_passable(&self, map: &[u8]) -> (u32, u32) {
+        let answer = boundary::map_passable(map);
+        (answer.number, answer.heights)
     }
 }

@@ -45,10 +45,13 @@ pub fn replay(pupil: &mut Pupil, path: &Path, out: &mut dyn Write) -> Result<Ver
     let (streams, left_out) = streams(path)?;
     if left_out > 0 {
         let (count, they) = match left_out {
-            1 => (count(1, "stream"), "it puts a state in or damages an area"),
+            1 => (
+                count(1, "stream"),
+                "it puts a state in, damages an area or calls on a map",
+            ),
             more => (
                 count(more as u64, "stream"),
-                "they put a state in or damage an area",
+                "they put a state in, damage an area or call on a map",
             ),
         };
         say(out, &format!("{count} left out: {they}\n"))?;

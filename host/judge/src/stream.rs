@@ -1,4 +1,5 @@
-//! A stream as a pupil meets it: an opening, then steps and questions. No state is put in and no byte is damaged.
+//! A stream as a pupil meets it: an opening, then steps and questions. No state is put in, no byte is damaged, and no
+//! map is kept.
 
 use keeper_streams::text::Line;
 use keeper_values::numbers::kinds;
@@ -95,7 +96,8 @@ impl Stream {
         ids
     }
 
-    /// The streams of a file. One that puts a state in or damages an area is left out; how many were, comes second.
+    /// The streams of a file. One that puts a state in, damages an area or calls on a map is left out; how many were,
+    /// comes second.
     pub fn of_lines(lines: &[Line]) -> (Vec<Self>, usize) {
         let mut streams = Vec::new();
         let mut left_out = 0;
@@ -125,11 +127,19 @@ impl Stream {
                 }
                 Line::Step(arguments, _) => reading.call(Call::Step(arguments.clone())),
                 Line::Ask(flag) => reading.call(Call::Ask(*flag)),
-                Line::Open { .. } | Line::Put(_) | Line::Areas(..) | Line::Poke(..) => {
-                    reading = Reading::LeftOut;
-                }
+                Line::Open { .. }
+                | Line::Put(_)
+                | Line::Areas(..)
+                | Line::Poke(..)
+                | Line::Map(_)
+                | Line::MapCall(_)
+                | Line::Passable => reading = Reading::LeftOut,
                 // Answers are the core's to give.
-                Line::Answer(_) | Line::Command(_) | Line::Pairs(_) | Line::State(_) => {}
+                Line::Answer(_)
+                | Line::Command(_)
+                | Line::Pairs(_)
+                | Line::State(_)
+                | Line::MapAfter(_) => {}
             }
         }
         reading.end(&mut streams, &mut left_out);
@@ -192,4 +202,29 @@ fn view_ids(view: &[u8]) -> impl Iterator<Item = &[u8]> {
     view_places(view)
         .into_iter()
         .filter_map(|at| view.get(at..at + 32))
+}
+
+#[cfg(test)]
+mod tests {
+    use super::*;
+
+    #[test]
+    fn streams_with_a_map_are_left_out() {
+        let of_a_map = [
+            "map 00",
+            "fill 0 0 00000000",
+            "arrived 1 0",
+            "pruned 1 0",
+            "slide 0 00000000",
+            "passable",
+        ];
+        let mut text = "stream without\nopen 0 0 0 0 0 0\n".to_string();
+        for line in of_a_map {
+            text += &format!("stream {line}\nopen 0 0 0 0 0 0\n{line}\n= 0\n% 45444d01\n");
+        }
+        let lines = keeper_play::read(&text).expect("of the form");
+        let (streams, left_out) = Stream::of_lines(&lines);
+        let names: Vec<&str> = streams.iter().map(|stream| stream.name.as_str()).collect();
+        assert_eq!((names, left_out), (vec!["without"], of_a_map.len()));
+    }
 }

@@ -101,7 +101,8 @@ fn streams_from_standard_input() {
         .expect("it is read");
     drop(pipe);
     let output = judge.wait_with_output().expect("it ends");
-    let says = "1 stream left out: it puts a state in or damages an area\nNo difference in 1 stream, 1 call.\n";
+    let says = "1 stream left out: it puts a state in, damages an area or calls on a map\n\
+                No difference in 1 stream, 1 call.\n";
     assert_eq!(String::from_utf8_lossy(&output.stdout), says);
     assert_eq!(output.status.code(), Some(0));
 }

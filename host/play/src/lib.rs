@@ -1,10 +1,10 @@
 //! Streams as lines: record a keeper's answers below each call, or hold a keeper against recorded ones.
 
-use keeper_reference::{image, PLAIN};
+use keeper_reference::{image, map, PLAIN};
 use keeper_streams::damage::Damaged;
 use keeper_streams::text::Line;
-use keeper_values::{read_commands, Answer, Arguments, Keeper, Settings, State};
-use keeper_values::{COMMAND_BYTES, STATE_BYTES};
+use keeper_values::{read_commands, Answer, Arguments, Keeper, MapCall, Settings, State};
+use keeper_values::{COMMAND_BYTES, MAP_BYTES, STATE_BYTES};
 use std::panic::{catch_unwind, set_hook, take_hook, AssertUnwindSafe};
 
 /// Lies in the command area before each call, so that a byte written too much shows.
@@ -32,10 +32,11 @@ fn state_line(mut state: State) -> Line {
     Line::State(Box::new(state))
 }
 
-/// A keeper and the state area of a stream.
+/// A keeper, and the state area and the map of a stream.
 pub struct Player<'k> {
     keeper: &'k dyn Keeper,
     state: Vec<u8>,
+    map: Vec<u8>,
     lengths: (usize, usize),
     poke: Option<(usize, Vec<u8>)>,
 }
@@ -45,6 +46,7 @@ impl<'k> Player<'k> {
         Self {
             keeper,
             state: vec![FILL; STATE_BYTES],
+            map: vec![0; MAP_BYTES],
             lengths: (STATE_BYTES, COMMAND_BYTES),
             poke: None,
         }
@@ -81,7 +83,16 @@ impl<'k> Player<'k> {
             }
             Line::Step(call, _) => return self.step(call),
             Line::Ask(flag) => return self.ask(*flag),
-            answer => return Err(format!("an answer without a call: {}", answer.write())),
+            Line::Map(bytes) => self.map.clone_from(bytes),
+            Line::MapCall(call) => return self.map_call(call),
+            Line::Passable => return self.passable(),
+            Line::Answer(_)
+            | Line::Command(_)
+            | Line::Pairs(_)
+            | Line::State(_)
+            | Line::MapAfter(_) => {
+                return Err(format!("an answer without a call: {}", line.write()));
+            }
         }
         Ok(Vec::new())
     }
@@ -146,6 +157,32 @@ impl<'k> Player<'k> {
         }
         Ok(vec![Line::Answer(vec![number, length]), Line::Pairs(pairs)])
     }
+
+    fn map_call(&mut self, call: &MapCall) -> Result<Vec<Line>, String> {
+        let before = self.map.clone();
+        let number = self.keeper.map_call(&mut self.map, call);
+        let mut lines = vec![Line::Answer(vec![number])];
+        if number != 0 {
+            if self.map != before {
+                return Err(format!("refused as {number}, and the map is changed"));
+            }
+            return Ok(lines);
+        }
+        if map::read(&PLAIN, &self.map).is_err() {
+            return Err("a finished call left a malformed map".to_string());
+        }
+        lines.push(Line::MapAfter(self.map.clone()));
+        Ok(lines)
+    }
+
+    fn passable(&mut self) -> Result<Vec<Line>, String> {
+        let before = self.map.clone();
+        let (number, heights) = self.keeper.map_passable(&self.map);
+        if self.map != before {
+            return Err("a question changed the map".to_string());
+        }
+        Ok(vec![Line::Answer(vec![number, heights])])
+    }
 }
 
 /// The calls with this keeper's answers.
@@ -186,4 +223,112 @@ pub fn told_apart(keeper: &dyn Keeper, lines: &[Line]) -> bool {
     let outcome = catch_unwind(AssertUnwindSafe(|| replay(keeper, lines)));
     set_hook(printing);
     !matches!(outcome, Ok(Ok(_)))
+}
+
+#[cfg(test)]
+mod tests {
+    use super::*;
+    use keeper_reference::Reference;
+    use keeper_values::{Row, View};
+
+    fn stream() -> Vec<Line> {
+        let view = View {
+            first: 6,
+            rows: vec![Row::Present(Vec::new())],
+        };
+        let fill = |downloaded| MapCall::Fill {
+            downloaded,
+            chain: 6,
+            view: view.to_bytes(),
+        };
+        vec![
+            Line::Stream("a map".to_string()),
+            Line::Passable,
+            Line::MapCall(fill(4)),
+            Line::MapCall(fill(5)),
+            Line::Passable,
+            Line::MapCall(MapCall::Arrived {
+                height: 6,
+                place: 0,
+            }),
+            Line::Passable,
+            Line::Map(vec![0; 3]),
+            Line::MapCall(fill(5)),
+            Line::Stream("another".to_string()),
+            Line::Passable,
+            Line::MapCall(fill(5)),
+        ]
+    }
+
+    #[test]
+    fn a_map_is_kept_as_the_lines_say() {
+        let lines = record(&Reference::plain(), &stream()).expect("can be played");
+        let answers = lines.iter().filter_map(|line| match line {
+            Line::Answer(numbers) => Some(numbers.as_slice()),
+            _ => None,
+        });
+        let expected: [&[u32]; 9] = [
+            &[12, 0],
+            &[9],
+            &[0],
+            &[0, 1],
+            &[12],
+            &[0, 1],
+            &[12],
+            &[12, 0],
+            &[0],
+        ];
+        assert_eq!(answers.collect::<Vec<_>>(), expected);
+        let mut maps = lines.iter().filter_map(|line| match line {
+            Line::MapAfter(map) => Some(map),
+            _ => None,
+        });
+        let map = maps.next().expect("a finished fill");
+        assert_eq!((map.len(), map[7], map[11], map[64]), (MAP_BYTES, 5, 6, 0));
+        assert_eq!(maps.collect::<Vec<_>>(), [map]);
+        assert_eq!(replay(&Reference::plain(), &lines), Ok(9));
+    }
+
+    /// Answers as the reference and writes into the map all the same.
+    struct Careless;
+
+    impl Keeper for Careless {
+        fn open(&self, state: &mut [u8], settings: Settings, clock: u64, height: u32) -> u32 {
+            Reference::plain().open(state, settings, clock, height)
+        }
+
+        fn step(&self, state: &mut [u8], commands: &mut [u8], arguments: &Arguments) -> Answer {
+            Reference::plain().step(state, commands, arguments)
+        }
+
+        fn question(&self, state: &[u8], commands: &mut [u8], flag: u8) -> (u32, u32) {
+            Reference::plain().question(state, commands, flag)
+        }
+
+        fn map_call(&self, map: &mut [u8], call: &MapCall) -> u32 {
+            let number = Reference::plain().map_call(map, call);
+            map[300] = 1;
+            number
+        }
+
+        fn map_passable(&self, map: &[u8]) -> (u32, u32) {
+            Reference::plain().map_passable(map)
+        }
+    }
+
+    #[test]
+    fn a_refusal_that_writes_is_told() {
+        let refused = record(&Careless, &stream()[..3]);
+        assert_eq!(
+            refused,
+            Err("refused as 9, and the map is changed".to_string())
+        );
+        let finished = record(&Careless, &stream()[3..4]);
+        assert_eq!(
+            finished,
+            Err("a finished call left a malformed map".to_string())
+        );
+        let lines = record(&Reference::plain(), &stream()).expect("can be played");
+        assert!(told_apart(&Careless, &lines));
+    }
 }

@@ -12,17 +12,17 @@ const RECORD: usize = 54;
 const ID: usize = 32;
 const PEER: usize = 8;
 
-fn number(bytes: &[u8], at: usize, width: usize) -> u64 {
+pub(crate) fn number(bytes: &[u8], at: usize, width: usize) -> u64 {
     bytes[at..at + width]
         .iter()
         .fold(0, |number, byte| number << 8 | u64::from(*byte))
 }
 
-fn number32(bytes: &[u8], at: usize) -> u32 {
+pub(crate) fn number32(bytes: &[u8], at: usize) -> u32 {
     number(bytes, at, 4) as u32
 }
 
-fn zero(bytes: &[u8]) -> bool {
+pub(crate) fn zero(bytes: &[u8]) -> bool {
     bytes.iter().fold(0, |any, byte| any | byte) == 0
 }
 

@@ -1,4 +1,4 @@
-//! The lists and the view lent to a step: the tests of 6, 7 and 8, and reading them.
+//! The lists and the view lent to a call: the tests of 6, 7 and 8, and reading them.
 
 use keeper_values::numbers::limits;
 use keeper_values::{Arguments, Id, Place, Row};
@@ -112,23 +112,24 @@ impl<'a> Inputs<'a> {
         }
     }
 
-    /// The view's row for a height, if it has one.
     pub fn row(&self, height: u32) -> Option<Row> {
-        let (first, rows) = self.view.split_first_chunk::<4>()?;
-        let index = height.checked_sub(u32::from_be_bytes(*first))? as usize;
-        let row = rows.chunks_exact(ROW).nth(index)?;
-        if row[0] == ABSENT {
-            return Some(Row::Absent);
-        }
-        let places = row[1..].chunks_exact(PLACE).take(usize::from(row[0]));
-        Some(Row::Present(
-            places
-                .map(|place| Place {
-                    type_id: place[0],
-                    id: id(&place[1..33]),
-                    stored: place[33] == 1,
-                })
-                .collect(),
-        ))
+        row(self.view, height)
     }
+}
+
+/// The view's row for a height, if it has one.
+pub fn row(view: &[u8], height: u32) -> Option<Row> {
+    let (first, rows) = view.split_first_chunk::<4>()?;
+    let index = height.checked_sub(u32::from_be_bytes(*first))? as usize;
+    let row = rows.chunks_exact(ROW).nth(index)?;
+    if row[0] == ABSENT {
+        return Some(Row::Absent);
+    }
+    let places = row[1..].chunks_exact(PLACE).take(usize::from(row[0]));
+    let place = |place: &[u8]| Place {
+        type_id: place[0],
+        id: id(&place[1..33]),
+        stored: place[33] == 1,
+    };
+    Some(Row::Present(places.map(place).collect()))
 }

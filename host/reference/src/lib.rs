@@ -1,4 +1,5 @@
-//! The reference: document 01 and docs/LAYOUT.md read as plain Rust on bytes. Small and obvious rather than fast.
+//! The reference: document 01, F-1 of document 02 and docs/LAYOUT.md read as plain Rust on bytes. Small and obvious
+//! rather than fast.
 //!
 //! In the oracle's domain it equals the original Rust; outside, on any bytes, it is what a core is held against. Every
 //! decision is a field of [`Rules`], so that a faulty variant is the plain rules with one field replaced.
@@ -24,12 +25,13 @@ pub mod delivery;
 pub mod entries;
 pub mod image;
 pub mod inputs;
+pub mod map;
 pub mod rules;
 pub mod run;
 pub mod steps;
 pub mod sync;
 
-use keeper_values::{Answer, Arguments, Keeper, Settings};
+use keeper_values::{Answer, Arguments, Keeper, MapCall, Settings};
 pub use rules::{Rules, PLAIN};
 pub use run::{Refusal, Run};
 
@@ -57,5 +59,13 @@ impl Keeper for Reference {
 
     fn question(&self, state: &[u8], commands: &mut [u8], flag: u8) -> (u32, u32) {
         entries::question(&self.rules, state, commands, flag)
+    }
+
+    fn map_call(&self, map: &mut [u8], call: &MapCall) -> u32 {
+        map::call(&self.rules, map, call)
+    }
+
+    fn map_passable(&self, map: &[u8]) -> (u32, u32) {
+        map::passable(&self.rules, map)
     }
 }

@@ -1,13 +1,16 @@
-//! Every decision of the reference as a field. [`PLAIN`] is document 01; a variant is `Rules { one: .., ..PLAIN }`.
+//! Every decision of the reference as a field. [`PLAIN`] is document 01 with F-1; a variant is
+//! `Rules { one: .., ..PLAIN }`.
 
 use crate::delivery::{Check, Retry};
 use crate::entries::Before;
+use crate::map::{Cell, Map, Mapped};
 use crate::steps::Outcome;
 use crate::sync::Stored;
-use crate::{delivery, entries, image, inputs, steps, sync, Refusal, Run};
+use crate::{delivery, entries, image, inputs, map, steps, sync, Refusal, Run};
 use keeper_values::numbers::limits;
 use keeper_values::{Arguments, Id, Mode, Row, Settings, State};
 use std::collections::{BTreeMap, BTreeSet};
+use std::ops::RangeInclusive;
 
 macro_rules! rules {
     ($($module:ident { $($(#[$note:meta])* $rule:ident : $type:ty $(= $name:ident)?,)* })*) => {
@@ -33,6 +36,7 @@ type AreaTest = fn(&[u8]) -> bool;
 type ListTest = fn(&[u8]) -> bool;
 type Step = fn(&mut Run) -> Outcome;
 type Orphans = BTreeMap<u8, Vec<Id>>;
+type Heights = RangeInclusive<u64>;
 
 rules! {
     image {
@@ -123,5 +127,28 @@ rules! {
         section_tick: Step,
         send_failure: Step,
         end_of_stream: Step,
+    }
+    map {
+        map_length_fits: fn(usize) -> bool = length_fits,
+        map_mark_fits: AreaTest = mark_fits,
+        map_version_fits: AreaTest = version_fits,
+        map_unused_zero: AreaTest = unused_zero,
+        heights_fit: AreaTest,
+        absent_above: AreaTest,
+        marks_fit: fn(&Rules, &[u8]) -> bool,
+        read_map: fn(&Rules, &[u8]) -> Mapped = read,
+        cell_complete: fn(&Cell) -> bool,
+        cell: fn(&[u8], u32, u64) -> Cell,
+        view_shows: fn(&[u8], u32, Heights) -> bool,
+        filled: fn(&Rules, &[u8], u32, Heights) -> Result<Vec<Cell>, Refusal>,
+        fill: fn(&Rules, &[u8], u32, u32, &[u8]) -> Mapped,
+        in_window: fn(&Map, u32) -> bool,
+        place_fits: fn(&Cell, u8) -> bool,
+        set_place: fn(&mut Cell, u8, bool),
+        change: fn(&Rules, &[u8], u32, u8, bool) -> Mapped,
+        slide_fits: fn(&Map, u32) -> bool,
+        staying: fn(&Map, u32) -> Vec<Cell>,
+        slide: fn(&Rules, &[u8], u32, &[u8]) -> Mapped,
+        run_of_complete: fn(&Rules, &Map) -> u32,
     }
 }

@@ -3,6 +3,7 @@
 use keeper_reference::{image, Reference, PLAIN};
 use keeper_values::numbers::kinds;
 use keeper_values::{Arguments, Call, Keeper, Mode, Place, Request, Row, Settings, State, View};
+use keeper_values::{MapCall, MAP_BYTES};
 
 const SETTINGS: Settings = Settings {
     timeout: 10_000,
@@ -160,4 +161,39 @@ fn refusal_leaves_all() {
     assert_eq!(answer.numbers(), [5, 0, 0, 0, 0, 0, 0, 0, 0]);
     assert_eq!(state, opened());
     assert_eq!(commands, vec![0x5a; 65_536]);
+}
+
+#[test]
+fn map_of_the_window() {
+    let place = |id: u8, stored| Place {
+        type_id: 102,
+        id: [id; 32],
+        stored,
+    };
+    let view = View {
+        first: 401,
+        rows: vec![
+            Row::Present(vec![place(1, true), place(2, true)]),
+            Row::Present(vec![place(3, false)]),
+        ],
+    };
+    // A whole fill takes any 512 bytes.
+    let mut map = vec![0x5a; MAP_BYTES];
+    let fill = MapCall::Fill {
+        downloaded: 400,
+        chain: 402,
+        view: view.to_bytes(),
+    };
+    assert_eq!(Reference::plain().map_call(&mut map, &fill), 0);
+    let mut expected = bytes(
+        "45 44 4d 01 00 00 01 90  00 00 01 92 00 00 00 00
+         00 00 00 00 00 00 00 01  00 00 00 00 00 00 00 00
+         00 00 00 00 00 00 00 00  00 00 00 00 00 00 00 00",
+    );
+    expected.resize(0x40, 0);
+    expected.extend([0x23, 0x10]);
+    expected.resize(0x100, 0x80);
+    expected.resize(MAP_BYTES, 0);
+    assert_eq!(map, expected);
+    assert_eq!(Reference::plain().map_passable(&map), (0, 1));
 }

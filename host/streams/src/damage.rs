@@ -200,7 +200,7 @@ fn peers(rng: &mut Rng, list: &mut Vec<u8>) {
     length(rng, list, 8, 128);
 }
 
-fn view(rng: &mut Rng, view: &mut Vec<u8>) {
+pub(crate) fn view(rng: &mut Rng, view: &mut Vec<u8>) {
     let rows = view.len().saturating_sub(4) / 103;
     let row = 4 + 103 * rng.index(rows.max(1));
     match rng.below(8) {

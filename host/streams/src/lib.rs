@@ -6,6 +6,7 @@ pub mod damage;
 pub mod directed;
 pub mod exhaustive;
 pub mod hostile;
+pub mod maps;
 pub mod noise;
 pub mod random;
 pub mod rng;

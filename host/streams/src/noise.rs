@@ -12,7 +12,7 @@ pub fn bytes(rng: &mut Rng, length: usize) -> Vec<u8> {
 }
 
 /// A number of 32 bits, often a small one or one at the top.
-fn number(rng: &mut Rng) -> u32 {
+pub(crate) fn number(rng: &mut Rng) -> u32 {
     let any = rng.draw() as u32;
     match rng.below(4) {
         0 => any % 300,

@@ -1,7 +1,7 @@
 //! The text form of a stream, one line a call and its answer below (`fixed/README.md` says it for a reader).
 
 use crate::damage::Damaged;
-use keeper_values::{Answer, Arguments, Command, Id, Mode, Request, Settings, State};
+use keeper_values::{Answer, Arguments, Command, Id, MapCall, Mode, Request, Settings, State};
 use keeper_values::{COMMAND_BYTES, STATE_BYTES};
 
 /// One line.
@@ -20,12 +20,22 @@ pub enum Line {
     Poke(usize, Vec<u8>),
     Step(Box<Arguments>, Vec<usize>),
     Ask(u8),
+    /// The stream's map is these bytes.
+    Map(Vec<u8>),
+    MapCall(MapCall),
+    /// How many heights of the map can be passed.
+    Passable,
     Answer(Vec<u32>),
     Command(Command),
     Pairs(Vec<u8>),
     /// The settings are not said again: those given are zero.
     State(Box<State>),
+    /// The map's bytes after a finished call.
+    MapAfter(Vec<u8>),
 }
+
+/// The line that is one word.
+const PASSABLE: &str = "passable";
 
 /// Lower-case hex; `-` for no bytes.
 pub fn hex(bytes: &[u8]) -> String {
@@ -125,6 +135,9 @@ impl Line {
             Line::Poke(offset, bytes) => format!("poke {offset} {}", hex(bytes)),
             Line::Step(call, fails) => write_step(call, fails),
             Line::Ask(flag) => format!("ask {flag}"),
+            Line::Map(bytes) => format!("map {}", hex(bytes)),
+            Line::MapCall(call) => write_map_call(call),
+            Line::Passable => PASSABLE.to_string(),
             Line::Answer(numbers) => {
                 let words: Vec<String> = numbers.iter().map(u32::to_string).collect();
                 format!("= {}", words.join(" "))
@@ -140,10 +153,14 @@ impl Line {
             ),
             Line::Pairs(bytes) => format!("? {}", hex(bytes)),
             Line::State(state) => format!(". {}", fields(state)),
+            Line::MapAfter(bytes) => format!("% {}", hex(bytes)),
         }
     }
 
     pub fn read(line: &str) -> Option<Self> {
+        if line == PASSABLE {
+            return Some(Line::Passable);
+        }
         let (head, rest) = line.split_once(' ')?;
         let mut words = Words(rest.split(' '));
         let read = match head {
@@ -164,6 +181,24 @@ impl Line {
             "poke" => Line::Poke(words.number()?, words.bytes()?),
             "step" => words.step()?,
             "ask" => Line::Ask(words.number()?),
+            "map" => Line::Map(words.bytes()?),
+            "fill" => Line::MapCall(MapCall::Fill {
+                downloaded: words.number()?,
+                chain: words.number()?,
+                view: words.bytes()?,
+            }),
+            "arrived" => Line::MapCall(MapCall::Arrived {
+                height: words.number()?,
+                place: words.number()?,
+            }),
+            "pruned" => Line::MapCall(MapCall::Pruned {
+                height: words.number()?,
+                place: words.number()?,
+            }),
+            "slide" => Line::MapCall(MapCall::Slide {
+                downloaded: words.number()?,
+                view: words.bytes()?,
+            }),
             "=" => Line::Answer(
                 words
                     .0
@@ -182,9 +217,25 @@ impl Line {
                 };
                 Line::State(Box::new(words.state(zero)?))
             }
+            "%" => Line::MapAfter(words.bytes()?),
             _ => return None,
         };
         words.0.next().is_none().then_some(read)
+    }
+}
+
+fn write_map_call(call: &MapCall) -> String {
+    let name = call.name();
+    match call {
+        MapCall::Fill {
+            downloaded,
+            chain,
+            view,
+        } => format!("{name} {downloaded} {chain} {}", hex(view)),
+        MapCall::Arrived { height, place } | MapCall::Pruned { height, place } => {
+            format!("{name} {height} {place}")
+        }
+        MapCall::Slide { downloaded, view } => format!("{name} {downloaded} {}", hex(view)),
     }
 }
 
@@ -323,5 +374,59 @@ impl Words<'_> {
             ids,
         };
         (command.ids.len() == count).then_some(Line::Command(command))
+    }
+}
+
+#[cfg(test)]
+mod tests {
+    use super::*;
+
+    fn written(text: &str, line: Line) {
+        assert_eq!(line.write(), text);
+        assert_eq!(Line::read(text), Some(line));
+    }
+
+    #[test]
+    fn map_lines() {
+        written("map -", Line::Map(Vec::new()));
+        written("map 45444d", Line::Map(b"EDM".to_vec()));
+        written("passable", Line::Passable);
+        written("% 01ff", Line::MapAfter(vec![1, 255]));
+        let fill = MapCall::Fill {
+            downloaded: 400,
+            chain: 402,
+            view: vec![0, 0, 1, 0x91],
+        };
+        written("fill 400 402 00000191", Line::MapCall(fill));
+        let (height, place) = (u32::MAX, 255);
+        let arrived = MapCall::Arrived { height, place };
+        written("arrived 4294967295 255", Line::MapCall(arrived));
+        let (height, place) = (0, 2);
+        let pruned = MapCall::Pruned { height, place };
+        written("pruned 0 2", Line::MapCall(pruned));
+        let slide = MapCall::Slide {
+            downloaded: 7,
+            view: Vec::new(),
+        };
+        written("slide 7 -", Line::MapCall(slide));
+    }
+
+    #[test]
+    fn no_map_lines() {
+        for text in [
+            "map",
+            "map 0",
+            "passable ",
+            "passable 1",
+            "fill 1 2",
+            "fill 1 2 - -",
+            "arrived 1",
+            "arrived 4294967296 0",
+            "pruned 1 256",
+            "slide 1",
+            "%",
+        ] {
+            assert_eq!(Line::read(text), None, "{text}");
+        }
     }
 }

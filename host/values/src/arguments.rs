@@ -1,4 +1,4 @@
-use crate::Settings;
+use crate::{MapCall, Settings};
 
 /// Length of the state area.
 pub const STATE_BYTES: usize = 65_536;
@@ -80,8 +80,8 @@ impl Answer {
     }
 }
 
-/// The three entries on areas of any length and content. The reference, its faulty variants and any core that is to be
-/// held against them are keepers.
+/// The entries on areas of any length and content: three of a core, and those of F-1's map. The reference, its faulty
+/// variants and any core that is to be held against them are keepers.
 pub trait Keeper {
     fn open(&self, state: &mut [u8], settings: Settings, clock: u64, height: u32) -> u32;
 
@@ -89,4 +89,10 @@ pub trait Keeper {
 
     /// The number and the length.
     fn question(&self, state: &[u8], commands: &mut [u8], flag: u8) -> (u32, u32);
+
+    /// The number of a call that writes the map.
+    fn map_call(&self, map: &mut [u8], call: &MapCall) -> u32;
+
+    /// The number, and how many heights can be passed.
+    fn map_passable(&self, map: &[u8]) -> (u32, u32);
 }

@@ -4,10 +4,12 @@
 mod arguments;
 mod call;
 mod command;
+mod map;
 pub mod numbers;
 mod state;
 
 pub use arguments::{Answer, Arguments, Keeper, COMMAND_BYTES, STATE_BYTES};
 pub use call::{Call, Place, Row, View};
 pub use command::{read_commands, Command};
+pub use map::{MapCall, MAP_BYTES};
 pub use state::{Id, Mode, Request, Settings, State};

@@ -7,6 +7,7 @@ mod control;
 mod delivery;
 mod heights;
 mod losses;
+mod maps;
 mod messages;
 mod requests;
 mod results;
@@ -15,10 +16,13 @@ mod ticks;
 
 use keeper_reference::{Reference, Rules};
 
+/// The place of the map's variants.
+pub const MAP: &str = "F-1";
+
 /// A keeper with one fault.
 #[derive(Clone, Copy)]
 pub struct Variant {
-    /// Where document 01 states what is broken.
+    /// Where document 01 or 02 states what is broken.
     pub place: &'static str,
     /// What it does instead.
     pub fault: &'static str,
@@ -33,7 +37,7 @@ fn variant(place: &'static str, fault: &'static str, rules: Rules) -> Variant {
     }
 }
 
-/// All variants, in document 01's order.
+/// All variants, in document 01's order; then those of document 02.
 pub fn all() -> Vec<Variant> {
     [
         delivery::variants(),
@@ -47,6 +51,7 @@ pub fn all() -> Vec<Variant> {
         areas::variants(),
         calls::variants(),
         results::variants(),
+        maps::variants(),
     ]
     .concat()
 }
