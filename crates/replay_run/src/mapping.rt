@@ -42,13 +42,7 @@ fn run(kind: u8, map: &mut [u8], numbers: &[u64; 17], view: &[u8]) -> [u64; 9] {
 }
 
 // On the first bytes of the map.
-fn run_within(
-    kind: u8,
-    map: &mut [u8],
-    long: usize,
-    numbers: &[u64; 17],
-    view: &[u8],
-) -> [u64; 9]
+fn run_within(kind: u8, map: &mut [u8], long: usize, numbers: &[u64; 17], view: &[u8]) -> [u64; 9]
     requires { ⌜ long ≤ length (now map) ⌝ }
 {
     run(kind, &mut map[..long], numbers, view)
