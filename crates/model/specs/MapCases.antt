@@ -15,11 +15,14 @@ use Rattle.model.specs.MapRuns.{MapCall, fill, change, slide, mapCalled}
 pub data Case : Type 0 where
   -- on so many zero bytes, one call after another
   calls : ℕ → List MapCall → Case
+  -- on a map written out by hand
+  callsOn : List ℕ → List MapCall → Case
   -- filled behind height 0 from a view where all heights but one are complete, slid to a height with another such view: chain height, that
   -- height, the other view's; the run of complete heights, and the same by the three words
   slidTo : ℕ → ℕ → ℕ → ℕ → Case
-  -- on 512 bytes of 255, one call after another; then so many bytes from an offset on
+  -- on 512 bytes of 255, or on a map written out by hand, one call after another; then so many bytes from an offset on
   bytes : List MapCall → ℕ → ℕ → Case
+  bytesOn : List ℕ → List MapCall → ℕ → ℕ → Case
   -- filled, then this one byte put at an offset: the number of a change of height 2 at place 0, then of a slide by 0, then passable
   spoilt : MapCall → ℕ → ℕ → Case
 
@@ -53,9 +56,31 @@ saidOf area =
 
 unfoldable pub found : Case → List (List ℕ)
 found (calls size list) = answersFrom (replicate size 0) list
+found (callsOn area list) = answersFrom area list
 found (slidTo chainHeight first downloaded second) = bothRuns (slid (filled 0 chainHeight (allBut first)) downloaded (allBut second) .cells)
 found (bytes list at many) = take many (drop at (areaAfter (replicate 512 255) list)) ∷ []
+found (bytesOn area list at many) = take many (drop at (areaAfter area list)) ∷ []
 found (spoilt call at byte) = saidOf (set (mapCalled (replicate 512 0) call .map) at byte)
+
+-- ---- maps
+
+-- downloaded height 0: chain height, the three words' bytes, the heights' bytes
+abbrev pub byHand : ℕ → List ℕ → List ℕ → List ℕ
+byHand chainHeight words heights =
+    69 ∷ 68 ∷ 77 ∷ 1 ∷ replicate 4 0 ++ (toBe 4 chainHeight ++ (replicate 4 0 ++ (words ++ (replicate 24 0 ++ (heights ++ replicate 256 0)))))
+
+-- heights 1 and 192 lack their one section, the others have none
+abbrev pub endsMissing : List ℕ
+endsMissing = byHand 193 (replicate 7 255 ++ (254 ∷ replicate 8 255 ++ (127 ∷ replicate 7 255))) (16 ∷ replicate 190 0 ++ (16 ∷ []))
+
+-- heights 1 to 67, of which 65 lacks its one section and the others have none
+abbrev pub wordAndMore : List ℕ
+wordAndMore = byHand 67 (replicate 8 255 ++ (replicate 7 0 ++ (6 ∷ replicate 8 0))) (replicate 64 0 ++ (16 ∷ 0 ∷ 0 ∷ replicate 125 128))
+
+-- heights 1 to 130 without sections, but 64 and 128 with one, the second's stored, and 130 with an absent header
+abbrev pub threeWords : List ℕ
+threeWords =
+    byHand 130 (127 ∷ replicate 15 255 ++ (replicate 7 0 ++ (1 ∷ []))) (replicate 63 0 ++ (16 ∷ replicate 63 0 ++ (17 ∷ 0 ∷ replicate 63 128)))
 
 -- ---- views
 
@@ -123,9 +148,8 @@ arrivals =
 -- both ends of the window, with a section at each: 1 to 192, then 2 to 193; what a slide lacks, and 12 before 8 before 9
 abbrev pub edges : List (Entry Case)
 edges =
-    (calls 512 (
-    fill 0 193 (viewFrom 1 (single 0 ++ (bares 190 ++ (single 0 ++ single 0))))
-    ∷ change true 0 0
+    (callsOn endsMissing (
+    change true 0 0
     ∷ change true 1 0
     ∷ change true 193 0
     ∷ change true 192 0
@@ -137,8 +161,7 @@ edges =
     ∷ change true 193 0
     ∷ []
     ) gives
-    finished 0
-    ∷ refused 12 0
+    refused 12 0
     ∷ finished 191
     ∷ refused 12 191
     ∷ finished 192
@@ -163,8 +186,7 @@ slides =
 
 -- a full word goes on into the next
 abbrev pub windows : List (Entry Case)
-windows =
-    (calls 512 (fill 0 67 (viewFrom 1 (bares 64 ++ (single 0 ++ bares 2))) ∷ change true 65 0 ∷ []) gives finished 64 ∷ finished 67 ∷ []) ∷ []
+windows = (callsOn wordAndMore (slide 0 empty ∷ change true 65 0 ∷ []) gives finished 64 ∷ finished 67 ∷ []) ∷ []
 
 abbrev pub both : ℕ → List (List ℕ)
 both heights = (heights ∷ heights ∷ []) ∷ []
@@ -213,22 +235,20 @@ fills =
 abbrev pub page : MapCall
 page = fill 400 402 (viewFrom 401 (double 1 1 ++ single 0))
 
--- heights 1 to 131 without sections, but 64 and 128 with one, the second's stored, and 130 with an absent header; 131 is above the chain
-abbrev pub words : MapCall
-words = fill 0 130 (viewFrom 1 (bares 63 ++ (single 0 ++ (bares 63 ++ (single 1 ++ (bares 1 ++ (headless ++ bares 1)))))))
-
 abbrev pub written : List (Entry Case)
 written =
     (bytes (page ∷ []) 0 16 gives (69 ∷ 68 ∷ 77 ∷ 1 ∷ 0 ∷ 0 ∷ 1 ∷ 144 ∷ 0 ∷ 0 ∷ 1 ∷ 146 ∷ 0 ∷ 0 ∷ 0 ∷ 0 ∷ []) ∷ [])
     ∷ (bytes (page ∷ []) 16 48 gives (replicate 7 0 ++ (1 ∷ replicate 40 0)) ∷ [])
     ∷ (bytes (page ∷ []) 64 192 gives (35 ∷ 16 ∷ replicate 190 128) ∷ [])
     ∷ (bytes (page ∷ []) 256 300 gives replicate 256 0 ∷ [])
+    -- a row above the chain height is not looked at
+    ∷ (bytes (fill 0 1 (viewFrom 1 (bare ++ bare)) ∷ []) 64 2 gives (0 ∷ 128 ∷ []) ∷ [])
     -- the lowest height is the lowest bit of the first word's last byte
-    ∷ (bytes (words ∷ []) 16 24 gives (127 ∷ replicate 15 255 ++ (replicate 7 0 ++ (1 ∷ []))) ∷ [])
-    ∷ (bytes (words ∷ []) 126 6 gives (0 ∷ 16 ∷ 0 ∷ 0 ∷ 0 ∷ 0 ∷ []) ∷ [])
-    ∷ (bytes (words ∷ []) 190 6 gives (0 ∷ 17 ∷ 0 ∷ 128 ∷ 128 ∷ 128 ∷ []) ∷ [])
+    ∷ (bytesOn threeWords (slide 1 empty ∷ []) 16 180 gives
+    (191 ∷ replicate 15 255 ++ (replicate 32 0 ++ (replicate 62 0 ++ (16 ∷ replicate 63 0 ++ (17 ∷ 0 ∷ replicate 4 128))))) ∷ [])
     -- a change: one bit of one byte, and its mark
-    ∷ (bytes (words ∷ change true 64 0 ∷ change false 128 0 ∷ []) 16 24 gives (replicate 8 255 ++ (127 ∷ replicate 7 255 ++ (replicate 7 0 ++ (1 ∷ [])))) ∷ [])
+    ∷ (bytesOn threeWords (change true 64 0 ∷ change false 128 0 ∷ []) 16 24 gives
+    (replicate 8 255 ++ (127 ∷ replicate 7 255 ++ (replicate 7 0 ++ (1 ∷ [])))) ∷ [])
     ∷ (bytes (fill 7 8 (viewFrom 8 (triple 0 1 0)) ∷ []) 64 1 gives (50 ∷ []) ∷ [])
     ∷ (bytes (fill 7 8 (viewFrom 8 (triple 0 1 0)) ∷ change true 8 2 ∷ []) 64 1 gives (54 ∷ []) ∷ [])
     ∷ (bytes (fill 7 8 (viewFrom 8 (triple 1 1 1)) ∷ change false 8 1 ∷ []) 64 2 gives (53 ∷ 128 ∷ []) ∷ [])
