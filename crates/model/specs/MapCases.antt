@@ -1,5 +1,5 @@
 -- F-1 in tables: calls of the map one after another, and each one's number with the heights that can then be passed.
-use Prim.Native.Nat.{ℕ, _*_}
+use Prim.Native.Nat.{ℕ}
 use mathlib.Core.Bool.{true, false, cond}
 use mathlib.Core.Option.{some}
 use mathlib.Core.List.{List, [], _∷_, _++_}
@@ -111,10 +111,6 @@ viewFrom height rows = toBe 4 height ++ rows
 -- without rows
 abbrev pub empty : List ℕ
 empty = viewFrom 0 []
-
--- so many heights without sections
-abbrev pub bares : ℕ → List ℕ
-bares n = replicate (n * 103) 0
 
 -- heights 1 to 3: no sections, one section, an absent header
 abbrev pub three : List ℕ
