@@ -18,7 +18,9 @@ use Rattle.model.specs.Sections as sections
 use Rattle.model.specs.Lists.{viewOf, viewFits}
 use Rattle.model.specs.Calls.{unless}
 use Rattle.model.specs.Layout.{mapSize}
-use Rattle.model.specs.WindowMap.{Cell, absent, present, Map, encodeMap, decodeMap, isAbsent, absentAbove, cellIn, cellAt, cellsBehind, shows, filled, withFlag, places, cellHere, inWindow, changed, newHeights, newBehind, slid, Mapped, mapped, mapFits, fillRefusal, mapFill, changeRefusal, mapChange, slideRefusal, mapSlide}
+use Rattle.model.specs.WindowMap.{Cell, absent, present, Map, encodeMap, decodeMap, isAbsent, absentAbove, cellIn, cellAt, cellsBehind, shows, filled}
+use Rattle.model.specs.WindowMap.{withFlag, places, cellHere, inWindow, changed, newHeights, newBehind, slid}
+use Rattle.model.specs.WindowMap.{Mapped, mapped, mapFits, fillRefusal, mapFill, changeRefusal, mapChange, slideRefusal, mapSlide}
 use Rattle.model.proofs.FinishedLaws.{held}
 use Rattle.model.proofs.Widths.{IfSome, WellHeader, WellView}
 use Rattle.model.proofs.ArgumentLaws.{view-well}

@@ -5,6 +5,15 @@ use crate::Variant;
 use keeper_reference::{map, Refusal, Rules, PLAIN};
 use keeper_values::MAP_BYTES;
 
+/// The test of the heights' bytes with each taken for another one.
+fn heights_fit_as(area: &[u8], taken: fn(u8) -> u8) -> bool {
+    let mut area = area.to_vec();
+    for byte in &mut area[64..256] {
+        *byte = taken(*byte);
+    }
+    map::heights_fit(&area)
+}
+
 pub fn variants() -> Vec<Variant> {
     vec![
         f1(
@@ -58,13 +67,7 @@ pub fn variants() -> Vec<Variant> {
         f1(
             "bytes above 128 are let through as heights",
             Rules {
-                heights_fit: |area| {
-                    let mut area = area.to_vec();
-                    for byte in &mut area[64..256] {
-                        *byte = (*byte).min(128);
-                    }
-                    map::heights_fit(&area)
-                },
+                heights_fit: |area| heights_fit_as(area, |byte| byte.min(128)),
                 ..PLAIN
             },
         ),
@@ -72,11 +75,8 @@ pub fn variants() -> Vec<Variant> {
             "heights of four sections or more are let through",
             Rules {
                 heights_fit: |area| {
-                    let mut area = area.to_vec();
-                    for byte in &mut area[64..256] {
-                        *byte = if (64..128).contains(byte) { 128 } else { *byte };
-                    }
-                    map::heights_fit(&area)
+                    let absent = |byte| if (64..128).contains(&byte) { 128 } else { byte };
+                    heights_fit_as(area, absent)
                 },
                 ..PLAIN
             },
