@@ -18,7 +18,7 @@ use Rattle.model.specs.Delivery as delivery
 use Rattle.model.specs.Delivery.{Request, verdict, idsOf, judged}
 use Rattle.model.specs.State.{modeNumber, State, opened}
 use Rattle.model.specs.Sections.{Item, itemBelow}
-use Rattle.model.specs.Check.{retryOf, retries, markAllRetried, retrySendings}
+use Rattle.model.specs.Check.{retryTarget, retryOf, retries, markAllRetried, retrySendings}
 use Rattle.model.specs.Events.{outcomeNumber}
 use Rattle.model.specs.Steps.{Args, ofMode, plan, remaining, retried, performed, after, commands}
 use Rattle.model.specs.Lists.{idsIn}
@@ -102,31 +102,31 @@ module _ (settings : Settings) (clock : ℕ) (check : Bool) (fate : Request → 
         count = let n = ended-count check clock fate stays ended in omega arith;
       }
 
-  abbrev again : List ℕ → List Item
-  again peers = map (retryOf peers) (restarting fate (openRequests stays))
+  abbrev again : (ℕ → ℕ) → List Item
+  again target = map (retryOf target) (restarting fate (openRequests stays))
 
-  again-ids : (peers : List ℕ) → itemIds (again peers) ≡ idsOf (restarting fate (openRequests stays))
+  again-ids : (target : ℕ → ℕ) → itemIds (again target) ≡ idsOf (restarting fate (openRequests stays))
   unfolding retryOf
-  again-ids peers = map-map (λ (i : Item). i .id) (retryOf peers) (restarting fate (openRequests stays))
+  again-ids target = map-map (λ (i : Item). i .id) (retryOf target) (restarting fate (openRequests stays))
 
-  again-agrees : (peers : List ℕ) → Distinct (openIds stays) → All (Good settings) stays → Sound settings gone first
-      → Agrees settings gone (markAllRetried (again peers) (openRequests (first .open'))) (enterAll clock (map requestedItem (sorted itemBelow (again peers))) first)
+  again-agrees : (target : ℕ → ℕ) → Distinct (openIds stays) → All (Good settings) stays → Sound settings gone first
+      → Agrees settings gone (markAllRetried (again target) (openRequests (first .open'))) (enterAll clock (map requestedItem (sorted itemBelow (again target))) first)
   unfolding first
-  again-agrees peers d g h =
+  again-agrees target d g h =
       let opens : List Id = openIds (stillOpen check clock fate stays) in
-      let e : itemIds (again peers) ≡ idsOf (restarting fate (openRequests stays)) = again-ids peers in
-      let once : Distinct (itemIds (again peers)) = rw e (distinct-kept (λ (r : Request). r .id) (λ (r : Request). isRestart (fate r)) (openRequests stays) (rw (open-ids stays) d)) in
-      let inside : All (λ (id : Id). isAmong id opens ≡ true) (itemIds (again peers)) = rw e (restarting-open check clock fate stays) in
-      agrees-as settings gone (markAllRetried (again peers) (openRequests (first .open'))) (markAllRetried (sorted itemBelow (again peers)) (openRequests (first .open')))
-      (enterAll clock (map requestedItem (sorted itemBelow (again peers))) first) (enterAll clock (map requestedItem (sorted itemBelow (again peers))) first)
-      (sym (marks-sorted itemBelow (again peers) (openRequests (first .open')) once)) refl
-      (retries-agree settings gone clock (sorted itemBelow (again peers)) first
-      (distinct-sorted (λ (i : Item). i .id) itemBelow (again peers) once)
-      (all-map (λ (i : Item). isAmong (i .id) opens ≡ true) (λ (id : Id). isAmong id opens ≡ true) (λ (i : Item). i .id) (λ i p. p) (sorted itemBelow (again peers))
-      (all-sorted itemBelow (λ (i : Item). isAmong (i .id) opens ≡ true) (again peers) (map-all (λ (id : Id). isAmong id opens ≡ true) (λ (i : Item). i .id) (again peers) inside)))
-      (none-among-nil (itemIds (sorted itemBelow (again peers))))
-      (all-weaker (Room (idsOf (restarting fate (openRequests stays)))) (Room (itemIds (sorted itemBelow (again peers))))
-      (λ s room m. room (ap (isAmong (s .request .id)) (sym e) ∙ sym (among-sorted (λ (i : Item). i .id) itemBelow (s .request .id) (again peers)) ∙ m))
+      let e : itemIds (again target) ≡ idsOf (restarting fate (openRequests stays)) = again-ids target in
+      let once : Distinct (itemIds (again target)) = rw e (distinct-kept (λ (r : Request). r .id) (λ (r : Request). isRestart (fate r)) (openRequests stays) (rw (open-ids stays) d)) in
+      let inside : All (λ (id : Id). isAmong id opens ≡ true) (itemIds (again target)) = rw e (restarting-open check clock fate stays) in
+      agrees-as settings gone (markAllRetried (again target) (openRequests (first .open'))) (markAllRetried (sorted itemBelow (again target)) (openRequests (first .open')))
+      (enterAll clock (map requestedItem (sorted itemBelow (again target))) first) (enterAll clock (map requestedItem (sorted itemBelow (again target))) first)
+      (sym (marks-sorted itemBelow (again target) (openRequests (first .open')) once)) refl
+      (retries-agree settings gone clock (sorted itemBelow (again target)) first
+      (distinct-sorted (λ (i : Item). i .id) itemBelow (again target) once)
+      (all-map (λ (i : Item). isAmong (i .id) opens ≡ true) (λ (id : Id). isAmong id opens ≡ true) (λ (i : Item). i .id) (λ i p. p) (sorted itemBelow (again target))
+      (all-sorted itemBelow (λ (i : Item). isAmong (i .id) opens ≡ true) (again target) (map-all (λ (id : Id). isAmong id opens ≡ true) (λ (i : Item). i .id) (again target) inside)))
+      (none-among-nil (itemIds (sorted itemBelow (again target))))
+      (all-weaker (Room (idsOf (restarting fate (openRequests stays)))) (Room (itemIds (sorted itemBelow (again target))))
+      (λ s room m. room (ap (isAmong (s .request .id)) (sym e) ∙ sym (among-sorted (λ (i : Item). i .id) itemBelow (s .request .id) (again target)) ∙ m))
       (first .open') (restarting-room settings check clock fate stays g d))
       h)
 
@@ -169,13 +169,13 @@ module _ (st : State) (call : Call) (b : Book) (h : Agreement st b) (passes : Pa
   -- ---- the retries
 
   abbrev askedAgain : List Item
-  askedAgain = map (retryOf (a .peers)) (restarting fates (openRequests (b .open')))
+  askedAgain = map (retryOf (retryTarget (st .sync .stalledPeers) (a .peers))) (restarting fates (openRequests (b .open')))
 
   retried-checked : eqb (call .kind) 12 ≡ true → retried st a ≡ cond (a .gate) askedAgain []
   unfolding retried retries argsOf
   retried-checked e =
       rw (← check-of-kind call (known .0) (known .1), e)
-      (ap (λ (l : List Request). cond (a .gate) (map (retryOf (a .peers)) l) [])
+      (ap (λ (l : List Request). cond (a .gate) (map (retryOf (retryTarget (st .sync .stalledPeers) (a .peers))) l) [])
       (ap (judged (st .settings) (call .clock) delivery.retried) (h .pending) ∙ restarting-judged (st .settings) (call .clock) fates (judges .checked e) (openRequests (b .open'))))
 
   retried-none : eqb (call .kind) 12 ≡ false → retried st a ≡ []
@@ -190,7 +190,7 @@ module _ (st : State) (call : Call) (b : Book) (h : Agreement st b) (passes : Pa
 
   again-agree : (gate : Bool) → ItemsAgree (cond gate askedAgain [])
   again-agree true =
-      again-agrees (st .settings) (call .clock) (eqb (call .kind) 12) fates (b .open') (b .ended) (b .entries) (a .peers) (h .distinct) (h .good) begun-sound
+      again-agrees (st .settings) (call .clock) (eqb (call .kind) 12) fates (b .open') (b .ended) (b .entries) (retryTarget (st .sync .stalledPeers) (a .peers)) (h .distinct) (h .good) begun-sound
   again-agree false = none-agree
 
   retried-agree : (check : Bool) → eqb (call .kind) 12 ≡ check → ItemsAgree (retried st a)

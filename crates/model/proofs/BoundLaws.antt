@@ -21,7 +21,7 @@ use Rattle.model.specs.Peers.{firstOf, selectPeer}
 use Rattle.model.specs.Requests.{Pair, Sending, Act, ask, send, syncInfoTo}
 use Rattle.model.specs.Requests as requests
 use Rattle.model.specs.Sections.{View, Item, Batch, batchesOf, windowWithin, requestSectionsFrom, requestNextSections}
-use Rattle.model.specs.Check.{retryOf, retries, markAllRetried, retrySendings, askFresh}
+use Rattle.model.specs.Check.{retryTarget, retryOf, retries, markAllRetried, retrySendings, askFresh}
 use Rattle.model.specs.Events.{Outcome, Continue, Synced, BehindPeer, SyncPeerGone, Stalled, EndOfStream, tipOutcome, raisedTip, notAbove, announce}
 use Rattle.model.specs.Events.{continuation}
 use Rattle.model.specs.Steps
@@ -172,14 +172,14 @@ module _ (st : State) (a : Args) (tracked : length (st .pending) + length (st .s
   requests-weight height = let w = window-weight (advanceFrom st a height .height) in omega arith
 
   -- a check asks again for some of the pending and for all of the evicted
-  retries-few : length (retries (a .gate) (st .settings) (a .clock) (a .peers) (st .pending)) ≤ length (st .pending)
+  retries-few : length (retries (a .gate) (st .settings) (a .clock) (retryTarget (st .sync .stalledPeers) (a .peers)) (st .pending)) ≤ length (st .pending)
   unfolding retries judged
   retries-few = go (a .gate)
     where
-      go : (t : Bool) → length (cond t (map (retryOf (a .peers)) (judged (st .settings) (a .clock) delivery.retried (st .pending))) []) ≤ length (st .pending)
+      go : (t : Bool) → length (cond t (map (retryOf (retryTarget (st .sync .stalledPeers) (a .peers))) (judged (st .settings) (a .clock) delivery.retried (st .pending))) []) ≤ length (st .pending)
       go true =
           let few = length-kept (λ (r : Request). eqb (verdictNumber (verdict (st .settings) (a .clock) r)) (verdictNumber delivery.retried)) (st .pending) in
-          let same = length-map (judged (st .settings) (a .clock) delivery.retried (st .pending)) (retryOf (a .peers)) in
+          let same = length-map (judged (st .settings) (a .clock) delivery.retried (st .pending)) (retryOf (retryTarget (st .sync .stalledPeers) (a .peers))) in
           omega arith
       go false = omega arith
 
@@ -188,7 +188,7 @@ module _ (st : State) (a : Args) (tracked : length (st .pending) + length (st .s
   checks-weight also = fresh-weight (firstOf (a .peers)) (a .stored) (st .sync .evicted)
 
   plan-of-weight : (step : Step) → WellStep step
-      → 48 * length (cond (isCheck step) (retries (a .gate) (st .settings) (a .clock) (a .peers) (st .pending)) []) + total actWeight (planOf st a step .acts) ≤ mostBytes
+      → 48 * length (cond (isCheck step) (retries (a .gate) (st .settings) (a .clock) (retryTarget (st .sync .stalledPeers) (a .peers)) (st .pending)) []) + total actWeight (planOf st a step .acts) ≤ mostBytes
   unfolding planOf advances leaves continues evicts
   plan-of-weight Steps.start w = omega arith
   plan-of-weight Steps.pick w = let l = picks-weight (selectPeer (st .sync .stalledPeers) (a .peers)) in omega arith

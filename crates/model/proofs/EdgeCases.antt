@@ -20,7 +20,7 @@ use Rattle.model.specs.Calls as calls
 use Rattle.model.specs.Cases as starred
 use Rattle.model.specs.CaseTables.{Hold, allAsExpected}
 use Rattle.model.specs.EdgeCases.{found, refusals, callsRead, picksAndSends, announcedIds, windows, viewReaders, advances}
-use Rattle.model.specs.EdgeCases.{deliveryChecks, messages, modeSteps}
+use Rattle.model.specs.EdgeCases.{deliveryChecks, retryTargets, messages, modeSteps}
 use Rattle.model.proofs.CaseTables.{each}
 
 -- Every definition that a case computes with, opened by one name.
@@ -30,11 +30,12 @@ unfolding found starred.found before same entry rising protocol.isTransaction pr
     delivery.evictedAfterEviction delivery.purgePeer delivery.orphansOf delivery.purgeAll delivery.verdict delivery.restarted delivery.judged
     state.opened peers.firstUnstalled peers.selectPeer peers.stalledAfterSelect peers.joinStalled peers.sendSyncInfo peers.resetSends requests.isStored
     requests.runs requests.syncInfoTo requests.wanted sections.advanceDownloadedHeight sections.itemBelow sections.batchesOf
-    sections.requestSectionsFrom sections.requestNextSections check.retryTarget check.retryOf check.retries check.retrySendings events.tipOutcome
-    events.raisedTip events.continuation steps.ofMode steps.unmarked steps.withoutPeer steps.sent steps.sayTo steps.advanceFrom steps.sectionsFrom
-    steps.continues steps.leaves steps.advances steps.advancesAndRequests steps.entersSyncing steps.picks steps.isAtTip steps.answers
-    steps.hearsSyncInfo steps.hearsAnnounced steps.askOrphans steps.loses steps.ticksSyncing steps.ticksSynced steps.progresses steps.checks
-    steps.evicts steps.planOf steps.plan steps.remaining steps.retried steps.performed steps.after steps.commands steps.countOf steps.freshCount
+    sections.requestSectionsFrom sections.requestNextSections check.considered check.firstOther check.retryTarget check.retryOf check.retries
+    check.retrySendings events.tipOutcome events.raisedTip events.continuation steps.ofMode steps.unmarked steps.withoutPeer steps.sent
+    steps.sayTo steps.advanceFrom steps.sectionsFrom steps.continues steps.leaves steps.advances steps.advancesAndRequests steps.entersSyncing
+    steps.picks steps.isAtTip steps.answers steps.hearsSyncInfo steps.hearsAnnounced steps.askOrphans steps.loses steps.ticksSyncing
+    steps.ticksSynced steps.progresses steps.checks steps.evicts steps.planOf steps.plan steps.remaining steps.retried steps.performed steps.after
+    steps.commands steps.countOf steps.freshCount
     lists.listFits lists.idsIn lists.peersIn lists.pairOf lists.pairsIn lists.idsFit lists.continuationFits lists.pairsFit lists.peersFit
     lists.sectionOf lists.headerOf lists.usedPlaces lists.rowFits lists.firstHeight lists.rowCount lists.viewFits lists.viewOf
     commands.commandBytes calls.stepOf calls.argsOf calls.callFits calls.listsFit calls.stepBytes calls.stepAnswer calls.resultRefusal
@@ -96,6 +97,13 @@ delivery-check-test = refl
 
 pub delivery-check-cases : Hold found deliveryChecks
 delivery-check-cases = each found deliveryChecks delivery-check-test
+
+retry-target-test : allAsExpected found retryTargets ≡ true
+unfolding rules
+retry-target-test = refl
+
+pub retry-target-cases : Hold found retryTargets
+retry-target-cases = each found retryTargets retry-target-test
 
 message-test : allAsExpected found messages ≡ true
 unfolding rules

@@ -19,7 +19,8 @@ use Rattle.model.specs.Delivery
 use Rattle.model.specs.Delivery.{Request, Verdict, verdict, idsOf, isPending, idBefore, withPeer, restarted, markRequested, markRetried, checkTimeouts, afterVerdict, judged}
 use Rattle.model.specs.Requests.{Pair, isStored, Act, ask, send, wanted, perform, performAll}
 use Rattle.model.specs.Sections.{Item}
-use Rattle.model.specs.Check.{retryTarget, retryOf, retries, markAllRetried}
+use Rattle.model.specs.Peers.{isListed, isSome, unstalled, firstUnstalled}
+use Rattle.model.specs.Check.{considered, firstOther, retryTarget, retryOf, retries, markAllRetried}
 use Rattle.model.proofs.Well.{WellId, WellRequest, RisingIds}
 use Rattle.model.proofs.Widths.{WellPeer, WellItem, WellList, WellAct}
 
@@ -216,17 +217,28 @@ module _ (settings : Settings) (clock : ℕ) where
 
 -- ---- retries
 
-target-well : (peers : List ℕ) (failed : ℕ) → All WellPeer peers → WellPeer failed → WellPeer (retryTarget peers failed)
-unfolding retryTarget
-target-well [] failed p h = h
-target-well (peer ∷ peers) failed p h = either WellPeer (eqb peer failed) (retryTarget peers failed) peer (target-well peers failed (p .1) h) (p .0)
+-- a target is a listed peer or the one that failed
+abbrev pub WellTarget : (ℕ → ℕ) → Type 0
+WellTarget target = (failed : ℕ) → WellPeer failed → WellPeer (target failed)
 
-pub retries-well : (gate : Bool) (settings : Settings) (old clock : ℕ) (peers : List ℕ) (rs : List Request) → All WellPeer peers → All (WellRequest settings old) rs
-    → All WellItem (retries gate settings clock peers rs)
+other-well : (peers : List ℕ) → All WellPeer peers → WellTarget (firstOther peers)
+unfolding firstOther
+other-well [] p failed h = h
+other-well (peer ∷ peers) p failed h = either WellPeer (eqb peer failed) (firstOther peers failed) peer (other-well peers (p .1) failed h) (p .0)
+
+pub target-well : (stalledPeers peers : List ℕ) → All WellPeer peers → WellTarget (retryTarget stalledPeers peers)
+unfolding retryTarget considered
+target-well stalledPeers peers p =
+    other-well (considered stalledPeers peers)
+    (either (All WellPeer) (isSome (firstUnstalled stalledPeers peers)) (unstalled stalledPeers peers) peers
+    (all-kept WellPeer (λ (peer : ℕ). not (isListed peer stalledPeers)) peers p) p)
+
+pub retries-well : (gate : Bool) (settings : Settings) (old clock : ℕ) (target : ℕ → ℕ) (rs : List Request) → WellTarget target
+    → All (WellRequest settings old) rs → All WellItem (retries gate settings clock target rs)
 unfolding retries retryOf judged
-retries-well gate settings old clock peers rs p h =
+retries-well gate settings old clock target rs p h =
     let due = judged settings clock Delivery.retried rs in
-    either (All WellItem) gate (map (retryOf peers) due) []
-    (all-map (WellRequest settings old) WellItem (retryOf peers) (λ r q. record { id = q .id; typeId = q .typeId; peer = target-well peers (r .peer) p (q .peer) }) due
+    either (All WellItem) gate (map (retryOf target) due) []
+    (all-map (WellRequest settings old) WellItem (retryOf target) (λ r q. record { id = q .id; typeId = q .typeId; peer = p (r .peer) (q .peer) }) due
     (all-kept (WellRequest settings old) (λ (r : Request). eqb (Delivery.verdictNumber (verdict settings clock r)) (Delivery.verdictNumber Delivery.retried)) rs h))
     tt

@@ -24,6 +24,7 @@ pub mod AsksKept
 pub mod SectionsAsked
 pub mod OrphansAsked
 pub mod VerdictLaws
+pub mod ConsideredLaws
 pub mod CheckAsked
 pub mod BatchesKept
 -- what is pending, and what is told

@@ -12,7 +12,7 @@ use Rattle.fields.proofs.OrderLaws.{and-right}
 use Rattle.model.specs.Protocol.{isAmong, trackedLimit, stalledLimit}
 use Rattle.model.specs.Delivery.{Request, idsOf, markReceived, pendingAfterEviction, purgePeer, purgeAll}
 use Rattle.model.specs.State.{isMode, syncing, State, opened}
-use Rattle.model.specs.Check.{retries, markAllRetried}
+use Rattle.model.specs.Check.{retryTarget, retries, markAllRetried}
 use Rattle.model.specs.Steps
 use Rattle.model.specs.Steps.{Step, Args, ofMode, isCheck, plan, remaining, retried, performed, after}
 use Rattle.model.specs.Image.{noneTwice}
@@ -22,7 +22,7 @@ use Rattle.model.proofs.Well.{Well, WellRequest, RisingIds}
 use Rattle.model.proofs.Widths.{WellItem, WellArgs}
 use Rattle.model.proofs.FinishedLaws.{Passed, passed}
 use Rattle.model.proofs.ArgumentLaws.{arguments-well}
-use Rattle.model.proofs.PendingLaws.{rising-kept, rising-checked, rising-retried, rising-performed, later-well, checked-well, retried-well, performed-well, retries-well}
+use Rattle.model.proofs.PendingLaws.{rising-kept, rising-checked, rising-retried, rising-performed, later-well, checked-well, retried-well, performed-well, target-well, retries-well}
 use Rattle.model.proofs.PlanLaws.{WellPlan, plan-well}
 
 pub opened-well : (o : Opening) → OpeningInWidth o → Well (opened (o .settings) (o .clock) (o .height))
@@ -99,8 +99,9 @@ module _ (st : State) (a : Args) where
   pub retried-items-well : WellArgs a → All (WellRequest (st .settings) (st .lastClock)) (st .pending) → All WellItem (retried st a)
   unfolding retried
   retried-items-well args w =
-      either (All WellItem) (isCheck (a .step)) (retries (a .gate) (st .settings) (a .clock) (a .peers) (st .pending)) []
-      (retries-well (a .gate) (st .settings) (st .lastClock) (a .clock) (a .peers) (st .pending) (args .peers) w) tt
+      either (All WellItem) (isCheck (a .step)) (retries (a .gate) (st .settings) (a .clock) (retryTarget (st .sync .stalledPeers) (a .peers)) (st .pending)) []
+      (retries-well (a .gate) (st .settings) (st .lastClock) (a .clock) (retryTarget (st .sync .stalledPeers) (a .peers)) (st .pending)
+      (target-well (st .sync .stalledPeers) (a .peers) (args .peers)) w) tt
 
   -- The frame of every step keeps the invariant, once its clock, mode and the limits 10 and 11 are as they must be.
   pub after-well : Well st → WellArgs a → st .lastClock ≤ a .clock → ofMode (st .mode) (st .sync .entrySent) (a .step) ≡ true

@@ -9,19 +9,27 @@ use Rattle.model.specs.Settings.{Settings}
 use Rattle.model.specs.Delivery.{Request, judged, retried, markRetried}
 use Rattle.model.specs.Requests.{Pair, Sending, request, Act, ask}
 use Rattle.model.specs.Sections.{Item, Batch, batchesOf}
-use Rattle.model.specs.Peers.{firstOf}
+use Rattle.model.specs.Peers.{firstOf, isSome, unstalled, firstUnstalled}
 
--- "a retry goes to the first listed peer other than the failed one, else to the failed one"
-unfoldable pub retryTarget : List ℕ → ℕ → ℕ
-retryTarget [] failed = failed
-retryTarget (peer ∷ peers) failed = cond (eqb peer failed) (retryTarget peers failed) peer
+-- F-2: "Consider the listed peers not stalled, or all listed ones when every one is stalled."
+unfoldable pub considered : List ℕ → List ℕ → List ℕ
+considered stalledPeers peers = cond (isSome (firstUnstalled stalledPeers peers)) (unstalled stalledPeers peers) peers
 
-unfoldable pub retryOf : List ℕ → Request → Item
-retryOf peers r = record { id = r .id; typeId = r .typeId; peer = retryTarget peers (r .peer) }
+-- "Take the first of these other than the failed peer; if there is none, the failed peer."
+unfoldable pub firstOther : List ℕ → ℕ → ℕ
+firstOther [] failed = failed
+firstOther (peer ∷ peers) failed = cond (eqb peer failed) (firstOther peers failed) peer
+
+-- where a retry goes: stalled peers, listed peers, the one that failed
+unfoldable pub retryTarget : List ℕ → List ℕ → ℕ → ℕ
+retryTarget stalledPeers peers failed = firstOther (considered stalledPeers peers) failed
+
+unfoldable pub retryOf : (ℕ → ℕ) → Request → Item
+retryOf target r = record { id = r .id; typeId = r .typeId; peer = target (r .peer) }
 
 -- "Gate shut: clocks and checks still move, peer and sends don't."
-unfoldable pub retries : Bool → Settings → ℕ → List ℕ → List Request → List Item
-retries gate settings clock peers pending = cond gate (map (retryOf peers) (judged settings clock retried pending)) []
+unfoldable pub retries : Bool → Settings → ℕ → (ℕ → ℕ) → List Request → List Item
+retries gate settings clock target pending = cond gate (map (retryOf target) (judged settings clock retried pending)) []
 
 abbrev pub markAllRetried : List Item → List Request → List Request
 markAllRetried [] pending = pending

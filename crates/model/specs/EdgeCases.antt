@@ -13,6 +13,7 @@ use Rattle.model.specs.State.{withDownloaded, withSendClock, withKnownTi
 use Rattle.model.specs.Requests.{Pair, Command, runs}
 use Rattle.model.specs.Requests as sending
 use Rattle.model.specs.Sections.{View, Section, Header, absent, present}
+use Rattle.model.specs.Check.{retryTarget}
 use Rattle.model.specs.Events.{outcomeNumber}
 use Rattle.model.specs.Image.{bit}
 use Rattle.model.specs.Steps.{Step, Args, plan, after, commands}
@@ -34,6 +35,8 @@ pub data Case : Type 0 where
   taken : Mode → Bool → Case
   -- a call's step, and its other arguments
   stepRead argsRead : Call → Case
+  -- where a retry goes: stalled peers, listed peers, the failed peer
+  goes : List ℕ → List ℕ → ℕ → Case
   -- so many ids in requests; one list after another as commands
   inRuns : ℕ → Case
   inCommands : List ℕ → Case
@@ -239,8 +242,15 @@ fullCore = stateOf 2 syncing (waits 5000 102 7 0 0 ∷ []) (withEvicted baseSync
 abbrev pub evicting : ℕ → List Request → List ℕ → State
 evicting limit pending evictedIds = stateOf limit syncing pending (withEvicted baseSync (ids evictedIds))
 
+abbrev pub ofThreePeers : List Request
+ofThreePeers = waits 1 102 7 0 0 ∷ waits 2 101 7 0 0 ∷ waits 3 102 8 0 0 ∷ waits 4 101 9 0 0 ∷ []
+
 abbrev pub fourPending : State
-fourPending = stateOf 3 syncing (waits 1 102 7 0 0 ∷ waits 2 101 7 0 0 ∷ waits 3 102 8 0 0 ∷ waits 4 101 9 0 0 ∷ []) baseSync
+fourPending = stateOf 3 syncing ofThreePeers baseSync
+
+-- the same four, and 6 evicted, with stalled peers
+abbrev pub fourStalling : List ℕ → State
+fourStalling stalledPeers = stateOf 3 syncing ofThreePeers (withEvicted (withStalledPeers baseSync stalledPeers) (ids (6 ∷ [])))
 
 abbrev pub ofEachVerdict : List Request
 ofEachVerdict = waits 1 102 7 1 0 ∷ waits 2 102 7 0 0 ∷ waits 3 102 7 0 1 ∷ waits 4 2 7 0 0 ∷ []
@@ -296,6 +306,7 @@ found (argsRead c) =
     let a : Args = argsOf c in
     (a .clock ∷ bit (a .gate) ∷ a .chainHeight ∷ []) ∷ a .peers ∷ headerNumbers (a .view 401)
     ∷ map (λ (p : Pair). p .typeId ∷ fromBe (p .id) ∷ []) (a .stored)
+found (goes stalledPeers peers failed) = number (retryTarget stalledPeers peers failed)
 found (inRuns count) = map length (runs (numbered count)) ∷ []
 found (inCommands counts) = map headNumbers (sending.commandsFrom 0 (map requestOf counts))
 found (likeStarred case) = starred.found case
@@ -592,6 +603,54 @@ deliveryChecks =
     (0 ∷ 2 ∷ []) ∷ (7 ∷ 1 ∷ 0 ∷ []) ∷ (50 ∷ 0 ∷ 0 ∷ 0 ∷ []) ∷ (0 ∷ 0 ∷ []) ∷ [] ∷ [] ∷ [])
     ∷ (leaves syncedCore (seeing (argsAt 50 1 [] check) (rows (present [] ∷ []))) gives
     (0 ∷ 3 ∷ []) ∷ (7 ∷ 0 ∷ 0 ∷ []) ∷ (50 ∷ 0 ∷ 0 ∷ 0 ∷ []) ∷ (0 ∷ 0 ∷ []) ∷ [] ∷ [] ∷ []) ∷ []
+
+-- F-2: where a retry goes, and what goes to the first listed peer, stalled or not.
+abbrev pub retryTargets : List (Entry Case)
+retryTargets =
+    -- some have not stalled: the first of these other than the failed one
+    (goes (4 ∷ []) (4 ∷ 5 ∷ 6 ∷ []) 5 gives number 6)
+    ∷ (goes (5 ∷ 4 ∷ []) (4 ∷ 5 ∷ 7 ∷ 6 ∷ []) 5 gives number 7)
+    ∷ (goes (4 ∷ []) (4 ∷ 5 ∷ 6 ∷ []) 9 gives number 5)
+    ∷ (goes (4 ∷ []) (4 ∷ 5 ∷ 4 ∷ 5 ∷ 6 ∷ []) 5 gives number 6)
+    -- the failed one alone has not: to it again
+    ∷ (goes (4 ∷ []) (4 ∷ 5 ∷ []) 5 gives number 5)
+    ∷ (goes (6 ∷ 4 ∷ 8 ∷ []) (6 ∷ 4 ∷ 5 ∷ 6 ∷ []) 5 gives number 5)
+    -- all have: the first other, if there is one
+    ∷ (goes (4 ∷ 5 ∷ []) (4 ∷ 5 ∷ []) 4 gives number 5)
+    ∷ (goes (5 ∷ 6 ∷ 4 ∷ []) (6 ∷ 5 ∷ 4 ∷ []) 5 gives number 6)
+    ∷ (goes (6 ∷ 5 ∷ []) (5 ∷ 5 ∷ 6 ∷ []) 5 gives number 6)
+    ∷ (goes (4 ∷ 5 ∷ 6 ∷ []) (4 ∷ 6 ∷ []) 9 gives number 4)
+    ∷ (goes (4 ∷ []) (4 ∷ []) 4 gives number 4)
+    -- nobody is listed
+    ∷ (goes [] [] 9 gives number 9)
+    ∷ (goes (4 ∷ []) [] 9 gives number 9)
+    -- nobody has stalled, or one that is not listed
+    ∷ (goes [] (4 ∷ 5 ∷ []) 4 gives number 5)
+    ∷ (goes [] (6 ∷ 5 ∷ 4 ∷ 7 ∷ []) 5 gives number 6)
+    ∷ (goes (8 ∷ []) (6 ∷ 6 ∷ 5 ∷ []) 6 gives number 5)
+    ∷ (goes (8 ∷ []) (6 ∷ 4 ∷ []) 9 gives number 6)
+    ∷ (goes (8 ∷ 4 ∷ []) (4 ∷ 5 ∷ []) 9 gives number 5)
+    -- a check: commands and pending alike; fresh ids to the first listed peer, though stalled
+    ∷ (sends (fourStalling (7 ∷ [])) (checking (7 ∷ 8 ∷ 9 ∷ [])) gives
+    (0 ∷ 2 ∷ []) ∷ requests 0 101 8 (2 ∷ 4 ∷ []) ∷ requests 1 102 8 (1 ∷ []) ∷ requests 2 102 9 (3 ∷ []) ∷ requests 3 101 7 (6 ∷ [])
+    ∷ pending 1 102 8 10000 1 ∷ pending 2 101 8 10000 1 ∷ pending 3 102 9 10000 1 ∷ pending 4 101 8 10000 1 ∷ pending 6 101 7 10000 0 ∷ [])
+    -- the sync peer, 7, is a peer as any other
+    ∷ (sends (fourStalling (8 ∷ [])) (checking (7 ∷ 8 ∷ 9 ∷ [])) gives
+    (0 ∷ 2 ∷ []) ∷ requests 0 101 7 (4 ∷ []) ∷ requests 1 102 7 (3 ∷ []) ∷ requests 2 101 9 (2 ∷ []) ∷ requests 3 102 9 (1 ∷ [])
+    ∷ requests 4 101 7 (6 ∷ [])
+    ∷ pending 1 102 9 10000 1 ∷ pending 2 101 9 10000 1 ∷ pending 3 102 7 10000 1 ∷ pending 4 101 7 10000 1 ∷ pending 6 101 7 10000 0 ∷ [])
+    -- the stalled set stays, also where all have stalled
+    ∷ (leaves (fourStalling (8 ∷ 7 ∷ [])) (checking (7 ∷ 8 ∷ [])) gives
+    (0 ∷ 2 ∷ []) ∷ (7 ∷ 0 ∷ 0 ∷ []) ∷ (10000 ∷ 0 ∷ 0 ∷ 0 ∷ []) ∷ (0 ∷ 0 ∷ []) ∷ (8 ∷ 7 ∷ []) ∷ [] ∷ [])
+    -- behind a shut gate each stays with its peer
+    ∷ (sends (fourStalling (7 ∷ [])) (gateShut (checking (7 ∷ 8 ∷ 9 ∷ []))) gives
+    (0 ∷ 2 ∷ []) ∷ pending 1 102 7 10000 1 ∷ pending 2 101 7 10000 1 ∷ pending 3 102 8 10000 1 ∷ pending 4 101 9 10000 1 ∷ [])
+    -- sections and a lost peer's ids go to the first listed peer, though stalled
+    ∷ (sends (core synced (withStalledPeers baseSync (5 ∷ []))) (argsAt 200 1 (5 ∷ 6 ∷ []) sectionTick) gives
+    (0 ∷ 3 ∷ []) ∷ requests 0 102 5 (1 ∷ []) ∷ pending 1 102 5 200 0 ∷ [])
+    ∷ (sends (fourStalling (8 ∷ [])) (argsAt 50 0 (8 ∷ 9 ∷ []) (lostPeer 7)) gives
+    (3 ∷ 1 ∷ []) ∷ requests 0 101 8 (2 ∷ []) ∷ requests 1 102 8 (1 ∷ [])
+    ∷ pending 1 102 8 50 0 ∷ pending 2 101 8 50 0 ∷ pending 3 102 8 0 0 ∷ pending 4 101 9 0 0 ∷ []) ∷ []
 
 -- Rule 7.
 abbrev pub messages : List (Entry Case)

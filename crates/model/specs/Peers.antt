@@ -24,8 +24,12 @@ abbrev pub isSome : Option ℕ → Bool
 isSome none = false
 isSome (some peer) = true
 
+-- the listed peers not stalled
+abbrev pub unstalled : List ℕ → List ℕ → List ℕ
+unstalled stalledPeers peers = kept (λ (p : ℕ). not (isListed p stalledPeers)) peers
+
 unfoldable pub firstUnstalled : List ℕ → List ℕ → Option ℕ
-firstUnstalled stalledPeers peers = firstOf (kept (λ (p : ℕ). not (isListed p stalledPeers)) peers)
+firstUnstalled stalledPeers peers = firstOf (unstalled stalledPeers peers)
 
 -- Rule 1: "first listed peer not stalled. If none, .. the first listed is taken."
 unfoldable pub selectPeer : List ℕ → List ℕ → Option ℕ

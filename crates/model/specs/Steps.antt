@@ -15,7 +15,7 @@ use Rattle.model.specs.State.{withDownloaded, withLastProgress, withSend
 use Rattle.model.specs.Peers.{firstOf, selectPeer, stalledAfterSelect, joinStalled, sendSyncInfo, resetSends}
 use Rattle.model.specs.Requests.{Pair, Sending, Act, ask, Done, performAll, syncInfoTo, Command, commandsFrom}
 use Rattle.model.specs.Sections.{View, Item, Batch, batchesOf, Advance, advanceDownloadedHeight, Sections, requestNextSections}
-use Rattle.model.specs.Check.{retries, markAllRetried, retrySendings, askFresh}
+use Rattle.model.specs.Check.{retryTarget, retries, markAllRetried, retrySendings, askFresh}
 use Rattle.model.specs.Events.{Outcome, Continue, Synced, BehindPeer, SyncPeerGone, Stalled, EndOfStream, tipOutcome, raisedTip, continuation}
 
 -- The kinds of steps, with what only they read: "start, pick, control event, message, lost peer, received ids, evicted ids,
@@ -314,7 +314,7 @@ module _ (st : State) (a : Args) where
 
   -- the retries of a check
   unfoldable pub retried : List Item
-  retried = cond (isCheck (a .step)) (retries (a .gate) (st .settings) (a .clock) (a .peers) (st .pending)) []
+  retried = cond (isCheck (a .step)) (retries (a .gate) (st .settings) (a .clock) (retryTarget (st .sync .stalledPeers) (a .peers)) (st .pending)) []
 
   unfoldable pub performed : Done
   performed = performAll (a .gate) (a .clock) (plan .acts) (markAllRetried retried (remaining (a .step)))

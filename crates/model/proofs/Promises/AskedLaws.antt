@@ -15,7 +15,7 @@ use Rattle.model.specs.State.{SendClock, Sync, State}
 use Rattle.model.specs.Peers.{firstOf, resetSends}
 use Rattle.model.specs.Requests.{Pair, request, announcement, syncInfo, Act, ask, send, syncInfoTo, wanted, requestOf, perform, performAll}
 use Rattle.model.specs.Sections.{Item, itemBelow}
-use Rattle.model.specs.Check.{retries, markAllRetried, retrySendings}
+use Rattle.model.specs.Check.{retryTarget, retries, markAllRetried, retrySendings}
 use Rattle.model.specs.Events.{Outcome, notAbove, announce, continuation}
 use Rattle.model.specs.Steps.{Step, Args, isCheck, sayTo, leaves, entersSyncing, picks, ticksSyncing, ticksSynced}
 use Rattle.model.specs.Steps.{planOf, plan, remaining, retried, performed, after, commands}
@@ -147,14 +147,14 @@ module _ (st : State) (a : Args) where
 
   pub unretried : isCheck (a .step) ≡ false → retried st a ≡ []
   unfolding retried
-  unretried e = ap (λ (check : Bool). cond check (retries (a .gate) (st .settings) (a .clock) (a .peers) (st .pending)) []) e
+  unretried e = ap (λ (check : Bool). cond check (retries (a .gate) (st .settings) (a .clock) (retryTarget (st .sync .stalledPeers) (a .peers)) (st .pending)) []) e
 
   shut-retries : a .gate ≡ false → retried st a ≡ []
   unfolding retried retries
   shut-retries e = go (isCheck (a .step))
     where
-      go : (check : Bool) → cond check (retries (a .gate) (st .settings) (a .clock) (a .peers) (st .pending)) [] ≡ []
-      go true = ap (λ (gate : Bool). retries gate (st .settings) (a .clock) (a .peers) (st .pending)) e
+      go : (check : Bool) → cond check (retries (a .gate) (st .settings) (a .clock) (retryTarget (st .sync .stalledPeers) (a .peers)) (st .pending)) [] ≡ []
+      go true = ap (λ (gate : Bool). retries gate (st .settings) (a .clock) (retryTarget (st .sync .stalledPeers) (a .peers)) (st .pending)) e
       go false = refl
 
   -- All that a step other than a check asks for is what its acts ask for.

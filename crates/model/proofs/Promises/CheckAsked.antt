@@ -27,7 +27,7 @@ use Rattle.model.specs.Calls.{Call, argsOf}
 use Rattle.model.specs.Book.{Requested, requestedIn}
 use Rattle.model.specs.Promises.Numbers as numbers
 use Rattle.model.specs.Promises.Words.{Seen, peers, stored, LeftOf}
-use Rattle.model.specs.Promises.Pending.{GoesTo}
+use Rattle.model.specs.Promises.Pending.{Turns}
 use Rattle.model.specs.Promises.Asked.{ofPeer, PendingId, StoredAs, GoesAgain, TargetsRise, StillPending, AsksFresh, AsksAgain}
 use Rattle.model.proofs.RequestedLaws.{requestedItem, requestedBySendings}
 use Rattle.model.proofs.Promises.SeenLaws as kinds
@@ -37,7 +37,8 @@ use Rattle.model.proofs.Promises.TellsLaws.{Tells, tells-not}
 use Rattle.model.proofs.Promises.WordLaws.{pending-request, request-pending, left-kept, left-same, left-wanted}
 use Rattle.model.proofs.Promises.ItemLaws.{item-order, NotAbove, not-above, isOf, of-alike}
 use Rattle.model.proofs.Promises.AskedLaws.{askedBy, asked-alone, asked-parts}
-use Rattle.model.proofs.Promises.VerdictLaws.{verdict-is, goes-to, goes-to-only, judgement, made-verdict, verdict-made, stamps-past}
+use Rattle.model.proofs.Promises.ConsideredLaws.{targetIn, turns, turns-only}
+use Rattle.model.proofs.Promises.VerdictLaws.{verdict-is, judgement, made-verdict, verdict-made, stamps-past}
 use Rattle.model.proofs.Promises.LeftLaws.{Left, left-of, came-from, becomes-id, left-again}
 
 -- ---- by target, then type
@@ -65,26 +66,26 @@ of-peer-kept peer typeId (i ∷ items) = go (isOf peer typeId i) (of-peer-kept p
     go false e = e
 
 -- they are asked for in the order of their requests
-of-peer-retries : (listed : List ℕ) (due : Request → Bool) (rs : List Request) (peer typeId : ℕ)
-    → ofPeer peer typeId (map requestedItem (sorted itemBelow (map (retryOf listed) (kept due rs))))
-    ≡ idsOf (kept (λ (r : Request). due r && isOf peer typeId (retryOf listed r)) rs)
+of-peer-retries : (target : ℕ → ℕ) (due : Request → Bool) (rs : List Request) (peer typeId : ℕ)
+    → ofPeer peer typeId (map requestedItem (sorted itemBelow (map (retryOf target) (kept due rs))))
+    ≡ idsOf (kept (λ (r : Request). due r && isOf peer typeId (retryOf target r)) rs)
 unfolding retryOf
-of-peer-retries listed due rs peer typeId =
-    let items : List Item = map (retryOf listed) (kept due rs) in
+of-peer-retries target due rs peer typeId =
+    let items : List Item = map (retryOf target) (kept due rs) in
     let test : Item → Bool = isOf peer typeId in
     rw (
       of-peer-kept peer typeId (sorted itemBelow items),
       kept-sorted itemBelow test (of-alike peer typeId) items,
-      kept-map (retryOf listed) test (kept due rs),
-      kept-kept (λ (r : Request). test (retryOf listed r)) due rs,
+      kept-map (retryOf target) test (kept due rs),
+      kept-kept (λ (r : Request). test (retryOf target r)) due rs,
     )
-    (map-map (λ (i : Item). i .id) (retryOf listed) (kept (λ (r : Request). due r && test (retryOf listed r)) rs))
+    (map-map (λ (i : Item). i .id) (retryOf target) (kept (λ (r : Request). due r && test (retryOf target r)) rs))
 
 -- ---- what goes out
 
 -- the retries of a check, its gate open
 abbrev again : State → Args → List Item
-again st a = map (retryOf (a .peers)) (judged (st .settings) (a .clock) retried (st .pending))
+again st a = map (retryOf (retryTarget (st .sync .stalledPeers) (a .peers))) (judged (st .settings) (a .clock) retried (st .pending))
 
 -- what it sends behind retries
 abbrev behind : State → Args → Bool → List Item → List Sending
@@ -96,7 +97,7 @@ module _ (st : State) (a : Args) (check : a .step ≡ steps.check) (gate : a .ga
   retried-again : steps.retried st a ≡ again st a
   unfolding steps.retried retries
   retried-again =
-      ap (λ (step : Step). cond (isCheck step) (retries (a .gate) (st .settings) (a .clock) (a .peers) (st .pending)) []) check
+      ap (λ (step : Step). cond (isCheck step) (retries (a .gate) (st .settings) (a .clock) (retryTarget (st .sync .stalledPeers) (a .peers)) (st .pending)) []) check
       ∙ ap (λ (t : Bool). cond t (again st a) []) gate
 
   performed-behind : steps.performed st a .sendings ≡ behind st a true (again st a)
@@ -122,7 +123,7 @@ module _ (s : Seen) where
 
   -- it is retried, to this peer and under this type
   abbrev goes : ℕ → ℕ → Request → Bool
-  goes peer typeId r = due r && isOf peer typeId (retryOf (peers s) r)
+  goes peer typeId r = due r && isOf peer typeId (retryOf (targetIn s) r)
 
   abbrev Elsewhere : ℕ → ℕ → Request → Type 0
   Elsewhere peer typeId r = GoesAgain s peer typeId r → ⊥
@@ -131,13 +132,13 @@ module _ (s : Seen) where
     goes-again : (r : Request) → Past r → goes peer typeId r ≡ true → GoesAgain s peer typeId r
     unfolding retryOf
     goes-again r stamp e =
-        let target = retryTarget (peers s) (r .peer) in
+        let target = targetIn s (r .peer) in
         let j : due r ≡ true = and-left (due r) (eqb target peer && eqb (r .typeId) typeId) e in
         let o : eqb target peer && eqb (r .typeId) typeId ≡ true = and-right (due r) (eqb target peer && eqb (r .typeId) typeId) e in
         let to : target ≡ peer = eqb-true target peer (and-left (eqb target peer) (eqb (r .typeId) typeId) o) in
         record {
           retried = made-verdict s check r stamp retried (verdict-is (judgement s r) retried j);
-          to = subst (GoesTo (peers s) (r .peer)) to (goes-to (peers s) (r .peer));
+          to = subst (Turns s (r .peer)) to (turns s (r .peer));
           typed = eqb-true (r .typeId) typeId (and-right (eqb target peer) (eqb (r .typeId) typeId) o);
         }
 
@@ -146,7 +147,7 @@ module _ (s : Seen) where
     again-goes r stamp g =
         rw (
           verdict-made s check r stamp retried (g .retried),
-          eq-eqb (retryTarget (peers s) (r .peer)) peer (sym (goes-to-only (g .to))),
+          eq-eqb (targetIn s (r .peer)) peer (sym (turns-only s (g .to))),
           eq-eqb (r .typeId) typeId (g .typed),
         )
 
@@ -213,7 +214,7 @@ check-asked st call f gate check =
       retries = λ peer typeId. (
         kept (goes s peer typeId) (st .pending),
         goes-left s check peer typeId (st .pending) stamps,
-        of-peer-retries (peers s) (due s) (st .pending) peer typeId,
+        of-peer-retries (targetIn s) (due s) (st .pending) peer typeId,
       );
       targetsRise = targets-rise (sorted itemBelow (again st a)) (sorted-rises itemBelow item-order (again st a));
       asFresh = asks-fresh s now (left-again st call f check gate) (peers s);

@@ -12,7 +12,7 @@ use Rattle.model.specs.Settings.{Settings}
 use Rattle.model.specs.Delivery
 use Rattle.model.specs.Delivery.{Request, Verdict, verdict, verdictNumber, idsOf, withPeer, restarted, checkTimeouts, afterVerdict, judged, markRetried}
 use Rattle.model.specs.Sections.{Item}
-use Rattle.model.specs.Check.{retryTarget, retryOf, markAllRetried}
+use Rattle.model.specs.Check.{retryOf, markAllRetried}
 use Rattle.model.proofs.Well.{RisingIds}
 use Rattle.model.proofs.IdLaws.{not-among-kept}
 use Rattle.model.proofs.EnteringLaws.{itemIds}
@@ -79,18 +79,18 @@ module _ (settings : Settings) (clock : ℕ) where
       go Delivery.abandoned e f = f
       go Delivery.forgotten e f = f
 
-  module _ (peers : List ℕ) where
+  module _ (target : ℕ → ℕ) where
     abbrev again : List Request → List Item
-    again rs = map (retryOf peers) (judged settings clock Delivery.retried rs)
+    again rs = map (retryOf target) (judged settings clock Delivery.retried rs)
 
     not-among-again : (id : Id) (rs : List Request) → isAmong id (idsOf rs) ≡ false → isAmong id (itemIds (again rs)) ≡ false
     unfolding judged retryOf
     not-among-again id rs n =
         let test : Request → Bool = λ (r : Request). eqb (verdictNumber (verdict settings clock r)) (verdictNumber Delivery.retried) in
-        rw (map-map (λ (i : Item). i .id) (retryOf peers) (judged settings clock Delivery.retried rs)) (not-among-kept (λ (r : Request). r .id) test id rs n)
+        rw (map-map (λ (i : Item). i .id) (retryOf target) (judged settings clock Delivery.retried rs)) (not-among-kept (λ (r : Request). r .id) test id rs n)
 
     pub checked-again : (rs : List Request) → RisingIds (idsOf rs)
-        → markAllRetried (again rs) (checkTimeouts settings clock rs) ≡ checked (retryTarget peers) rs
+        → markAllRetried (again rs) (checkTimeouts settings clock rs) ≡ checked target rs
     unfolding judged restarted retryOf
     checked-again [] h = refl
     checked-again (r ∷ rs) h =
@@ -104,13 +104,13 @@ module _ (settings : Settings) (clock : ℕ) where
         due = judged settings clock Delivery.retried rs
 
         go : (v : Verdict) → isAmong (r .id) (itemIds (again rs)) ≡ false → isAmong (r .id) (idsOf left) ≡ false
-            → markAllRetried (again rs) left ≡ checked (retryTarget peers) rs
-            → markAllRetried (map (retryOf peers) (consIf (eqb (verdictNumber v) 1) r due)) (afterVerdict clock v r left)
-            ≡ leaves (retryTarget peers) v r (checked (retryTarget peers) rs)
+            → markAllRetried (again rs) left ≡ checked target rs
+            → markAllRetried (map (retryOf target) (consIf (eqb (verdictNumber v) 1) r due)) (afterVerdict clock v r left)
+            ≡ leaves target v r (checked target rs)
         go Delivery.waiting m n e = marks-behind (again rs) r left m ∙ ap (λ l. r ∷ l) e
         go Delivery.retried m n e =
-            let moved : Request = withPeer (retryTarget peers (r .peer)) (restarted clock r) in
-            ap (markAllRetried (again rs)) (mark-first (retryTarget peers (r .peer)) (restarted clock r) left n)
+            let moved : Request = withPeer (target (r .peer)) (restarted clock r) in
+            ap (markAllRetried (again rs)) (mark-first (target (r .peer)) (restarted clock r) left n)
             ∙ marks-behind (again rs) moved left m
             ∙ ap (λ l. moved ∷ l) e
         go Delivery.abandoned m n e = e

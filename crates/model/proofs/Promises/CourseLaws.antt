@@ -21,7 +21,7 @@ use Rattle.model.specs.Peers.{firstOf, orElse, firstUnstalled, selectPee
 use Rattle.model.specs.Requests.{Sending, announcement, Command, Act, ask, send, syncInfoTo}
 use Rattle.model.specs.Requests as requests
 use Rattle.model.specs.Sections.{Item, Batch, batchesOf, requestSectionsFrom, requestNextSections, windowWithin}
-use Rattle.model.specs.Check.{retries, markAllRetried, retrySendings, askFresh}
+use Rattle.model.specs.Check.{retryTarget, retries, markAllRetried, retrySendings, askFresh}
 use Rattle.model.specs.Events.{Outcome, Continue, Synced, BehindPeer, SyncPeerGone, Stalled, EndOfStream, outcomeNumber}
 use Rattle.model.specs.Events.{tipOutcome, raisedTip, notAbove, announce, continuation}
 use Rattle.model.specs.Steps
@@ -574,7 +574,7 @@ module _ (st : State) (call : Call) where
     unfolding commands performed plan retried argsOf
     told-parts =
         let a : Args = argsOf call in
-        let again : List Item = retries (a .gate) (st .settings) (a .clock) (a .peers) (st .pending) in
+        let again : List Item = retries (a .gate) (st .settings) (a .clock) (retryTarget (st .sync .stalledPeers) (a .peers)) (st .pending) in
         commands-parts (a .gate) (a .clock) (told .announced) (told .said) (cond (isCheck (stepOf call)) again []) (planOf st a (stepOf call) .acts)
         (markAllRetried (cond (isCheck (stepOf call)) again []) (remaining st a (stepOf call)))
         (retries-none (told .announced) (isCheck (stepOf call)) again (told .retriesAlone)) (course-acts st call (told .course))

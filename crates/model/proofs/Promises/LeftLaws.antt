@@ -21,7 +21,8 @@ use Rattle.model.specs.Promises.Pending as pending
 use Rattle.model.specs.Promises.Pending.{Retried, TakenOut, Becomes, restartedAt}
 use Rattle.model.proofs.Promises.SeenLaws.{apart, seenAs, Finished}
 use Rattle.model.proofs.Promises.TellsLaws.{Tells}
-use Rattle.model.proofs.Promises.VerdictLaws.{goes-to, Made, made, waiting-stays, retried-stays, stamps-past}
+use Rattle.model.proofs.Promises.ConsideredLaws.{turns}
+use Rattle.model.proofs.Promises.VerdictLaws.{Made, made, waiting-stays, retried-stays, stamps-past}
 use Rattle.model.proofs.Promises.CheckedLaws.{leaves, checked, checked-still, checked-again}
 
 module _ (s : Seen) where
@@ -87,8 +88,8 @@ module _ (s : Seen) where
         go Delivery.forgotten m l = out r rs (still rs) (pending.forgotten m) l
 
 module _ (st : State) (call : Call) (f : Finished st call) (check : call .kind ≡ numbers.check) where
-  abbrev listed : List ℕ
-  listed = peersIn (call .peers)
+  abbrev target : ℕ → ℕ
+  target = retryTarget (st .sync .stalledPeers) (peersIn (call .peers))
 
   abbrev due : List Request
   due = judged (st .settings) (call .clock) Delivery.retried (st .pending)
@@ -97,11 +98,11 @@ module _ (st : State) (call : Call) (f : Finished st call) (check : call .kind �
   timed = checkTimeouts (st .settings) (call .clock) (st .pending)
 
   -- gate open, with retries; gate shut, without
-  pub left-again : call .gate ≡ 1 → Left (seenAs st call) (st .pending) (markAllRetried (map (retryOf listed) due) timed)
+  pub left-again : call .gate ≡ 1 → Left (seenAs st call) (st .pending) (markAllRetried (map (retryOf target) due) timed)
   left-again opened =
-      subst (Left (seenAs st call) (st .pending)) (sym (checked-again (st .settings) (call .clock) listed (st .pending) (f .well .rising)))
-      (left-checked (seenAs st call) check (retryTarget listed)
-      (λ r m. pending.movedOn (retryTarget listed (r .peer)) m opened (goes-to listed (r .peer))) (st .pending) (stamps-past st call f))
+      subst (Left (seenAs st call) (st .pending)) (sym (checked-again (st .settings) (call .clock) target (st .pending) (f .well .rising)))
+      (left-checked (seenAs st call) check target
+      (λ r m. pending.movedOn (target (r .peer)) m opened (turns (seenAs st call) (r .peer))) (st .pending) (stamps-past st call f))
 
   pub left-still : call .gate ≡ 0 → Left (seenAs st call) (st .pending) timed
   left-still shut =

@@ -24,7 +24,7 @@ use Rattle.model.specs.Peers.{firstOf, selectPeer}
 use Rattle.model.specs.Steps.{Step, Args, isCheck, planOf, plan, remaining, retried, performed, after, commands}
 use Rattle.model.specs.Steps.{unmarked, withoutPeer, continues, leaves, advances, advancesAndRequests}
 use Rattle.model.specs.Steps.{hearsSyncInfo, checks, evicts}
-use Rattle.model.specs.Check.{retryOf, retries, markAllRetried}
+use Rattle.model.specs.Check.{retryTarget, retryOf, retries, markAllRetried}
 use Rattle.model.specs.Sections.{Item, itemBelow}
 use Rattle.model.specs.Book.{Requested, requestedIn}
 use Rattle.model.specs.Lists.{idsIn, peersIn}
@@ -43,7 +43,8 @@ use Rattle.model.proofs.Promises.TellsLaws.{tells-as, is-tells}
 use Rattle.model.proofs.Promises.WordLaws.{among-tells}
 use Rattle.model.proofs.Promises.SparedLaws.{picks-spares, answers-spare, announced-spares, loses-spares, ticks-spares, progresses-spares}
 use Rattle.model.proofs.Promises.AskedLaws.{asked-parts, acts-well}
-use Rattle.model.proofs.Promises.VerdictLaws.{verdict-is, goes-to-only, made-verdict, retried-stays, stamps-past}
+use Rattle.model.proofs.Promises.ConsideredLaws.{turns-only}
+use Rattle.model.proofs.Promises.VerdictLaws.{verdict-is, made-verdict, retried-stays, stamps-past}
 use Rattle.model.proofs.Promises.LeftLaws.{Left, left-of, came-from, becomes-id, left-all, left-tested, left-none, left-again, left-still}
 use Rattle.model.proofs.Promises.LeftLaws.{takesOut, untaken, taken-listed, taken-lost}
 use Rattle.model.proofs.Promises.AskingLaws.{New, Grows, acts-grow}
@@ -109,16 +110,19 @@ module _ (st : State) (call : Call) (f : Finished st call) where
   abbrev listed : List ℕ
   listed = peersIn (call .peers)
 
+  abbrev target : ℕ → ℕ
+  target = retryTarget (st .sync .stalledPeers) listed
+
   abbrev given : List Id
   given = idsIn (call .ids)
 
   -- the retries of a check
   abbrev retry : List Item
-  retry = retries (eqb (call .gate) 1) (st .settings) (call .clock) listed (st .pending)
+  retry = retries (eqb (call .gate) 1) (st .settings) (call .clock) target (st .pending)
 
   -- the same, by the gate
   abbrev retryIf : Bool → List Item
-  retryIf gate = cond gate (map (retryOf listed) (judged (st .settings) (call .clock) Delivery.retried (st .pending))) []
+  retryIf gate = cond gate (map (retryOf target) (judged (st .settings) (call .clock) Delivery.retried (st .pending))) []
 
   -- the pending requests between what a step takes out and what it asks for
   abbrev middle : Step → List Request
@@ -224,7 +228,7 @@ module _ (st : State) (call : Call) (f : Finished st call) where
 
   -- What a retry asks for is asked of the target of a request that is retried.
   retry-due : call .kind ≡ numbers.check → (i : Item) → Among i retry
-      → (r : Request) × Among r (st .pending) × Retried s r × (call .gate ≡ 1) × (i ≡ retryOf listed r)
+      → (r : Request) × Among r (st .pending) × Retried s r × (call .gate ≡ 1) × (i ≡ retryOf target r)
   unfolding retries judged
   retry-due k i a = go (eqb (call .gate) 1) refl a
     where
@@ -232,9 +236,9 @@ module _ (st : State) (call : Call) (f : Finished st call) where
       isDue r = eqb (verdictNumber (verdict (st .settings) (call .clock) r)) (verdictNumber Delivery.retried)
 
       go : (t : Bool) → eqb (call .gate) 1 ≡ t → Among i (retryIf t)
-          → (r : Request) × Among r (st .pending) × Retried s r × (call .gate ≡ 1) × (i ≡ retryOf listed r)
+          → (r : Request) × Among r (st .pending) × Retried s r × (call .gate ≡ 1) × (i ≡ retryOf target r)
       go true g b =
-          let p = among-map (retryOf listed) i (judged (st .settings) (call .clock) Delivery.retried (st .pending)) b in
+          let p = among-map (retryOf target) i (judged (st .settings) (call .clock) Delivery.retried (st .pending)) b in
           let r : Request = p .0 in
           let q = among-kept isDue r (st .pending) (p .1) in
           let e = verdict-is (verdict (st .settings) (call .clock) r) Delivery.retried (q .1) in
@@ -243,10 +247,10 @@ module _ (st : State) (call : Call) (f : Finished st call) where
       go false g b = absurd b
 
   -- a request that is retried and stays is one of its target
-  moved-on : {r later : Request} → Retried s r → call .gate ≡ 1 → Becomes s r later → asRequested later ≡ requestedItem (retryOf listed r)
+  moved-on : {r later : Request} → Retried s r → call .gate ≡ 1 → Becomes s r later → asRequested later ≡ requestedItem (retryOf target r)
   unfolding retryOf
   moved-on m g (pending.asItWas n) = absurd (n m)
-  moved-on {r} m g (pending.movedOn peer n o t) = ap (λ (p : ℕ). record { id = r .id; typeId = r .typeId; peer = p }) (goes-to-only t)
+  moved-on {r} m g (pending.movedOn peer n o t) = ap (λ (p : ℕ). record { id = r .id; typeId = r .typeId; peer = p }) (turns-only s t)
   moved-on m g (pending.heldBack n o) = absurd (omega (arith, g, o))
 
   retry-pending : (i : Item) → Among i (retried st (argsOf call)) → (r : Request) × Among r now × (asRequested r ≡ requestedItem i)

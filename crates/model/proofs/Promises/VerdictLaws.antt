@@ -13,7 +13,7 @@ use Rattle.model.specs.Protocol.{isTransaction, transactionType}
 use Rattle.model.specs.Settings.{expired, givenUp, patience}
 use Rattle.model.specs.Delivery.{Request, Verdict, waiting, retried, abandoned, forgotten, verdict, verdictNumber}
 use Rattle.model.specs.State.{State}
-use Rattle.model.specs.Check.{retryTarget}
+use Rattle.model.specs.Check.{firstOther}
 use Rattle.model.specs.Calls.{Call}
 use Rattle.model.specs.Promises.Numbers as numbers
 use Rattle.model.specs.Promises.Words.{Seen}
@@ -30,33 +30,33 @@ passes listed failed target peer e (another next passed rest split all other) =
     another next (peer ∷ passed) rest (ap (λ (l : List ℕ). peer ∷ l) split) (e, all) other
 passes listed failed target peer e (again all) = again (e, all)
 
-pub goes-to : (peers : List ℕ) (failed : ℕ) → GoesTo peers failed (retryTarget peers failed)
-unfolding retryTarget
+pub goes-to : (peers : List ℕ) (failed : ℕ) → GoesTo peers failed (firstOther peers failed)
+unfolding firstOther
 goes-to [] failed = again tt
 goes-to (peer ∷ peers) failed = go (eqb peer failed) refl (goes-to peers failed)
   where
     go :
-        (t : Bool) → eqb peer failed ≡ t → GoesTo peers failed (retryTarget peers failed)
-        → GoesTo (peer ∷ peers) failed (cond t (retryTarget peers failed) peer)
-    go true e g = passes peers failed (retryTarget peers failed) peer (eqb-true peer failed e) g
+        (t : Bool) → eqb peer failed ≡ t → GoesTo peers failed (firstOther peers failed)
+        → GoesTo (peer ∷ peers) failed (cond t (firstOther peers failed) peer)
+    go true e g = passes peers failed (firstOther peers failed) peer (eqb-true peer failed e) g
     go false e g = another peer [] peers refl tt (eqb-false peer failed e)
 
 -- behind peers that failed it is what it is for the others
-target-behind : (passed rest : List ℕ) (failed : ℕ) → All (λ (p : ℕ). p ≡ failed) passed → retryTarget (passed ++ rest) failed ≡ retryTarget rest failed
-unfolding retryTarget
+target-behind : (passed rest : List ℕ) (failed : ℕ) → All (λ (p : ℕ). p ≡ failed) passed → firstOther (passed ++ rest) failed ≡ firstOther rest failed
+unfolding firstOther
 target-behind [] rest failed all = refl
 target-behind (p ∷ passed) rest failed all = rw (eq-eqb p failed (all .0)) (target-behind passed rest failed (all .1))
 
-target-other : (peer failed : ℕ) (rest : List ℕ) → (peer ≡ failed → ⊥) → retryTarget (peer ∷ rest) failed ≡ peer
-unfolding retryTarget
+target-other : (peer failed : ℕ) (rest : List ℕ) → (peer ≡ failed → ⊥) → firstOther (peer ∷ rest) failed ≡ peer
+unfolding firstOther
 target-other peer failed rest other = rw (ne-eqb peer failed other)
 
-target-again : (peers : List ℕ) (failed : ℕ) → All (λ (p : ℕ). p ≡ failed) peers → retryTarget peers failed ≡ failed
-unfolding retryTarget
+target-again : (peers : List ℕ) (failed : ℕ) → All (λ (p : ℕ). p ≡ failed) peers → firstOther peers failed ≡ failed
+unfolding firstOther
 target-again [] failed all = refl
 target-again (p ∷ peers) failed all = rw (eq-eqb p failed (all .0)) (target-again peers failed (all .1))
 
-pub goes-to-only : {peers : List ℕ} {failed target : ℕ} → GoesTo peers failed target → target ≡ retryTarget peers failed
+pub goes-to-only : {peers : List ℕ} {failed target : ℕ} → GoesTo peers failed target → target ≡ firstOther peers failed
 goes-to-only {failed = failed} (another peer passed rest split all other) =
     rw (split, target-behind passed (peer ∷ rest) failed all, target-other peer failed rest other)
 goes-to-only {peers = peers} {failed = failed} (again all) = sym (target-again peers failed all)

@@ -15,7 +15,7 @@ use Rattle.model.specs.Book.{Requested, requestedIn}
 use Rattle.model.specs.Promises.Numbers
 use Rattle.model.specs.Promises.Words.{Seen, ids, peers, stored, view, Among, First, LeftOf}
 use Rattle.model.specs.Promises.Outcomes.{NothingAhead}
-use Rattle.model.specs.Promises.Pending.{GoesTo, Retried, TakenOut}
+use Rattle.model.specs.Promises.Pending.{Turns, Retried, TakenOut}
 
 -- ---- all that a step asks for, in the order in which it is sent: id, type, peer
 
@@ -142,7 +142,7 @@ pub record AsksOrphans (s : Seen) (peer : ℕ) : Type 0 where
 -- it goes to this peer again, under this type
 pub record GoesAgain (s : Seen) (peer typeId : ℕ) (r : Request) : Type 0 where
   pub retried : Retried s r
-  pub to : GoesTo (peers s) (r .peer) peer
+  pub to : Turns s (r .peer) peer
   pub typed : r .typeId ≡ typeId
 
 -- "by target, then type"

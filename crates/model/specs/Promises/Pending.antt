@@ -10,14 +10,25 @@ use Rattle.model.specs.Delivery.{Request}
 use Rattle.model.specs.State.{syncing}
 use Rattle.model.specs.Book.{Requested, requestedIn}
 use Rattle.model.specs.Promises.Numbers
-use Rattle.model.specs.Promises.Words.{Seen, ids, peers, Among}
+use Rattle.model.specs.Promises.Words.{Seen, ids, peers, Among, LeftOf}
 
--- Rule 6: "a retry goes to the first listed peer other than the failed one, else to the failed one"
+-- F-2: "Consider the listed peers not stalled, or all listed ones when every one is stalled."
+pub data Considers (stalledPeers listed : List ℕ) : List ℕ → Type 0 where
+  unstalled : (left : List ℕ) → LeftOf (λ (p : ℕ). Among p stalledPeers) listed left → (left ≡ [] → ⊥) → Considers stalledPeers listed left
+  every : All (λ (p : ℕ). Among p stalledPeers) listed → Considers stalledPeers listed listed
+
+-- "Take the first of these other than the failed peer; if there is none, the failed peer."
 pub data GoesTo (listed : List ℕ) (failed : ℕ) : ℕ → Type 0 where
   another :
       (peer : ℕ) (passed rest : List ℕ) → listed ≡ passed ++ (peer ∷ rest) → All (λ (p : ℕ). p ≡ failed) passed → (peer ≡ failed → ⊥)
       → GoesTo listed failed peer
   again : All (λ (p : ℕ). p ≡ failed) listed → GoesTo listed failed failed
+
+-- a retry goes to this peer: the stalled set is the one before the step
+pub record Turns (s : Seen) (failed peer : ℕ) : Type 0 where
+  pub considered : List ℕ
+  pub considers : Considers (s .before .sync .stalledPeers) (peers s) considered
+  pub to : GoesTo considered failed peer
 
 -- ---- what a check makes of a request
 
@@ -66,7 +77,7 @@ restartedAt s r peer = record { id = r .id; typeId = r .typeId; peer = peer; sta
 -- What a request that stays is after the step.
 pub data Becomes (s : Seen) (r : Request) : Request → Type 0 where
   asItWas : (Retried s r → ⊥) → Becomes s r r
-  movedOn : (peer : ℕ) → Retried s r → s .call .gate ≡ 1 → GoesTo (peers s) (r .peer) peer → Becomes s r (restartedAt s r peer)
+  movedOn : (peer : ℕ) → Retried s r → s .call .gate ≡ 1 → Turns s (r .peer) peer → Becomes s r (restartedAt s r peer)
   -- "Gate shut: clocks and checks still move, peer and sends don't."
   heldBack : Retried s r → s .call .gate ≡ 0 → Becomes s r (restartedAt s r (r .peer))
 
