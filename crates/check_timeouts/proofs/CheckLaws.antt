@@ -19,7 +19,6 @@ use Rattle.table.proofs.EditLaws.{cut-down}
 use Rattle.model.specs.Settings.{Settings}
 use Rattle.model.specs.Delivery.{Request, Verdict, waiting, retried, abandoned, forgotten, verdict, judged, checkTimeouts}
 use Rattle.model.specs.Image.{requestOf, requestBytes}
-use Rattle.model.specs.Check.{retryTarget}
 use Rattle.model.proofs.RecordLaws.{bytes-of-request, ids-rise}
 use Rattle.commands.specs.Pending.{requestsIn, holding}
 use Rattle.check_timeouts.specs.Checked.{pendingAfterCheck, checkedAs, retriedPlaces}
@@ -249,18 +248,18 @@ module _ {settings : Settings} {clock : ℕ} {target : ℕ → ℕ} {count : ℕ
 pub ends : {settings : Settings} {clock : ℕ} {target : ℕ → ℕ} {count : ℕ} {d noted t y places : List ℕ} {s : Checked} {i : ℕ}
     → Checking settings clock target count d noted t places s i → count ≤ i → count * recordSize ≤ length d
     → rising idSize (entries recordSize count d) ≡ true
-    → (gate : Bool) (peers : List ℕ) → ((failed : ℕ) → target failed ≡ cond gate (retryTarget peers failed) failed)
+    → (gate : Bool) (to : ℕ → ℕ) → ((failed : ℕ) → target failed ≡ cond gate (to failed) failed)
     → y ≡ overwritten (s .pending * recordSize) (zeros ((count - s .pending) * recordSize)) t
     → (s ≡ checkedAs settings clock (requestsIn count d))
-    × ((y ≡ holding count (pendingAfterCheck gate settings clock peers (requestsIn count d)) d)
+    × ((y ≡ holding count (pendingAfterCheck gate settings clock to (requestsIn count d)) d)
     × (take (s .retried) places ≡ retriedPlaces settings clock (requestsIn count d) 0))
 unfolding checkedAs holding
-ends {settings} {clock} {target} {count} {d} {noted} {t} {y} {places} {s} {i} c h l rise gate peers aims q =
+ends {settings} {clock} {target} {count} {d} {noted} {t} {y} {places} {s} {i} c h l rise gate to aims q =
     let rs : List Request = requestsIn count d in
     let e : i ≡ count = omega (arith, c .i-le) in
     let z : drop i (entries recordSize count d) ≡ [] = drop-of-length-le (entries recordSize count d) {i = i} (rw length-entries h) in
-    let after : pendingAfterCheck gate settings clock peers rs ≡ checkedTo settings clock target rs =
-    pending-after settings clock gate peers target aims rs (ids-rise (entries recordSize count d) (rising-ascending 32 (entries recordSize count d) rise)) in
+    let after : pendingAfterCheck gate settings clock to rs ≡ checkedTo settings clock target rs =
+    pending-after settings clock gate to target aims rs (ids-rise (entries recordSize count d) (rising-ascending 32 (entries recordSize count d) rise)) in
     let k : entries recordSize (s .pending) t ≡ map requestBytes (checkedTo settings clock target rs) = rw (z, append-nil) at (c .kept) in
     let cut =
     cut-down recordSize count (s .pending) (map requestBytes (checkedTo settings clock target rs)) d t y (omega (arith, c .pending-le))

@@ -17,36 +17,21 @@ use Rattle.model.specs.Settings.{Settings}
 use Rattle.model.specs.Delivery.{Request, Verdict, waiting, retried, abandoned, forgotten, verdict, judged, verdictNumber, restarted, checkTimeouts, afterVerdict, markRetried, idsOf}
 use Rattle.model.specs.Sections.{Item}
 use Rattle.model.specs.Peers.{firstOf}
-use Rattle.model.specs.Check.{retryTarget, retryOf, retries, markAllRetried}
+use Rattle.model.specs.Check.{retryOf, retries, markAllRetried}
 use Rattle.model.proofs.IdLaws.{not-among-kept}
 use Rattle.model.proofs.Well.{RisingIds}
-use Rattle.check_timeouts.specs.Checked.{aimedAt, pendingAfterCheck}
+use Rattle.check_timeouts.specs.Checked.{pendingAfterCheck}
 use Rattle.check_timeouts.specs.Turn.{restartedTo}
-use Rattle.check_timeouts.specs.declared.check.Aim.the-variants.{Same, Other}
+use Rattle.peers.specs.Aims.{aimedAt}
+use Rattle.peers.specs.declared.aim.Aim.the-variants.{Same}
 
 -- ---- the aim
 
-pub aim-shut : (peers : List ℕ) (gate : Bool) → gate ≡ false → (failed : ℕ) → aimedAt Same failed ≡ cond gate (retryTarget peers failed) failed
-aim-shut peers gate e failed = rw e
+pub aim-shut : (target : ℕ → ℕ) (gate : Bool) → gate ≡ false → (failed : ℕ) → aimedAt Same failed ≡ cond gate (target failed) failed
+aim-shut target gate e failed = rw e
 
-pub aim-nobody : (peers : List ℕ) (gate : Bool) → none ≡ firstOf peers → (failed : ℕ)
-    → aimedAt Same failed ≡ cond gate (retryTarget peers failed) failed
-unfolding retryTarget
-aim-nobody [] true e failed = refl
-aim-nobody [] false e failed = refl
-aim-nobody (peer ∷ peers) gate e failed = let z : _≡_ {A = ℕ} 0 1 = cc in absurd (lt-irrefl 0 (omega arith))
-
-pub aim-other : (peers : List ℕ) (gate : Bool) {first other : ℕ} → gate ≡ true → some first ≡ firstOf peers → other ≡ retryTarget peers first
-    → (failed : ℕ) → aimedAt (Other first other) failed ≡ cond gate (retryTarget peers failed) failed
-unfolding retryTarget
-aim-other [] gate g e o failed = let z : _≡_ {A = ℕ} 0 1 = cc in absurd (lt-irrefl 0 (omega arith))
-aim-other (peer ∷ peers) gate {first} g e o failed =
-    let s : first ≡ peer = cc in
-    rw (g, o, s, eq-eqb peer peer refl) (go (eqb failed peer) refl)
-  where
-    go : (t : Bool) → eqb failed peer ≡ t → cond t (retryTarget peers peer) peer ≡ cond (eqb peer failed) (retryTarget peers failed) peer
-    go true q = let s : failed ≡ peer = eqb-true failed peer q in rw (s, eq-eqb peer peer refl)
-    go false q = rw (ne-eqb peer failed (λ s. eqb-false failed peer q (sym s)))
+pub aim-open : (target : ℕ → ℕ) (gate : Bool) → gate ≡ true → (failed : ℕ) → target failed ≡ cond gate (target failed) failed
+aim-open target gate e failed = rw e
 
 -- ---- marking
 
@@ -71,10 +56,10 @@ unfolding isAmong
 not-among-later id [] h = refl
 not-among-later id (other ∷ ids) h = rw (before-not-same id other (h .0), not-among-later id ids (h .1))
 
-retry-ids : (peers : List ℕ) (rs : List Request) → map (λ (i : Item). i .id) (map (retryOf peers) rs) ≡ idsOf rs
+retry-ids : (to : ℕ → ℕ) (rs : List Request) → map (λ (i : Item). i .id) (map (retryOf to) rs) ≡ idsOf rs
 unfolding retryOf
-retry-ids peers [] = refl
-retry-ids peers (r ∷ rs) = ap (λ (ids : List Id). r .id ∷ ids) (retry-ids peers rs)
+retry-ids to [] = refl
+retry-ids to (r ∷ rs) = ap (λ (ids : List Id). r .id ∷ ids) (retry-ids to rs)
 
 -- what stays of a request, with the requests behind it
 abbrev pub staysTo : ℕ → (ℕ → ℕ) → Verdict → Request → List Request → List Request
@@ -137,33 +122,33 @@ module _ (settings : Settings) (clock : ℕ) where
       go abandoned s e = e
       go forgotten s e = e
 
-  marked-checked : (peers : List ℕ) (rs : List Request) → RisingIds (idsOf rs)
-      → markAllRetried (map (retryOf peers) (judged settings clock retried rs)) (checkTimeouts settings clock rs) ≡ checkedTo (retryTarget peers) rs
+  marked-checked : (to : ℕ → ℕ) (rs : List Request) → RisingIds (idsOf rs)
+      → markAllRetried (map (retryOf to) (judged settings clock retried rs)) (checkTimeouts settings clock rs) ≡ checkedTo to rs
   unfolding judged retryOf restartedTo restarted
-  marked-checked peers [] h = refl
-  marked-checked peers (r ∷ rs) h =
+  marked-checked to [] h = refl
+  marked-checked to (r ∷ rs) h =
       let n : isAmong (r .id) (idsOf rs) ≡ false = not-among-later (r .id) (idsOf rs) (h .0) in
-      let j : isAmong (r .id) (map (λ (i : Item). i .id) (map (retryOf peers) (judged settings clock retried rs))) ≡ false =
-      rw (retry-ids peers (judged settings clock retried rs))
+      let j : isAmong (r .id) (map (λ (i : Item). i .id) (map (retryOf to) (judged settings clock retried rs))) ≡ false =
+      rw (retry-ids to (judged settings clock retried rs))
       (not-among-kept (λ (q : Request). q .id) (λ (q : Request). eqb (verdictNumber (verdict settings clock q)) 1) (r .id) rs n) in
-      go (verdict settings clock r) refl (not-among-checked (r .id) rs n) j (marked-checked peers rs (h .1))
+      go (verdict settings clock r) refl (not-among-checked (r .id) rs n) j (marked-checked to rs (h .1))
     where
       go : (v : Verdict) → verdict settings clock r ≡ v → isAmong (r .id) (idsOf (checkTimeouts settings clock rs)) ≡ false
-          → isAmong (r .id) (map (λ (i : Item). i .id) (map (retryOf peers) (judged settings clock retried rs))) ≡ false
-          → markAllRetried (map (retryOf peers) (judged settings clock retried rs)) (checkTimeouts settings clock rs) ≡ checkedTo (retryTarget peers) rs
-          → markAllRetried (map (retryOf peers) (judged settings clock retried (r ∷ rs))) (checkTimeouts settings clock (r ∷ rs))
-          ≡ checkedTo (retryTarget peers) (r ∷ rs)
-      go waiting e c j q = rw e (mark-past (map (retryOf peers) (judged settings clock retried rs)) r (checkTimeouts settings clock rs) j ∙ rw q)
+          → isAmong (r .id) (map (λ (i : Item). i .id) (map (retryOf to) (judged settings clock retried rs))) ≡ false
+          → markAllRetried (map (retryOf to) (judged settings clock retried rs)) (checkTimeouts settings clock rs) ≡ checkedTo to rs
+          → markAllRetried (map (retryOf to) (judged settings clock retried (r ∷ rs))) (checkTimeouts settings clock (r ∷ rs))
+          ≡ checkedTo to (r ∷ rs)
+      go waiting e c j q = rw e (mark-past (map (retryOf to) (judged settings clock retried rs)) r (checkTimeouts settings clock rs) j ∙ rw q)
       go retried e c j q =
-          rw (e, same-refl (r .id), mark-none (retryTarget peers (r .peer)) (r .id) (checkTimeouts settings clock rs) c)
-          (mark-past (map (retryOf peers) (judged settings clock retried rs)) (restartedTo clock (retryTarget peers) r) (checkTimeouts settings clock rs) j
+          rw (e, same-refl (r .id), mark-none (to (r .peer)) (r .id) (checkTimeouts settings clock rs) c)
+          (mark-past (map (retryOf to) (judged settings clock retried rs)) (restartedTo clock to r) (checkTimeouts settings clock rs) j
           ∙ rw q)
       go abandoned e c j q = rw e q
       go forgotten e c j q = rw e q
 
-  pub pending-after : (gate : Bool) (peers : List ℕ) (target : ℕ → ℕ)
-      → ((failed : ℕ) → target failed ≡ cond gate (retryTarget peers failed) failed)
-      → (rs : List Request) → RisingIds (idsOf rs) → pendingAfterCheck gate settings clock peers rs ≡ checkedTo target rs
+  pub pending-after : (gate : Bool) (to target : ℕ → ℕ)
+      → ((failed : ℕ) → target failed ≡ cond gate (to failed) failed)
+      → (rs : List Request) → RisingIds (idsOf rs) → pendingAfterCheck gate settings clock to rs ≡ checkedTo target rs
   unfolding pendingAfterCheck retries
-  pending-after true peers target e rs h = marked-checked peers rs h ∙ sym (checked-alike target (retryTarget peers) e rs)
-  pending-after false peers target e rs h = sym (checked-same rs) ∙ sym (checked-alike target (λ failed. failed) e rs)
+  pending-after true to target e rs h = marked-checked to rs h ∙ sym (checked-alike target to e rs)
+  pending-after false to target e rs h = sym (checked-same rs) ∙ sym (checked-alike target (λ failed. failed) e rs)

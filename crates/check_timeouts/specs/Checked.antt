@@ -7,20 +7,12 @@ use lib.Dec.{eqb}
 use Rattle.model.specs.Settings.{Settings}
 use Rattle.model.specs.Delivery.{Request, Verdict, waiting, retried, abandoned, forgotten, verdict, judged, checkTimeouts}
 use Rattle.model.specs.Check.{retries, markAllRetried}
-use Rattle.check_timeouts.specs.declared.check.Aim.{Aim}
-use Rattle.check_timeouts.specs.declared.check.Aim.the-variants.{Same, Other}
 use Rattle.check_timeouts.specs.declared.check.Checked.{Checked}
 
--- With a gate open and a peer listed there are at most two targets: the first listed peer, and for what failed there the first
--- other one. Else each retry stays with its peer.
-abbrev pub aimedAt : Aim → ℕ → ℕ
-aimedAt Same failed = failed
-aimedAt (Other first other) failed = cond (eqb failed first) other first
-
 -- the pending requests after rule 6's check and the marking of its retries
-unfoldable pub pendingAfterCheck : Bool → Settings → ℕ → List ℕ → List Request → List Request
-pendingAfterCheck gate settings clock peers pending =
-    markAllRetried (retries gate settings clock peers pending) (checkTimeouts settings clock pending)
+unfoldable pub pendingAfterCheck : Bool → Settings → ℕ → (ℕ → ℕ) → List Request → List Request
+pendingAfterCheck gate settings clock target pending =
+    markAllRetried (retries gate settings clock target pending) (checkTimeouts settings clock pending)
 
 unfoldable pub checkedAs : Settings → ℕ → List Request → Checked
 checkedAs settings clock pending =

@@ -6,26 +6,19 @@ ghost use lib.ListN.{length, take};
 ghost use Rattle.fields.specs.Facts.{All};
 ghost use Rattle.fields.specs.Entries.{entries, entry, rising};
 ghost use Rattle.fields.specs.Overwrite.{overwritten};
-ghost use Rattle.model.specs.Check.{retryTarget};
 ghost use Rattle.model.specs.Image.{requestOf, requestBytes};
-ghost use Rattle.model.specs.Lists.{peersIn};
 ghost use Rattle.model.specs.Delivery.{Request, verdict, restarted, withPeer, markRetried};
+ghost use Rattle.peers.specs.Aims.{aimedAt};
 ghost use Rattle.settings.specs.Values.{settingsOf};
 ghost use Rattle.commands.specs.Pending.{requestsIn, holding};
-ghost use Rattle.check_timeouts.specs.Checked.{aimedAt, pendingAfterCheck, checkedAs, retriedPlaces};
+ghost use Rattle.check_timeouts.specs.Checked.{pendingAfterCheck, checkedAs, retriedPlaces};
 ghost use Rattle.check_timeouts.specs.Turn.{verdictOf, restartedTo, tableAfter, placesAfter, countsAfter};
 ghost use Rattle.model.specs.Layout.{idSize, recordSize};
 ghost use Rattle.model.specs.Protocol.{trackedLimit};
 use model::layout::ID_SIZE;
 use model::layout::RECORD_SIZE;
-use peers::Listed;
+use peers::aim::Aim;
 use settings::Settings;
-
-// Where retries go: to their own peer, or to the first listed peer and, for what failed there, to the first other.
-pub enum Aim {
-    Same,
-    Other(u64, u64),
-}
 
 pub struct Checked {
     pub pending: usize,
@@ -42,17 +35,14 @@ enum Verdict {
     Forgotten,
 }
 
-// The targets, worked out once for all retries.
-pub fn retry_aim(peers: &[u8], gate: bool) -> Aim
-    ensures { λ r. ⌜ ((failed : ℕ) → aimedAt r failed ≡ cond gate (retryTarget (peersIn (now (peers .entry))) failed) failed) ⌝ }
+// Behind a shut gate each retry stays with its peer.
+fn by_gate(aim: Aim, gate: bool) -> Aim
+    ensures { λ r. ⌜ ((failed : ℕ) → aimedAt r failed ≡ cond gate (aimedAt aim failed) failed) ⌝ }
 {
     if !gate {
         return Aim::Same;
     }
-    match peers::first_listed(peers) {
-        Listed::Peer(first) => Aim::Other(first, peers::retry_target(peers, first)),
-        Listed::Nobody => Aim::Same,
-    }
+    aim
 }
 
 // Where a retry of what this peer failed goes.
@@ -187,7 +177,7 @@ pub fn check_timeouts(
     settings: Settings,
     clock: u64,
     gate: bool,
-    peers: &[u8],
+    aim: Aim,
     places: &mut [u16],
 ) -> Checked
     requires { ⌜ (count ≤ trackedLimit) × ((count * recordSize ≤ length (now table)) × (count ≤ length (now places))) ⌝ }
@@ -195,10 +185,10 @@ pub fn check_timeouts(
     requires { ⌜ All (λ (r : Request). r .stamp ≤ clock) (requestsIn count (now table)) ⌝ }
     requires { ⌜ All (λ (r : Request). r .checks + 1 < 2 ^ 32) (requestsIn count (now table)) ⌝ }
     ensures { λ r. ⌜ r ≡ checkedAs (settingsOf settings) clock (requestsIn count (now (table .entry))) ⌝ }
-    ensures { λ _. ⌜ now (table .exit) ≡ holding count (pendingAfterCheck gate (settingsOf settings) clock (peersIn (now (peers .entry))) (requestsIn count (now (table .entry)))) (now (table .entry)) ⌝ }
+    ensures { λ _. ⌜ now (table .exit) ≡ holding count (pendingAfterCheck gate (settingsOf settings) clock (aimedAt aim) (requestsIn count (now (table .entry)))) (now (table .entry)) ⌝ }
     ensures { λ r. ⌜ take (r .retried) (now (places .exit)) ≡ retriedPlaces (settingsOf settings) clock (requestsIn count (now (table .entry))) 0 ⌝ }
 {
-    let aim = retry_aim(peers, gate);
+    let to = by_gate(aim, gate);
     let mut counts = Checked {
         pending: 0,
         retried: 0,
@@ -207,7 +197,7 @@ pub fn check_timeouts(
     };
     let mut i = 0;
     while i < count {
-        counts = turn(table, i, settings, clock, aim, places, counts);
+        counts = turn(table, i, settings, clock, to, places, counts);
         i += 1;
     }
     let left = counts.pending;

@@ -264,13 +264,13 @@ module _ {keeper : Keeper} {table : List ℕ} {clock : ℕ} (t : InTime keeper t
     unfolding checkRow judgedCount keepingIn checkedAs
     row-is = rw em
 
-    checked-says : (peers : List ℕ) (at end : ℕ) (table′ : List ℕ)
-        → table′ ≡ holding (keeper .count) (pendingAfterCheck false (settingsOf (keeper .settings)) clock peers (requestsIn (keeper .count) table)) table
+    checked-says : (target : ℕ → ℕ) (at end : ℕ) (table′ : List ℕ)
+        → table′ ≡ holding (keeper .count) (pendingAfterCheck false (settingsOf (keeper .settings)) clock target (requestsIn (keeper .count) table)) table
         → end ≡ at + length (rowOf clock made)
         → Says (answered (keepingIn keeper table) (line.Check clock)) at (keeper .count) table
         (answer.Next (record { begun = true; settings = keeper .settings; clock = clock; count = made .pending }) end) table′
     unfolding checked afterCheck keepingIn settingsOf pendingAfterCheck retries checkedAs
-    checked-says peers at end table′ et ee =
+    checked-says target at end table′ et ee =
         let held : table′ ≡ holding (keeper .count) (checked .pending) table = et in
         says-goes _ checked (checkRow (keepingIn keeper table) clock) at (keeper .count) table _ end table′
         (check-goes (keepingIn keeper table) clock (in-order t))
@@ -280,13 +280,13 @@ module _ {keeper : Keeper} {table : List ℕ} {clock : ℕ} (t : InTime keeper t
         (holds-next (t .kept) checked-good held)
 
     -- the table checked, and the row put
-    pub checks : (peers : List ℕ) (at end : ℕ) (table′ out out′ : List ℕ)
-        → table′ ≡ holding (keeper .count) (pendingAfterCheck false (settingsOf (keeper .settings)) clock peers (requestsIn (keeper .count) table)) table
+    pub checks : (target : ℕ → ℕ) (at end : ℕ) (table′ out out′ : List ℕ)
+        → table′ ≡ holding (keeper .count) (pendingAfterCheck false (settingsOf (keeper .settings)) clock target (requestsIn (keeper .count) table)) table
         → (out′ ≡ overwritten at (rowOf clock made) out) × (end ≡ at + length (rowOf clock made))
         → Told (answered (keepingIn keeper table) (line.Check clock)) at (keeper .count) table out
         (answer.Next (record { begun = true; settings = keeper .settings; clock = clock; count = made .pending }) end) table′ out′
-    checks peers at end table′ out out′ et put =
-        let says = checked-says peers at end table′ et (put .1) in
+    checks target at end table′ out out′ et put =
+        let says = checked-says target at end table′ et (put .1) in
         let bytes = put .0 ∙ ap (λ (x : List ℕ). overwritten at x out) row-is in
         let goes-on = check-goes (keepingIn keeper table) clock (in-order t) in
         (says .0, (says .1 .0, (bytes ∙ ap (λ (x : Step). overwritten at (bytesOf x) out) (sym goes-on), says .1 .1)))

@@ -14,6 +14,7 @@ ghost use Rattle.keeper_text.specs.Keeping.{timed, atFirst, answered};
 ghost use Rattle.keeper_text.specs.Kept.{keepingIn, valuesOf, keeperOf, Kept, answerAs, bytesOf, tableAfter, Holds};
 use keeper_lines::lines::Line;
 use model::layout::TRACKED_LIMIT;
+use peers::aim::Aim;
 use request_announced::request::Requested;
 use settings::Settings;
 
@@ -159,7 +160,7 @@ fn check(table: &mut [u8], keeper: Keeper, clock: u64, out: &mut [u8], at: usize
         settings,
         clock,
         false,
-        b"",
+        Aim::Same,
         &mut places,
     );
     let end = keeper_lines::rows::put_row(

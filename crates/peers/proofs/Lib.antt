@@ -1,2 +1,3 @@
 pub mod StalledLaws
 pub mod PeerLaws
+pub mod AimLaws

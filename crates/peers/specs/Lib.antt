@@ -1,2 +1,3 @@
 pub mod Stalled
 pub mod Peers
+pub mod Aims

@@ -3,13 +3,15 @@
 // First listed peer, retry target (rule 6) and selected peer (rule 1) equal their definitions in model/specs/Peers.antt and
 // Check.antt. The set goes by value; only `write_stalled` writes, the 2,048 bytes of its places. Selecting costs a pass
 // over the set for each listed peer up to the one chosen.
+pub mod aim;
 pub mod stalled;
 
 ghost use mathlib.Core.Path.{_≡_};
-ghost use mathlib.Core.Bool.{not};
+ghost use mathlib.Core.Bool.{not, _&&_};
+ghost use lib.Dec.{eqb};
 ghost use Prim.Native.Nat.{_≤_};
 ghost use Rattle.model.specs.Peers as model;
-ghost use Rattle.model.specs.Check.{retryTarget};
+ghost use Rattle.model.specs.Check.{firstOther, retryTarget};
 ghost use Rattle.model.specs.Lists.{peersIn};
 ghost use Rattle.peers.specs.Stalled.{stalledPeers};
 ghost use Rattle.peers.specs.Peers.{listedPeer};
@@ -30,9 +32,9 @@ pub fn first_listed(peers: &[u8]) -> Listed
     Listed::Peer(fields::read_u64(peers, 0))
 }
 
-// Where a timed-out request goes next (rule 6): the first listed peer other than the failed one, else the failed one.
-pub fn retry_target(peers: &[u8], failed: u64) -> u64
-    ensures { λ r. ⌜ r ≡ retryTarget (peersIn (now (peers .entry))) failed ⌝ }
+// The first listed peer other than the failed one, else the failed one.
+fn first_other(peers: &[u8], failed: u64) -> u64
+    ensures { λ r. ⌜ r ≡ firstOther (peersIn (now (peers .entry))) failed ⌝ }
 {
     let count = peers.len() / 8;
     let mut i = 0;
@@ -83,4 +85,44 @@ pub fn all_stalled(stalled: Stalled, peers: &[u8]) -> bool
         return true;
     };
     false
+}
+
+// Whether a peer has not stalled and is not the failed one.
+fn is_free_other(stalled: Stalled, peer: u64, failed: u64) -> bool
+    requires { ⌜ stalled .count ≤ 256 ⌝ }
+    ensures { λ r. ⌜ r ≡ not (model.isListed peer (stalledPeers stalled)) && not (eqb peer failed) ⌝ }
+{
+    if stalled.contains(peer) {
+        return false;
+    }
+    peer != failed
+}
+
+// The first such listed peer, else the failed one.
+fn first_free_other(stalled: Stalled, peers: &[u8], failed: u64) -> u64
+    requires { ⌜ stalled .count ≤ 256 ⌝ }
+    ensures { λ r. ⌜ r ≡ firstOther (model.unstalled (stalledPeers stalled) (peersIn (now (peers .entry)))) failed ⌝ }
+{
+    let count = peers.len() / 8;
+    let mut i = 0;
+    while i < count {
+        let peer = fields::read_u64(peers, i * 8);
+        if is_free_other(stalled, peer, failed) {
+            return peer;
+        }
+        i += 1;
+    }
+    failed
+}
+
+// Where a timed-out request goes next (F-2): of the listed peers that have not stalled, or of all if all have, the first other
+// than the failed one, else the failed one.
+pub fn retry_target(stalled: Stalled, peers: &[u8], failed: u64) -> u64
+    requires { ⌜ stalled .count ≤ 256 ⌝ }
+    ensures { λ r. ⌜ r ≡ retryTarget (stalledPeers stalled) (peersIn (now (peers .entry))) failed ⌝ }
+{
+    if all_stalled(stalled, peers) {
+        return first_other(peers, failed);
+    }
+    first_free_other(stalled, peers, failed)
 }

@@ -9,7 +9,7 @@ use lib.Dec.{eqb}
 use Rattle.model.specs.State.{State, isMode, seeking, syncing, ended}
 use Rattle.model.specs.Settings as settings
 use Rattle.model.specs.Events as events
-use Rattle.model.specs.Check.{retries}
+use Rattle.model.specs.Check.{retryTarget, retries}
 use Rattle.model.specs.Requests.{ask}
 use Rattle.model.specs.Peers.{firstOf, selectPeer}
 use Rattle.model.specs.Lists.{idsIn, peersIn, pairsIn}
@@ -17,10 +17,14 @@ use Rattle.model.specs.Steps as steps
 use Rattle.model.specs.Steps.{Step, isCheck, planOf, remaining}
 use Rattle.model.specs.Calls.{Call, stepOf, argsOf}
 use Rattle.peers.specs.Peers.{listedPeer}
+use Rattle.peers.specs.Aims.{aimedAt}
+use Rattle.peers.specs.declared.aim.Aim.{Aim}
 use Rattle.plan.specs.declared.Plan.{Plan}
 use Rattle.plan.specs.declared.Work.{Work}
 use Rattle.plan.specs.declared.Work.the-variants.{Nothing, Ids, Sections, Received, Evicted, Purge, PurgeSections, Lose, LoseAsk, Check, CheckFresh}
-use Rattle.plan.specs.Plans.{Follows, isQuiet, isCheckBy, remainingBy, retriedBy, evictedBy, sketchIn, sketchOf, headBy, sectionsWork, checkWork, loseWork}
+use Rattle.plan.specs.Plans.{Follows, isQuiet, isCheckBy, aimBy, remainingBy, retriedBy, evictedBy, sketchIn, sketchOf, headBy}
+use Rattle.plan.specs.Plans.{sectionsWork, checkWork, loseWork}
+use Rattle.plan.proofs.AimedLaws.{retries-alike}
 use Rattle.plan.proofs.KindLaws.{last-kind}
 use Rattle.plan.proofs.KeptLaws.{Kept, picks-kept, sync-info-kept, announced-kept, loses-kept, progresses-kept, tick-kept}
 
@@ -36,8 +40,8 @@ module _ (st : State) (c : Call) where
   quiet-remaining (PurgeSections peer) q = absurd (false≢true q)
   quiet-remaining Lose q = absurd (false≢true q)
   quiet-remaining (LoseAsk peer) q = absurd (false≢true q)
-  quiet-remaining Check q = absurd (false≢true q)
-  quiet-remaining (CheckFresh peer) q = absurd (false≢true q)
+  quiet-remaining (Check aim) q = absurd (false≢true q)
+  quiet-remaining (CheckFresh peer aim) q = absurd (false≢true q)
 
   quiet-evicted : (w : Work) → isQuiet w ≡ true → evictedBy st c w ≡ st .sync .evicted
   quiet-evicted Nothing q = refl
@@ -49,8 +53,8 @@ module _ (st : State) (c : Call) where
   quiet-evicted (PurgeSections peer) q = absurd (false≢true q)
   quiet-evicted Lose q = absurd (false≢true q)
   quiet-evicted (LoseAsk peer) q = absurd (false≢true q)
-  quiet-evicted Check q = absurd (false≢true q)
-  quiet-evicted (CheckFresh peer) q = absurd (false≢true q)
+  quiet-evicted (Check aim) q = absurd (false≢true q)
+  quiet-evicted (CheckFresh peer aim) q = absurd (false≢true q)
 
   quiet-check : (w : Work) → isQuiet w ≡ true → isCheckBy w ≡ false
   quiet-check Nothing q = refl
@@ -62,22 +66,30 @@ module _ (st : State) (c : Call) where
   quiet-check (PurgeSections peer) q = refl
   quiet-check Lose q = refl
   quiet-check (LoseAsk peer) q = refl
-  quiet-check Check q = absurd (false≢true q)
-  quiet-check (CheckFresh peer) q = absurd (false≢true q)
+  quiet-check (Check aim) q = absurd (false≢true q)
+  quiet-check (CheckFresh peer aim) q = absurd (false≢true q)
+
+  -- where rule 6 sends a retry of what this peer failed
+  abbrev target : ℕ → ℕ
+  target = retryTarget (st .sync .stalledPeers) (peersIn (c .peers))
 
   module _ (p : Plan) (s : Step) (e : stepOf c ≡ s) (k : sketchIn st c p ≡ sketchOf st c (planOf st (argsOf c) s)) where
     pub follows : remainingBy st c (p .work) ≡ remaining st (argsOf c) s
         → evictedBy st c (p .work) ≡ planOf st (argsOf c) s .sync .evicted
         → isCheckBy (p .work) ≡ isCheck s
         → (isCheckBy (p .work) ≡ true → listedPeer (p .announces) ≡ none)
+        → (isCheckBy (p .work) ≡ true → (failed : ℕ) → aimedAt (aimBy (p .work)) failed ≡ target failed)
         → Follows st c p
     unfolding steps.plan steps.retried argsOf retriedBy
-    follows r v q a =
+    follows r v q a t =
+        let gate : Bool = eqb (c .gate) 1 in
         let same : isCheckBy (p .work) ≡ isCheck (stepOf c) = q ∙ ap isCheck (sym e) in
         record {
           sketch = k ∙ ap (λ (x : Step). sketchOf st c (planOf st (argsOf c) x)) (sym e);
           remaining = r ∙ ap (λ (x : Step). remaining st (argsOf c) x) (sym e);
-          retried = ap (λ (t : Bool). cond t (retries (eqb (c .gate) 1) (st .settings) (c .clock) (peersIn (c .peers)) (st .pending)) []) same;
+          retried =
+              retries-alike (aimedAt (aimBy (p .work))) target (isCheckBy (p .work)) gate (st .settings) (c .clock) (st .pending) t
+              ∙ ap (λ (check : Bool). cond check (retries gate (st .settings) (c .clock) target (st .pending)) []) same;
           evicted = v ∙ ap (λ (x : Step). planOf st (argsOf c) x .sync .evicted) (sym e);
           check = same;
           apart = a;
@@ -89,7 +101,7 @@ module _ (st : State) (c : Call) where
         → isCheckBy (p .work) ≡ false
         → isCheck s ≡ false
         → Follows st c p
-    follows-on r v q n = follows r v (q ∙ sym n) (λ y. absurd (false≢true (sym q ∙ y)))
+    follows-on r v q n = follows r v (q ∙ sym n) (λ y. absurd (false≢true (sym q ∙ y))) (λ y. absurd (false≢true (sym q ∙ y)))
 
     -- and that takes nothing out
     follows-quietly :
@@ -185,11 +197,12 @@ module _ (st : State) (c : Call) where
     reorg-follows e none w k = follows-on p (steps.reorg (c .fork)) (rw e) k (rw w) (rw w) (rw w) refl
     reorg-follows e (some peer) w k = follows-on p (steps.reorg (c .fork)) (rw e) k (rw w) (rw w) (rw w) refl
 
-    pub check-follows : c .kind ≡ 12 → (o : Option ℕ) → p .work ≡ checkWork o → listedPeer (p .announces) ≡ none
+    pub check-follows : c .kind ≡ 12 → (aim : Aim) → ((failed : ℕ) → aimedAt aim failed ≡ target failed)
+        → (o : Option ℕ) → p .work ≡ checkWork aim o → listedPeer (p .announces) ≡ none
         → sketchIn st c p ≡ sketchOf st c (steps.checks st (argsOf c) (isMode (st .mode) syncing)) → Follows st c p
     unfolding stepOf planOf remaining steps.checks argsOf
-    check-follows e none w a k = follows p steps.check (rw e) k (rw w) (rw w) (rw w) (λ y. a)
-    check-follows e (some peer) w a k = follows p steps.check (rw e) k (rw w) (rw w) (rw w) (λ y. a)
+    check-follows e aim t none w a k = follows p steps.check (rw e) k (rw w) (rw w) (rw w) (λ y. a) (λ y. rw w t)
+    check-follows e aim t (some peer) w a k = follows p steps.check (rw e) k (rw w) (rw w) (rw w) (λ y. a) (λ y. rw w t)
 
     -- the sync peer in syncing, and any other loss
     pub lost-follows : c .kind ≡ 8 → (o : Option ℕ) (gone : Bool) → gone ≡ (eqb (c .peer) (st .sync .syncPeer) && isMode (st .mode) syncing)

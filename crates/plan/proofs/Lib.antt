@@ -1,3 +1,4 @@
+pub mod AimedLaws
 pub mod CallLaws
 pub mod FollowLaws
 pub mod GivenLaws

@@ -13,10 +13,13 @@ use Rattle.model.specs.Sections.{Item, requestSectionsFrom}
 use Rattle.model.specs.Check.{retries, askFresh}
 use Rattle.model.specs.Events.{outcomeNumber, announce}
 use Rattle.model.specs.Steps as steps
-use Rattle.model.specs.Lists.{idsIn, peersIn, pairsIn, viewOf}
+use Rattle.model.specs.Lists.{idsIn, pairsIn, viewOf}
 use Rattle.model.specs.Calls as calls
 use Rattle.model.specs.Calls.{stepOf, argsOf}
 use Rattle.peers.specs.Peers.{listedPeer}
+use Rattle.peers.specs.Aims.{aimedAt}
+use Rattle.peers.specs.declared.aim.Aim.{Aim}
+use Rattle.peers.specs.declared.aim.Aim.the-variants.{Same}
 use Rattle.image.specs.declared.head.Head.{Head}
 use Rattle.image.specs.Heads.{headOf}
 use Rattle.plan.specs.declared.Call.{Call}
@@ -62,8 +65,22 @@ isCheckBy Purge = false
 isCheckBy (PurgeSections peer) = false
 isCheckBy Lose = false
 isCheckBy (LoseAsk peer) = false
-isCheckBy Check = true
-isCheckBy (CheckFresh peer) = true
+isCheckBy (Check aim) = true
+isCheckBy (CheckFresh peer aim) = true
+
+-- where its retries go
+abbrev pub aimBy : Work → Aim
+aimBy Nothing = Same
+aimBy (Ids peer) = Same
+aimBy (Sections peer) = Same
+aimBy Received = Same
+aimBy Evicted = Same
+aimBy Purge = Same
+aimBy (PurgeSections peer) = Same
+aimBy Lose = Same
+aimBy (LoseAsk peer) = Same
+aimBy (Check aim) = aim
+aimBy (CheckFresh peer aim) = aim
 
 -- takes nothing out of pending
 abbrev pub isQuiet : Work → Bool
@@ -76,8 +93,8 @@ isQuiet Purge = false
 isQuiet (PurgeSections peer) = false
 isQuiet Lose = false
 isQuiet (LoseAsk peer) = false
-isQuiet Check = false
-isQuiet (CheckFresh peer) = false
+isQuiet (Check aim) = false
+isQuiet (CheckFresh peer aim) = false
 
 -- rule 4's work, of the first listed peer if there is one; a reorg purges first
 abbrev pub sectionsWork : Bool → Option ℕ → Work
@@ -86,9 +103,9 @@ sectionsWork false (some peer) = Sections peer
 sectionsWork true none = Purge
 sectionsWork true (some peer) = PurgeSections peer
 
-abbrev pub checkWork : Option ℕ → Work
-checkWork none = Check
-checkWork (some peer) = CheckFresh peer
+abbrev pub checkWork : Aim → Option ℕ → Work
+checkWork aim none = Check aim
+checkWork aim (some peer) = CheckFresh peer aim
 
 abbrev pub loseWork : Option ℕ → Work
 loseWork none = Lose
@@ -123,12 +140,12 @@ module _ (st : State) (c : calls.Call) where
   remainingBy (PurgeSections peer) = purgeAll (st .pending)
   remainingBy Lose = purgePeer (st .sync .syncPeer) (st .pending)
   remainingBy (LoseAsk peer) = purgePeer (st .sync .syncPeer) (st .pending)
-  remainingBy Check = checkTimeouts (st .settings) (c .clock) (st .pending)
-  remainingBy (CheckFresh peer) = checkTimeouts (st .settings) (c .clock) (st .pending)
+  remainingBy (Check aim) = checkTimeouts (st .settings) (c .clock) (st .pending)
+  remainingBy (CheckFresh peer aim) = checkTimeouts (st .settings) (c .clock) (st .pending)
 
   -- what it asks for again
   unfoldable pub retriedBy : Work → List Item
-  retriedBy work = cond (isCheckBy work) (retries (eqb (c .gate) 1) (st .settings) (c .clock) (peersIn (c .peers)) (st .pending)) []
+  retriedBy work = cond (isCheckBy work) (retries (eqb (c .gate) 1) (st .settings) (c .clock) (aimedAt (aimBy work)) (st .pending)) []
 
   -- the evicted ids after it
   abbrev pub evictedBy : Work → List Id
@@ -141,8 +158,8 @@ module _ (st : State) (c : calls.Call) where
   evictedBy (PurgeSections peer) = st .sync .evicted
   evictedBy Lose = st .sync .evicted
   evictedBy (LoseAsk peer) = st .sync .evicted
-  evictedBy Check = []
-  evictedBy (CheckFresh peer) = []
+  evictedBy (Check aim) = []
+  evictedBy (CheckFresh peer aim) = []
 
   -- what it asks for through rule 3; sections from this downloaded height on
   abbrev pub actsBy : ℕ → Work → List Act
@@ -155,8 +172,8 @@ module _ (st : State) (c : calls.Call) where
   actsBy height (PurgeSections peer) = requestSectionsFrom (viewOf (c .view)) (c .height) height (some peer) .acts
   actsBy height Lose = []
   actsBy height (LoseAsk peer) = steps.askOrphans st (argsOf c) (st .sync .syncPeer) (some peer)
-  actsBy height Check = []
-  actsBy height (CheckFresh peer) = askFresh (some peer) (pairsIn (c .stored)) (st .sync .evicted)
+  actsBy height (Check aim) = []
+  actsBy height (CheckFresh peer aim) = askFresh (some peer) (pairsIn (c .stored)) (st .sync .evicted)
 
   abbrev pub stalledBy : Stalling → List ℕ
   stalledBy Stay = st .sync .stalledPeers

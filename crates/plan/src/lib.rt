@@ -9,6 +9,7 @@ pub mod sync_infos;
 
 use image::head::Head;
 use peers::Listed;
+use peers::aim::Aim;
 
 // The numbers of a call.
 pub struct Call {
@@ -39,9 +40,9 @@ pub enum Work {
     // the sync peer is lost, without and with a peer to ask instead
     Lose,
     LoseAsk(u64),
-    // a check, without and with a peer for fresh ids
-    Check,
-    CheckFresh(u64),
+    // a check, its retries by this aim, without and with a peer for fresh ids
+    Check(Aim),
+    CheckFresh(u64, Aim),
 }
 
 pub enum Stalling {

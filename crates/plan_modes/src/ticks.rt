@@ -17,27 +17,28 @@ ghost use Rattle.plan.specs.Plans.{isQuiet, checkWork, loseWork, sketchIn, sket
 ghost use Rattle.plan.specs.declared.Work.the-variants.{Nothing};
 use image::head::Head;
 use peers::Listed;
+use peers::aim::Aim;
 use plan::Plan;
 use plan::Stalling;
 use plan::Work;
 
-// A check's work: with nobody listed, fresh ids are lost.
-fn check_work(peers: &[u8]) -> Work
-    ensures { λ r. ⌜ r ≡ checkWork (firstOf (peersIn (now (peers .entry)))) ⌝ }
+// A check's work: fresh ids go to the first listed peer, stalled or not; with nobody listed they are lost.
+fn check_work(aim: Aim, peers: &[u8]) -> Work
+    ensures { λ r. ⌜ r ≡ checkWork aim (firstOf (peersIn (now (peers .entry)))) ⌝ }
 {
     let Listed::Peer(peer) = peers::first_listed(peers) else {
-        return Work::Check;
+        return Work::Check(aim);
     };
-    Work::CheckFresh(peer)
+    Work::CheckFresh(peer, aim)
 }
 
-// A check in syncing also runs rule 5.
-pub fn checks(head: Head, clock: u64, peers: &[u8], view: &[u8], height: u32) -> Plan
+// A check, its retries by this aim. In syncing it also runs rule 5.
+pub fn checks(head: Head, clock: u64, aim: Aim, peers: &[u8], view: &[u8], height: u32) -> Plan
     requires { ⌜ viewFits (now view) ≡ true ⌝ }
-    ensures { λ r. ⌜ (r .work ≡ checkWork (firstOf (peersIn (now (peers .entry))))) × (r .announces ≡ Nobody) ⌝ }
+    ensures { λ r. ⌜ (r .work ≡ checkWork aim (firstOf (peersIn (now (peers .entry))))) × (r .announces ≡ Nobody) ⌝ }
     ensures { λ r. ⌜ ((st : State) (c : calls.Call) → headOf st ≡ head → c .clock ≡ clock → c .height ≡ height → c .peers ≡ now (peers .entry) → c .view ≡ now (view .entry) → sketchIn st c r ≡ sketchOf st c (steps.checks st (argsOf c) (isMode (st .mode) syncing))) ⌝ }
 {
-    let work = check_work(peers);
+    let work = check_work(aim, peers);
     let mut after = head;
     after.clock = clock;
     after.sent = false;

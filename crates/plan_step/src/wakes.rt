@@ -52,6 +52,16 @@ fn scheduled_tick(head: Head, call: Call, places: &[u8], peers: &[u8], view: &[u
     plan_modes::ticks::ticks_synced(head, call.clock, peers, view, call.height)
 }
 
+// A check: the stalled set is read as it is before the step, and says where retries go.
+fn delivery_check(head: Head, call: Call, places: &[u8], peers: &[u8], view: &[u8]) -> Plan
+    requires { ⌜ (viewFits (now view) ≡ true) × ((length (now places) ≡ 2048) × (head .stalled ≤ 256)) ⌝ }
+    ensures { λ r. ⌜ ((st : State) (c : calls.Call) → headOf st ≡ head → numbersOf c ≡ call → c .peers ≡ now (peers .entry) → c .view ≡ now (view .entry) → st .sync .stalledPeers ≡ map fromBe (entries 8 (head .stalled) (now (places .entry))) → c .kind ≡ 12 → Follows st c r) ⌝ }
+{
+    let stalled = peers::stalled::read_stalled(places, head.stalled);
+    let aim = peers::aim::retry_aim(stalled, peers);
+    plan_modes::ticks::checks(head, call.clock, aim, peers, view, call.height)
+}
+
 // Progress, checks and the scheduled tick.
 pub fn timed_step(head: Head, call: Call, places: &[u8], peers: &[u8], view: &[u8]) -> Plan
     requires { ⌜ (viewFits (now view) ≡ true) × (length (now places) ≡ 2048) ⌝ }
@@ -61,7 +71,7 @@ pub fn timed_step(head: Head, call: Call, places: &[u8], peers: &[u8], view: &[u
     let kind = call.kind;
     match kind {
         11 => plan_modes::progress::progresses(head, call.clock, peers, view, call.height),
-        12 => plan_modes::ticks::checks(head, call.clock, peers, view, call.height),
+        12 => delivery_check(head, call, places, peers, view),
         _ => scheduled_tick(head, call, places, peers, view),
     }
 }

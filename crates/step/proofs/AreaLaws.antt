@@ -70,7 +70,7 @@ module _ (area : List ℕ) (l : length area ≡ areaSize) (f : Bytes area) (ok :
       rw (drop-drop (length (drop regionAt area) - evictedCount area * idSize) regionAt area, n)
 
   pub area-given : (call : Call) (ids continuation stored peers view : List ℕ)
-      → Given (headIn area) (drop regionAt area) call ids stored peers view state (callOf call ids continuation stored peers view)
+      → Given (headIn area) (drop regionAt area) call ids stored view state (callOf call ids continuation stored peers view)
   unfolding decode pendingOf headIn callOf numbersOf
   area-given call ids continuation stored peers view =
       record {
@@ -80,7 +80,6 @@ module _ (area : List ℕ) (l : length area ≡ areaSize) (f : Bytes area) (ok :
         numbers = refl;
         itsIds = refl;
         itsStored = refl;
-        itsPeers = refl;
         itsView = refl;
       }
 

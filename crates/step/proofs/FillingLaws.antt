@@ -92,16 +92,16 @@ module _ (st : State) (c : calls.Call) (downloaded : ℕ) where
   stays-few (PurgeSections peer) announces h e one = absurd (false≢true (sym e))
   stays-few Lose announces h e one = omega (arith, length-kept (λ (r : Request). not (eqb (r .peer) (st .sync .syncPeer))) (st .pending))
   stays-few (LoseAsk peer) announces h e one = absurd (false≢true (sym e))
-  stays-few Check announces h e one =
+  stays-few (Check aim) announces h e one =
       omega
-      (arith, length-marked (retriedBy st c Check) (checkTimeouts (st .settings) (c .clock) (st .pending)), checked-few (st .settings) (c .clock) (st .pending))
-  stays-few (CheckFresh peer) announces h e one =
-      let base : List Request = markAllRetried (retriedBy st c (CheckFresh peer)) (checkTimeouts (st .settings) (c .clock) (st .pending)) in
+      (arith, length-marked (retriedBy st c (Check aim)) (checkTimeouts (st .settings) (c .clock) (st .pending)), checked-few (st .settings) (c .clock) (st .pending))
+  stays-few (CheckFresh peer aim) announces h e one =
+      let base : List Request = markAllRetried (retriedBy st c (CheckFresh peer aim)) (checkTimeouts (st .settings) (c .clock) (st .pending)) in
       omega (
         arith,
         asked-few (eqb (c .gate) 1) (c .clock) headerType peer (wanted base headerType (pairsIn (c .stored)) (st .sync .evicted)) base,
         wanted-few base headerType (pairsIn (c .stored)) (st .sync .evicted),
-        length-marked (retriedBy st c (CheckFresh peer)) (checkTimeouts (st .settings) (c .clock) (st .pending)),
+        length-marked (retriedBy st c (CheckFresh peer aim)) (checkTimeouts (st .settings) (c .clock) (st .pending)),
         checked-few (st .settings) (c .clock) (st .pending),
       )
 
@@ -123,5 +123,5 @@ nobody-told Purge announces e one = absurd (false≢true one)
 nobody-told (PurgeSections peer) announces e one = absurd (false≢true one)
 nobody-told Lose announces e one = absurd (false≢true one)
 nobody-told (LoseAsk peer) announces e one = absurd (false≢true one)
-nobody-told Check announces e one = absurd (false≢true one)
-nobody-told (CheckFresh peer) announces e one = absurd (false≢true one)
+nobody-told (Check aim) announces e one = absurd (false≢true one)
+nobody-told (CheckFresh peer aim) announces e one = absurd (false≢true one)

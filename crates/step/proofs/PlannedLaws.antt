@@ -52,7 +52,7 @@ CarryAsks head call lent region out =
 -- what it ensures
 abbrev CarrySays : Head → Plan → Call → Lists → List ℕ → List ℕ → Performed → List ℕ → List ℕ → Type 0
 CarrySays head plan call lent region out answer region′ out′ =
-    (st : State) (c : calls.Call) → worked.Given head region call (lent .ids) (lent .stored) (lent .peers) (lent .view) st c → c .continuation ≡ lent .continuation
+    (st : State) (c : calls.Call) → worked.Given head region call (lent .ids) (lent .stored) (lent .view) st c → c .continuation ≡ lent .continuation
     → Performs 0 0 (carriedBy st c plan) out answer region′ out′
 
 -- a refusal leaves both areas

@@ -98,7 +98,7 @@ module _ (call : Call) (ids continuation stored peers view : List ℕ) where
       unfolding callOf
       work-tracked = rw (region-is, h) (area-tracked area area-long bytes (facts .image) (call .clock) (facts .clock))
 
-      pub work-given : worked.Given head (midOf regionAt (length image - regionAt) image) call ids stored peers view (decode area) c
+      pub work-given : worked.Given head (midOf regionAt (length image - regionAt) image) call ids stored view (decode area) c
       work-given = rw (region-is, h) (area-given area area-long bytes (facts .image) call ids continuation stored peers view)
 
     -- what a plan requires, and that it follows the model's

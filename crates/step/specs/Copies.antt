@@ -22,5 +22,5 @@ worksOnCopies Purge announces = false
 worksOnCopies (PurgeSections peer) announces = true
 worksOnCopies Lose announces = false
 worksOnCopies (LoseAsk peer) announces = true
-worksOnCopies Check announces = false
-worksOnCopies (CheckFresh peer) announces = false
+worksOnCopies (Check aim) announces = false
+worksOnCopies (CheckFresh peer aim) announces = false

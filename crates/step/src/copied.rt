@@ -19,7 +19,8 @@ fn room() -> [u8; 65536]
     [0u8; 65536]
 }
 
-// The same as `work_out`, with room to work in: `image`, a copy of the state area, and `out` for commands.
+// The same as `work_out`, with room to work in: `image`, a copy of the state area, and `out` for commands. `peers` is there for
+// the contract.
 fn work_in(
     state: &mut [u8],
     commands: &mut [u8],
@@ -47,7 +48,6 @@ fn work_in(
         ids,
         continuation,
         stored,
-        peers,
         view,
     ) else {
         return crate::finish::refused(10);

@@ -31,7 +31,7 @@ pub fn works_on_copies(work: Work, announces: Listed) -> bool
         Work::PurgeSections(_) => true,
         Work::Lose => false,
         Work::LoseAsk(_) => true,
-        Work::Check => false,
-        Work::CheckFresh(_) => false,
+        Work::Check(_) => false,
+        Work::CheckFresh(_, _) => false,
     }
 }

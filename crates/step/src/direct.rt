@@ -12,7 +12,8 @@ use plan::Call;
 use plan::Plan;
 use work::Performed;
 
-// A work that needs no copies finds out that there is no room before it writes, or always has room.
+// A work that needs no copies finds out that there is no room before it writes, or always has room. `peers` is there for the
+// contract, which speaks of the whole call: the plan has what the work needs of them.
 pub fn step_directly(
     state: &mut [u8],
     commands: &mut [u8],
@@ -38,7 +39,6 @@ pub fn step_directly(
         ids,
         continuation,
         stored,
-        peers,
         view,
     ) else {
         return crate::finish::refused(10);

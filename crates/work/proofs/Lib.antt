@@ -1,3 +1,4 @@
+pub mod AimLaws
 pub mod RegionLaws
 pub mod WorkedLaws
 pub mod RemovalLaws

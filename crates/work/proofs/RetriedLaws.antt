@@ -17,7 +17,7 @@ use Rattle.fields.proofs.EntriesLaws.{Wide, entries-at}
 use Rattle.model.specs.Settings.{Settings}
 use Rattle.model.specs.Delivery.{Request, Verdict, waiting, retried, abandoned, forgotten, verdict, verdictNumber, judged, restarted, checkTimeouts, idsOf}
 use Rattle.model.specs.Sections.{Item}
-use Rattle.model.specs.Check.{retryTarget, retryOf, retries}
+use Rattle.model.specs.Check.{retryOf, retries}
 use Rattle.model.specs.Image.{requestOf, typesNarrow}
 use Rattle.model.proofs.Well.{RisingIds}
 use Rattle.model.proofs.Widths.{WellPeer, WellItem}
@@ -46,10 +46,9 @@ all-both : (P Q : Request → Type 0) (rs : List Request) → All P rs → All Q
 all-both P Q [] p q = tt
 all-both P Q (r ∷ rs) p q = ((p .0, q .0), all-both P Q rs (p .1) (q .1))
 
-target-well : (peers : List ℕ) (failed : ℕ) → All WellPeer peers → WellPeer failed → WellPeer (retryTarget peers failed)
-unfolding retryTarget
-target-well [] failed p h = h
-target-well (peer ∷ peers) failed p h = either WellPeer (eqb peer failed) (retryTarget peers failed) peer (target-well peers failed (p .1) h) (p .0)
+-- Where a peer in width failed, the target is in width.
+abbrev pub TargetsFit : (ℕ → ℕ) → Type 0
+TargetsFit target = (failed : ℕ) → WellPeer failed → WellPeer (target failed)
 
 module _ (settings : Settings) (clock : ℕ) (target : ℕ → ℕ) where
   checked-all : (P Q : Request → Type 0) → ((r : Request) → P r → Q r) → ((r : Request) → P r → Q (restartedTo clock target r))
@@ -127,47 +126,47 @@ module _ (settings : Settings) (clock : ℕ) (target : ℕ → ℕ) where
       go abandoned q e = q front n l e
       go forgotten q e = q front n l e
 
--- ---- with the targets of rule 6
+-- ---- by the gate
 
-module _ (gate : Bool) (settings : Settings) (clock : ℕ) (peers : List ℕ) (rs : List Request) (rise : RisingIds (idsOf rs)) where
+module _ (gate : Bool) (settings : Settings) (clock : ℕ) (target : ℕ → ℕ) (rs : List Request) (rise : RisingIds (idsOf rs)) where
   abbrev aim : ℕ → ℕ
-  aim failed = cond gate (retryTarget peers failed) failed
+  aim failed = cond gate (target failed) failed
 
-  after-is : pendingAfterCheck gate settings clock peers rs ≡ checkedTo settings clock aim rs
-  after-is = pending-after settings clock gate peers aim (λ failed. refl) rs rise
+  after-is : pendingAfterCheck gate settings clock target rs ≡ checkedTo settings clock aim rs
+  after-is = pending-after settings clock gate target aim (λ failed. refl) rs rise
 
-  pub after-rising : RisingIds (idsOf (pendingAfterCheck gate settings clock peers rs))
+  pub after-rising : RisingIds (idsOf (pendingAfterCheck gate settings clock target rs))
   unfolding pendingAfterCheck
-  after-rising = rising-retried (retries gate settings clock peers rs) (checkTimeouts settings clock rs) (rising-checked settings clock rs rise)
+  after-rising = rising-retried (retries gate settings clock target rs) (checkTimeouts settings clock rs) (rising-checked settings clock rs rise)
 
-  pub after-length : length (pendingAfterCheck gate settings clock peers rs) ≡ length (checkTimeouts settings clock rs)
+  pub after-length : length (pendingAfterCheck gate settings clock target rs) ≡ length (checkTimeouts settings clock rs)
   after-length = ap length after-is ∙ length-checked settings clock aim rs
 
-  pub after-few : length (pendingAfterCheck gate settings clock peers rs) ≤ length rs
+  pub after-few : length (pendingAfterCheck gate settings clock target rs) ≤ length rs
   after-few = rw after-is (checked-few settings clock aim rs)
 
-  pub after-types : All (λ (r : Request). r .typeId < 256) rs → All (λ (r : Request). r .typeId < 256) (pendingAfterCheck gate settings clock peers rs)
+  pub after-types : All (λ (r : Request). r .typeId < 256) rs → All (λ (r : Request). r .typeId < 256) (pendingAfterCheck gate settings clock target rs)
   unfolding restartedTo restarted
   after-types w =
       rw after-is
       (checked-all settings clock aim (λ (r : Request). r .typeId < 256) (λ (r : Request). r .typeId < 256) (λ r p. p) (λ r p. p) rs w)
 
-  pub after-recorded : clock < 2 ^ 64 → All WellPeer peers → All Recorded rs → All (λ (r : Request). r .checks + 1 < 2 ^ 32) rs
-      → All Recorded (pendingAfterCheck gate settings clock peers rs)
+  pub after-recorded : clock < 2 ^ 64 → TargetsFit target → All Recorded rs → All (λ (r : Request). r .checks + 1 < 2 ^ 32) rs
+      → All Recorded (pendingAfterCheck gate settings clock target rs)
   unfolding restartedTo restarted
   after-recorded k w a b =
       rw after-is
       (checked-all settings clock aim (λ (r : Request). Recorded r × (r .checks + 1 < 2 ^ 32)) Recorded (λ r p. p .0)
       (λ r p. let m : r .checks + 1 < 2 ^ 32 = p .1 in
-      let peer = either WellPeer gate (retryTarget peers (r .peer)) (r .peer) (target-well peers (r .peer) w (p .0 .cells .0)) (p .0 .cells .0) in
+      let peer = either WellPeer gate (target (r .peer)) (r .peer) (w (r .peer) (p .0 .cells .0)) (p .0 .cells .0) in
       record { id = p .0 .id; cells = (peer, (p .0 .cells .1 .0, (k, (omega arith, tt)))) })
       rs (all-both Recorded (λ (r : Request). r .checks + 1 < 2 ^ 32) rs a b))
 
   -- the places in a table that holds what stays
   module _ (table : List ℕ)
-      (held : requestsIn (length (pendingAfterCheck gate settings clock peers rs)) table ≡ pendingAfterCheck gate settings clock peers rs) where
+      (held : requestsIn (length (pendingAfterCheck gate settings clock target rs)) table ≡ pendingAfterCheck gate settings clock target rs) where
     abbrev count : ℕ
-    count = length (pendingAfterCheck gate settings clock peers rs)
+    count = length (pendingAfterCheck gate settings clock target rs)
 
     pub below : All (λ (place : ℕ). place < count) (retriedPlaces settings clock rs 0)
     below =
@@ -176,7 +175,7 @@ module _ (gate : Bool) (settings : Settings) (clock : ℕ) (peers : List ℕ) (r
         (retriedPlaces settings clock rs 0) (places-below settings clock aim rs 0)
 
     at-place : (place : ℕ) → place < count
-        → requestOf (entry recordSize place table) ≡ getD (pendingAfterCheck gate settings clock peers rs) place (requestOf [])
+        → requestOf (entry recordSize place table) ≡ getD (pendingAfterCheck gate settings clock target rs) place (requestOf [])
     at-place place h =
         ap requestOf (sym (entries-at recordSize count place table h)) ∙ sym (List·getD-map requestOf (entries recordSize count table) place [])
         ∙ ap (λ (x : List Request). getD x place (requestOf [])) held
@@ -186,55 +185,55 @@ module _ (gate : Bool) (settings : Settings) (clock : ℕ) (peers : List ℕ) (r
     types-at w =
         all-weaker (λ (place : ℕ). place < count) (λ (place : ℕ). requestOf (entry recordSize place table) .typeId < 256)
         (λ place h. rw (at-place place h)
-        (all-at (λ (r : Request). r .typeId < 256) (pendingAfterCheck gate settings clock peers rs) place (requestOf []) h (after-types w)))
+        (all-at (λ (r : Request). r .typeId < 256) (pendingAfterCheck gate settings clock target rs) place (requestOf []) h (after-types w)))
         (retriedPlaces settings clock rs 0) below
 
     items-plain : (places : List ℕ) → All (λ (place : ℕ). place < count) places
-        → itemsAt table places ≡ map itemOf (map (λ (place : ℕ). getD (pendingAfterCheck gate settings clock peers rs) place (requestOf [])) places)
+        → itemsAt table places ≡ map itemOf (map (λ (place : ℕ). getD (pendingAfterCheck gate settings clock target rs) place (requestOf [])) places)
     items-plain [] w = refl
     items-plain (place ∷ places) w = rw (at-place place (w .0), items-plain places (w .1))
 
     pub items-at : itemsAt table (retriedPlaces settings clock rs 0) ≡ map itemOf (map (restartedTo clock aim) (judged settings clock retried rs))
     items-at =
         items-plain (retriedPlaces settings clock rs 0) below
-        ∙ ap (map itemOf) (retried-at settings clock aim (requestOf []) (pendingAfterCheck gate settings clock peers rs) rs [] 0 refl after-is)
+        ∙ ap (map itemOf) (retried-at settings clock aim (requestOf []) (pendingAfterCheck gate settings clock target rs) rs [] 0 refl after-is)
 
-pub retry-items : (settings : Settings) (clock : ℕ) (peers : List ℕ) (rs : List Request)
-    → map itemOf (map (restartedTo clock (λ failed. retryTarget peers failed)) rs) ≡ map (retryOf peers) rs
+pub retry-items : (settings : Settings) (clock : ℕ) (target : ℕ → ℕ) (rs : List Request)
+    → map itemOf (map (restartedTo clock target) rs) ≡ map (retryOf target) rs
 unfolding itemOf restartedTo restarted retryOf
-retry-items settings clock peers [] = refl
-retry-items settings clock peers (r ∷ rs) = ap (λ (is : List Item). retryOf peers r ∷ is) (retry-items settings clock peers rs)
+retry-items settings clock target [] = refl
+retry-items settings clock target (r ∷ rs) = ap (λ (is : List Item). retryOf target r ∷ is) (retry-items settings clock target rs)
 
 -- what is sent again of the places, with the gate open, and with it shut
-pub retried-items : (gate : Bool) (settings : Settings) (clock : ℕ) (peers : List ℕ) (rs : List Request) → RisingIds (idsOf rs)
+pub retried-items : (gate : Bool) (settings : Settings) (clock : ℕ) (target : ℕ → ℕ) (rs : List Request) → RisingIds (idsOf rs)
     → (table places : List ℕ)
-    → requestsIn (length (pendingAfterCheck gate settings clock peers rs)) table ≡ pendingAfterCheck gate settings clock peers rs
+    → requestsIn (length (pendingAfterCheck gate settings clock target rs)) table ≡ pendingAfterCheck gate settings clock target rs
     → places ≡ retriedPlaces settings clock rs 0
-    → cond gate (itemsAt table places) [] ≡ retries gate settings clock peers rs
+    → cond gate (itemsAt table places) [] ≡ retries gate settings clock target rs
 unfolding retries
-retried-items true settings clock peers rs rise table places held e =
-    rw e (items-at true settings clock peers rs rise table held ∙ retry-items settings clock peers (judged settings clock retried rs))
-retried-items false settings clock peers rs rise table places held e = refl
+retried-items true settings clock target rs rise table places held e =
+    rw e (items-at true settings clock target rs rise table held ∙ retry-items settings clock target (judged settings clock retried rs))
+retried-items false settings clock target rs rise table places held e = refl
 
 -- ---- what is sent again is in width
 
-module _ (gate : Bool) (settings : Settings) (clock : ℕ) (peers : List ℕ) (rs : List Request) where
-  pub retries-few : length (retries gate settings clock peers rs) ≤ length rs
+module _ (gate : Bool) (settings : Settings) (clock : ℕ) (target : ℕ → ℕ) (rs : List Request) where
+  pub retries-few : length (retries gate settings clock target rs) ≤ length rs
   unfolding retries judged
   retries-few =
       let due : List Request = judged settings clock retried rs in
-      let a = length-map due (retryOf peers) in
+      let a = length-map due (retryOf target) in
       let b = length-kept (λ (r : Request). eqb (verdictNumber (verdict settings clock r)) (verdictNumber retried)) rs in
-      either (λ (is : List Item). length is ≤ length rs) gate (map (retryOf peers) due) [] (omega arith) (omega arith)
+      either (λ (is : List Item). length is ≤ length rs) gate (map (retryOf target) due) [] (omega arith) (omega arith)
 
-  pub retries-in-width : All WellPeer peers → All Recorded rs → All (λ (r : Request). r .typeId < 256) rs
-      → All WellItem (retries gate settings clock peers rs)
+  pub retries-in-width : TargetsFit target → All Recorded rs → All (λ (r : Request). r .typeId < 256) rs
+      → All WellItem (retries gate settings clock target rs)
   unfolding retries retryOf judged
   retries-in-width w a b =
       let due : List Request = judged settings clock retried rs in
-      either (All WellItem) gate (map (retryOf peers) due) []
-      (all-map (λ (r : Request). Recorded r × (r .typeId < 256)) WellItem (retryOf peers)
-      (λ r q. record { id = q .0 .id; typeId = q .1; peer = target-well peers (r .peer) w (q .0 .cells .0) }) due
+      either (All WellItem) gate (map (retryOf target) due) []
+      (all-map (λ (r : Request). Recorded r × (r .typeId < 256)) WellItem (retryOf target)
+      (λ r q. record { id = q .0 .id; typeId = q .1; peer = w (r .peer) (q .0 .cells .0) }) due
       (all-kept (λ (r : Request). Recorded r × (r .typeId < 256))
       (λ (r : Request). eqb (verdictNumber (verdict settings clock r)) (verdictNumber retried)) rs
       (all-both Recorded (λ (r : Request). r .typeId < 256) rs a b)))

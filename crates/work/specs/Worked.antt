@@ -45,14 +45,13 @@ pub record Tracked (head : Head) (clock : ℕ) (region : List ℕ) : Type 0 wher
   pub checks : All (λ (r : Request). r .checks + 1 < 2 ^ 32) (requestsIn (head .pending) region)
 
 -- The state has this header and this region, and the call these numbers and lists.
-pub record Given (head : Head) (region : List ℕ) (call : Call) (ids stored peers view : List ℕ) (st : State) (c : calls.Call) : Type 0 where
+pub record Given (head : Head) (region : List ℕ) (call : Call) (ids stored view : List ℕ) (st : State) (c : calls.Call) : Type 0 where
   pub header : headOf st ≡ head
   pub pending : st .pending ≡ requestsIn (head .pending) region
   pub evicted : st .sync .evicted ≡ evictedIn (head .evicted) region
   pub numbers : numbersOf c ≡ call
   pub itsIds : c .ids ≡ ids
   pub itsStored : c .stored ≡ stored
-  pub itsPeers : c .peers ≡ peers
   pub itsView : c .view ≡ view
 
 -- What the work comes to.
@@ -124,8 +123,8 @@ isOneList Purge = false
 isOneList (PurgeSections peer) = false
 isOneList Lose = false
 isOneList (LoseAsk peer) = false
-isOneList Check = false
-isOneList (CheckFresh peer) = false
+isOneList (Check aim) = false
+isOneList (CheckFresh peer aim) = false
 
 -- Where there is no room for its one list, such a work leaves what it was lent as it was.
 abbrev pub Untouched : Work → Performed → List ℕ → List ℕ → List ℕ → List ℕ → Type 0

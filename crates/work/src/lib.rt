@@ -34,7 +34,7 @@ pub enum Performed {
 
 // No work: the region stays.
 pub fn nothing(head: Head, at: usize, batch: u16) -> Performed
-    ensures { λ r. ⌜ ((st : State) (c : calls.Call) (region ids stored peers view out : List ℕ) (call : Call) → Tracked head (c .clock) region → Given head region call ids stored peers view st c → (downloaded : ℕ) → Performs at batch (workedBy st c downloaded works.Nothing) out r region out) ⌝ }
+    ensures { λ r. ⌜ ((st : State) (c : calls.Call) (region ids stored view out : List ℕ) (call : Call) → Tracked head (c .clock) region → Given head region call ids stored view st c → (downloaded : ℕ) → Performs at batch (workedBy st c downloaded works.Nothing) out r region out) ⌝ }
 {
     Performed::Done(Counts {
         pending: head.pending,

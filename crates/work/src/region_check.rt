@@ -7,6 +7,7 @@ ghost use Rattle.fields.specs.Zero.{zeros};
 ghost use Rattle.fields.specs.Overwrite.{overwritten};
 ghost use Rattle.model.specs.State.{State};
 ghost use Rattle.model.specs.Calls as calls;
+ghost use Rattle.peers.specs.Aims.{aimedAt};
 ghost use Rattle.commands.specs.Sent.{sentBytes};
 ghost use Rattle.work.specs.Worked.{regionOf, Tracked, Given, Performs, workedBy};
 ghost use Rattle.work.specs.Checking.{checkedPending, checkedSendings, checkedCounts};
@@ -18,6 +19,7 @@ use crate::Performed;
 use image::head::Head;
 use model::layout::ID_SIZE;
 use model::layout::TRACKED_LIMIT;
+use peers::aim::Aim;
 use plan::Call;
 
 // Takes the evicted ids at the region's end away.
@@ -34,7 +36,7 @@ fn check_noting(
     region: &mut [u8],
     head: Head,
     call: Call,
-    peers: &[u8],
+    aim: Aim,
     places: &mut [u16],
     out: &mut [u8],
     at: usize,
@@ -42,9 +44,9 @@ fn check_noting(
 ) -> Counts
     requires { ⌜ Tracked head (call .clock) (now region) ⌝ }
     requires { ⌜ (length (now places) ≡ trackedLimit) × ((at + mostBytes ≤ length (now out)) × (batch + mostBatches < 65536)) ⌝ }
-    ensures { λ r. ⌜ r ≡ checkedCounts head call (now (peers .entry)) (now (region .entry)) at batch ⌝ }
-    ensures { λ _. ⌜ now (region .exit) ≡ regionOf (checkedPending head call (now (peers .entry)) (now (region .entry))) [] ⌝ }
-    ensures { λ _. ⌜ now (out .exit) ≡ overwritten at (sentBytes batch (checkedSendings head call (now (peers .entry)) (now (region .entry)))) (now (out .entry)) ⌝ }
+    ensures { λ r. ⌜ r ≡ checkedCounts head call (aimedAt aim) (now (region .entry)) at batch ⌝ }
+    ensures { λ _. ⌜ now (region .exit) ≡ regionOf (checkedPending head call (aimedAt aim) (now (region .entry))) [] ⌝ }
+    ensures { λ _. ⌜ now (out .exit) ≡ overwritten at (sentBytes batch (checkedSendings head call (aimedAt aim) (now (region .entry)))) (now (out .entry)) ⌝ }
 {
     let gate = call.gate == 1;
     let made = check_timeouts::check::check_timeouts(
@@ -53,7 +55,7 @@ fn check_noting(
         head.settings,
         call.clock,
         gate,
-        peers,
+        aim,
         places,
     );
     let sent = retries::send_retries(region, places, made.retried, gate, out, at, batch);
@@ -75,19 +77,19 @@ pub fn check_region(
     region: &mut [u8],
     head: Head,
     call: Call,
-    peers: &[u8],
+    aim: Aim,
     out: &mut [u8],
     at: usize,
     batch: u16,
 ) -> Counts
     requires { ⌜ Tracked head (call .clock) (now region) ⌝ }
     requires { ⌜ (at + mostBytes ≤ length (now out)) × (batch + mostBatches < 65536) ⌝ }
-    ensures { λ r. ⌜ r ≡ checkedCounts head call (now (peers .entry)) (now (region .entry)) at batch ⌝ }
-    ensures { λ _. ⌜ now (region .exit) ≡ regionOf (checkedPending head call (now (peers .entry)) (now (region .entry))) [] ⌝ }
-    ensures { λ _. ⌜ now (out .exit) ≡ overwritten at (sentBytes batch (checkedSendings head call (now (peers .entry)) (now (region .entry)))) (now (out .entry)) ⌝ }
+    ensures { λ r. ⌜ r ≡ checkedCounts head call (aimedAt aim) (now (region .entry)) at batch ⌝ }
+    ensures { λ _. ⌜ now (region .exit) ≡ regionOf (checkedPending head call (aimedAt aim) (now (region .entry))) [] ⌝ }
+    ensures { λ _. ⌜ now (out .exit) ≡ overwritten at (sentBytes batch (checkedSendings head call (aimedAt aim) (now (region .entry)))) (now (out .entry)) ⌝ }
 {
     let mut places = [0u16; TRACKED_LIMIT];
-    check_noting(region, head, call, peers, &mut places, out, at, batch)
+    check_noting(region, head, call, aim, &mut places, out, at, batch)
 }
 
 // A check without a peer for fresh ids: they are lost.
@@ -95,14 +97,14 @@ pub fn check(
     region: &mut [u8],
     head: Head,
     call: Call,
-    peers: &[u8],
+    aim: Aim,
     out: &mut [u8],
     at: usize,
     batch: u16,
 ) -> Performed
     requires { ⌜ Tracked head (call .clock) (now region) ⌝ }
     requires { ⌜ (at + mostBytes ≤ length (now out)) × (batch + mostBatches < 65536) ⌝ }
-    ensures { λ r. ⌜ ((st : State) (c : calls.Call) (ids stored view : List ℕ) → Given head (now (region .entry)) call ids stored (now (peers .entry)) view st c → (downloaded : ℕ) → Performs at batch (workedBy st c downloaded works.Check) (now (out .entry)) r (now (region .exit)) (now (out .exit))) ⌝ }
+    ensures { λ r. ⌜ ((st : State) (c : calls.Call) (ids stored view : List ℕ) → Given head (now (region .entry)) call ids stored view st c → (downloaded : ℕ) → Performs at batch (workedBy st c downloaded (works.Check aim)) (now (out .entry)) r (now (region .exit)) (now (out .exit))) ⌝ }
 {
-    Performed::Done(check_region(region, head, call, peers, out, at, batch))
+    Performed::Done(check_region(region, head, call, aim, out, at, batch))
 }

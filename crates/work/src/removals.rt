@@ -29,7 +29,7 @@ pub fn received(
 ) -> Performed
     requires { ⌜ Tracked head (call .clock) (now region) ⌝ }
     requires { ⌜ (length (now ids) % idSize ≡ 0) × (length (now ids) ≤ idListSize) ⌝ }
-    ensures { λ r. ⌜ ((st : State) (c : calls.Call) (stored peers view out : List ℕ) → Given head (now (region .entry)) call (now (ids .entry)) stored peers view st c → (downloaded : ℕ) → Performs at batch (workedBy st c downloaded works.Received) out r (now (region .exit)) out) ⌝ }
+    ensures { λ r. ⌜ ((st : State) (c : calls.Call) (stored view out : List ℕ) → Given head (now (region .entry)) call (now (ids .entry)) stored view st c → (downloaded : ℕ) → Performs at batch (workedBy st c downloaded works.Received) out r (now (region .exit)) out) ⌝ }
 {
     let count = head.pending;
     let left = delivery::received::mark_received(region, count, ids);
@@ -56,7 +56,7 @@ pub fn evicted(
 ) -> Performed
     requires { ⌜ Tracked head (call .clock) (now region) ⌝ }
     requires { ⌜ (length (now ids) % idSize ≡ 0) × (length (now ids) ≤ idListSize) ⌝ }
-    ensures { λ r. ⌜ ((st : State) (c : calls.Call) (stored peers view out : List ℕ) → Given head (now (region .entry)) call (now (ids .entry)) stored peers view st c → (downloaded : ℕ) → Performs at batch (workedBy st c downloaded works.Evicted) out r (now (region .exit)) out) ⌝ }
+    ensures { λ r. ⌜ ((st : State) (c : calls.Call) (stored view out : List ℕ) → Given head (now (region .entry)) call (now (ids .entry)) stored view st c → (downloaded : ℕ) → Performs at batch (workedBy st c downloaded works.Evicted) out r (now (region .exit)) out) ⌝ }
     ensures { λ r. ⌜ (r ≡ Full → now (region .exit) ≡ now (region .entry)) ⌝ }
 {
     let gone = head.evicted;
@@ -78,7 +78,7 @@ pub fn evicted(
 // A reorg: all requests are dropped, the evicted list stays.
 pub fn purge(region: &mut [u8], head: Head, call: Call, at: usize, batch: u16) -> Performed
     requires { ⌜ Tracked head (call .clock) (now region) ⌝ }
-    ensures { λ r. ⌜ ((st : State) (c : calls.Call) (ids stored peers view out : List ℕ) → Given head (now (region .entry)) call ids stored peers view st c → (downloaded : ℕ) → Performs at batch (workedBy st c downloaded works.Purge) out r (now (region .exit)) out) ⌝ }
+    ensures { λ r. ⌜ ((st : State) (c : calls.Call) (ids stored view out : List ℕ) → Given head (now (region .entry)) call ids stored view st c → (downloaded : ℕ) → Performs at batch (workedBy st c downloaded works.Purge) out r (now (region .exit)) out) ⌝ }
 {
     let spared = head.evicted;
     delivery::purge::purge_all(region, head.pending);
@@ -97,7 +97,7 @@ pub fn purge(region: &mut [u8], head: Head, call: Call, at: usize, batch: u16) -
 // The sync peer is lost: its requests are dropped.
 pub fn lose(region: &mut [u8], head: Head, call: Call, at: usize, batch: u16) -> Performed
     requires { ⌜ Tracked head (call .clock) (now region) ⌝ }
-    ensures { λ r. ⌜ ((st : State) (c : calls.Call) (ids stored peers view out : List ℕ) → Given head (now (region .entry)) call ids stored peers view st c → (downloaded : ℕ) → Performs at batch (workedBy st c downloaded works.Lose) out r (now (region .exit)) out) ⌝ }
+    ensures { λ r. ⌜ ((st : State) (c : calls.Call) (ids stored view out : List ℕ) → Given head (now (region .entry)) call ids stored view st c → (downloaded : ℕ) → Performs at batch (workedBy st c downloaded works.Lose) out r (now (region .exit)) out) ⌝ }
 {
     let others = delivery::purge::purge_peer(region, head.pending, head.peer);
     Performed::Done(Counts {

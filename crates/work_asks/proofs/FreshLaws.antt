@@ -7,7 +7,6 @@ use native.Mathlib.Omega.{arith}
 use lib.ListN.{length, take, drop, length-drop}
 use lib.Seq.{take-all}
 use lib.Dec.{eqb}
-use Rattle.fields.specs.Facts.{Bytes}
 use Rattle.fields.specs.Overwrite.{overwritten}
 use Rattle.fields.proofs.OverwriteLaws.{front-read-back}
 use Rattle.model.specs.Protocol.{Id, headerType}
@@ -16,6 +15,8 @@ use Rattle.model.specs.Requests.{ask, performAll}
 use Rattle.model.specs.Lists.{idsIn, pairsIn, pairsFit, entriesOf}
 use Rattle.model.specs.Calls as calls
 use Rattle.image.specs.declared.head.Head.{Head}
+use Rattle.peers.specs.Aims.{aimedAt}
+use Rattle.peers.specs.declared.aim.Aim.{Aim}
 use Rattle.commands.specs.Sent.{sentBytes}
 use Rattle.delivery.specs.Region.{evictedIn}
 use Rattle.check_timeouts.specs.Checked.{pendingAfterCheck}
@@ -28,6 +29,7 @@ use Rattle.work.specs.Worked.{regionOf, Given, actedBy, countBy, workedBy, Perf
 use Rattle.work.proofs.RegionLaws.{Stands, tracked-stands, stands-size, stands-requests, stands-rising}
 use Rattle.work.proofs.WorkedLaws.{length-evicted, settings-given, clock-given, gate-given}
 use Rattle.work.specs.Checking.{checkedPending, checkedSendings, judgedCount, checkedCounts}
+use Rattle.work.proofs.RetriedLaws.{TargetsFit}
 use Rattle.work.proofs.CheckLaws.{Due, checked-stands, checked-count, checked-bytes}
 use Rattle.work_asks.specs.Asked.{Asks}
 use Rattle.work_asks.proofs.EntryLaws.{Entered, ListAsks}
@@ -36,16 +38,16 @@ use Rattle.model.specs.Layout.{idSize}
 
 -- ---- what it comes to
 
-module _ {head : Head} {call : Call} {region ids stored peers view : List ℕ} {st : State} {c : calls.Call}
-    (g : Given head region call ids stored peers view st c) (downloaded at batch peer : ℕ) where
-  fresh-worked : workedBy st c downloaded (CheckFresh peer)
+module _ {head : Head} {call : Call} {region ids stored view : List ℕ} {st : State} {c : calls.Call}
+    (g : Given head region call ids stored view st c) (downloaded at batch peer : ℕ) (aim : Aim) where
+  fresh-worked : workedBy st c downloaded (CheckFresh peer aim)
       ≡ asking
       (performAll (eqb (call .gate) 1) (call .clock) (ask headerType peer (pairsIn stored) (evictedIn (head .evicted) region) ∷ [])
-      (checkedPending head call peers region))
-      [] (checkedSendings head call peers region) (checkedCounts head call peers region at batch)
+      (checkedPending head call (aimedAt aim) region))
+      [] (checkedSendings head call (aimedAt aim) region) (checkedCounts head call (aimedAt aim) region at batch)
   unfolding workedBy actedBy countBy retriedBy pendingAfterCheck checkedPending checkedSendings checkedCounts judgedCount
   fresh-worked =
-      rw (g .pending, g .evicted, settings-given g, gate-given g, clock-given g, g .itsPeers, g .itsStored, length-evicted (head .evicted) region)
+      rw (g .pending, g .evicted, settings-given g, gate-given g, clock-given g, g .itsStored, length-evicted (head .evicted) region)
 
 -- ---- its two parts: the evicted ids copied, the check done
 
@@ -59,10 +61,10 @@ pub up-to-end : (fresh room region : List ℕ) (n from : ℕ) → length region 
 up-to-end fresh room region n from h e = e ∙ ap (λ (x : List ℕ). overwritten 0 x room) (take-all n (drop from region) (rw (length-drop from region) h))
 
 -- The check by what it makes of the region and sends.
-pub record CheckDone (head : Head) (call : Call) (peers region : List ℕ) (at batch : ℕ) (out : List ℕ) (before : Counts) (table first : List ℕ) : Type 0 where
-  pub counts : before ≡ checkedCounts head call peers region at batch
-  pub held : table ≡ regionOf (checkedPending head call peers region) []
-  pub sent : first ≡ overwritten at (sentBytes batch (checkedSendings head call peers region)) out
+pub record CheckDone (head : Head) (call : Call) (aim : Aim) (region : List ℕ) (at batch : ℕ) (out : List ℕ) (before : Counts) (table first : List ℕ) : Type 0 where
+  pub counts : before ≡ checkedCounts head call (aimedAt aim) region at batch
+  pub held : table ≡ regionOf (checkedPending head call (aimedAt aim) region) []
+  pub sent : first ≡ overwritten at (sentBytes batch (checkedSendings head call (aimedAt aim) region)) out
   pub long : length first ≡ length out
 
 module _ {head : Head} {call : Call} {region : List ℕ} {at batch peer : ℕ} {out : List ℕ} (n : Entered head call region at batch peer out)
@@ -84,12 +86,12 @@ module _ {head : Head} {call : Call} {region : List ℕ} {at batch peer : ℕ} {
 
   -- ---- asked for behind the check
 
-  module _ {peers : List ℕ} (listed : Bytes peers) {before : Counts} {table first : List ℕ}
-      (done : CheckDone head call peers region at batch out before table first) where
-    due : Due head call peers region
-    due = record { tracked = n .tracked; bytes = n .bytes; listed = listed; clock = n .clock }
+  module _ {aim : Aim} (targets : TargetsFit (aimedAt aim)) {before : Counts} {table first : List ℕ}
+      (done : CheckDone head call aim region at batch out before table first) where
+    due : Due head call (aimedAt aim) region
+    due = record { tracked = n .tracked; bytes = n .bytes; targets = targets; clock = n .clock }
 
-    stands : Stands (checkedPending head call peers region) [] table
+    stands : Stands (checkedPending head call (aimedAt aim) region) [] table
     stands = rw (done .held) (checked-stands due)
 
     pub fresh-ask : (stored : List ℕ) → pairsFit stored ≡ true → ListAsks before table stored (take (head .evicted * idSize) fresh) first
@@ -97,36 +99,36 @@ module _ {head : Head} {call : Call} {region : List ℕ} {at batch peer : ℕ} {
     fresh-ask stored fit =
         let t = n .tracked in
         let long = fresh-long in
-        let size = stands-size (checkedPending head call peers region) [] table stands in
+        let size = stands-size (checkedPending head call (aimedAt aim) region) [] table stands in
         let same = done .long in
         rw (done .counts) (
           (omega (arith, long), (omega (arith, long, t .few), (omega (arith, stands .few), omega (arith, size)))),
           (
-            stands-rising (checkedPending head call peers region) [] table stands,
+            stands-rising (checkedPending head call (aimedAt aim) region) [] table stands,
             (fit, (omega (arith, long, same, checked-bytes due batch, t .few, n .room), omega (arith, checked-count due, t .few, n .room))),
           ),
         )
 
-    behind : let counts = checkedCounts head call peers region at batch in
-        Behind (checkedPending head call peers region) [] table out first (checkedSendings head call peers region) counts at batch
+    behind : let counts = checkedCounts head call (aimedAt aim) region at batch in
+        Behind (checkedPending head call (aimedAt aim) region) [] table out first (checkedSendings head call (aimedAt aim) region) counts at batch
     unfolding checkedCounts
     behind =
-        let table-is = stands-requests (checkedPending head call peers region) [] table stands in
+        let table-is = stands-requests (checkedPending head call (aimedAt aim) region) [] table stands in
         record { stands = stands; table = table-is; pending = refl; evicted = refl; end = refl; next = refl; written = done .sent }
 
     pub asks-fresh : {stored after out′ : List ℕ} {r : Performed}
         → Asks (eqb (call .gate) 1) (call .clock) (ask headerType peer (pairsIn stored) (idsIn (take (head .evicted * idSize) fresh)) ∷ [])
         before table first r after out′
-        → {st : State} {c : calls.Call} {ids view : List ℕ} → Given head region call ids stored peers view st c → (downloaded : ℕ)
-        → Performs at batch (workedBy st c downloaded (CheckFresh peer)) out r after out′
+        → {st : State} {c : calls.Call} {ids view : List ℕ} → Given head region call ids stored view st c → (downloaded : ℕ)
+        → Performs at batch (workedBy st c downloaded (CheckFresh peer aim)) out r after out′
     unfolding checkedCounts
     asks-fresh {stored} {after} {out′} {r} a g downloaded =
         let e : List Id = evictedIn (head .evicted) region in
         let gate : Bool = eqb (call .gate) 1 in
-        let counts : Counts = checkedCounts head call peers region at batch in
+        let counts : Counts = checkedCounts head call (aimedAt aim) region at batch in
         let asked : Asks gate (call .clock) (ask headerType peer (pairsIn stored) e ∷ []) counts table first r after out′ =
         rw (done .counts, fresh-ids) at a in
-        rw (fresh-worked g downloaded at batch peer)
+        rw (fresh-worked g downloaded at batch peer aim)
         (asks-done behind gate (call .clock) (ask headerType peer (pairsIn stored) e ∷ []) (n .clock)
         (record { typeId = omega arith; peer = n .asked; ids = tracked-stands head (call .clock) region (n .tracked) (n .bytes) .ids }, tt)
         (omega (arith, checked-bytes due batch, length-evicted (head .evicted) region, n .tracked .few, n .room)) asked)

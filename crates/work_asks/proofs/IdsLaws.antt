@@ -34,8 +34,8 @@ use Rattle.model.specs.Layout.{idListSize, idSize}
 
 -- ---- what it comes to
 
-ids-worked : {head : Head} {call : Call} {region ids stored peers view : List ℕ} {st : State} {c : calls.Call}
-    → Given head region call ids stored peers view st c
+ids-worked : {head : Head} {call : Call} {region ids stored view : List ℕ} {st : State} {c : calls.Call}
+    → Given head region call ids stored view st c
     → (downloaded n gone at batch peer : ℕ)
     → workedBy st c downloaded (Ids peer)
     ≡ asking (performAll (eqb (call .gate) 1) (call .clock) (ask (call .typeid) peer (pairsIn stored) (idsIn ids) ∷ []) (requestsIn (head .pending) region))
@@ -60,7 +60,7 @@ module _ {head : Head} {call : Call} {region : List ℕ} {at batch peer : ℕ} {
 
   pub asks-ids : {ids stored after out′ : List ℕ} {r : Performed} → call .typeid < 2 ^ 8 → Bytes ids → length ids ≤ idListSize
       → Asks (eqb (call .gate) 1) (call .clock) (ask (call .typeid) peer (pairsIn stored) (idsIn ids) ∷ []) before region out r after out′
-      → {st : State} {c : calls.Call} {peers view : List ℕ} → Given head region call ids stored peers view st c → (downloaded : ℕ)
+      → {st : State} {c : calls.Call} {view : List ℕ} → Given head region call ids stored view st c → (downloaded : ℕ)
       → Performs at batch (workedBy st c downloaded (Ids peer)) out r after out′
   asks-ids {ids} ht fi few a g downloaded =
       rw (ids-worked g downloaded (head .pending) (head .evicted) at batch peer)

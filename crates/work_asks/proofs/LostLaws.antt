@@ -43,8 +43,8 @@ use Rattle.model.specs.Layout.{idSize, pairSize, recordSize}
 
 -- ---- what it comes to
 
-module _ {head : Head} {call : Call} {region ids stored peers view : List ℕ} {st : State} {c : calls.Call}
-    (g : Given head region call ids stored peers view st c) (downloaded n gone at batch peer : ℕ) where
+module _ {head : Head} {call : Call} {region ids stored view : List ℕ} {st : State} {c : calls.Call}
+    (g : Given head region call ids stored view st c) (downloaded n gone at batch peer : ℕ) where
   lose-ask-worked : workedBy st c downloaded (LoseAsk peer)
       ≡ asking
       (performAll (eqb (call .gate) 1) (call .clock) (orphanAsks peer (pairsIn stored) (orphansOf (head .peer) (requestsIn (head .pending) region)))
@@ -119,7 +119,7 @@ module _ {head : Head} {call : Call} {region : List ℕ} {at batch peer : ℕ} {
       pub asks-lost : {stored after out′ : List ℕ} {r : Performed} → Bytes (take (number * pairSize) pairs)
           → Asks (eqb (call .gate) 1) (call .clock) (asksByType peer (pairsIn stored) (entriesOf pairSize (take (number * pairSize) pairs)))
           before table out r after out′
-          → {st : State} {c : calls.Call} {ids peers view : List ℕ} → Given head region call ids stored peers view st c → (downloaded : ℕ)
+          → {st : State} {c : calls.Call} {ids view : List ℕ} → Given head region call ids stored view st c → (downloaded : ℕ)
           → Performs at batch (workedBy st c downloaded (LoseAsk peer)) out r after out′
       asks-lost {stored} fp a g downloaded =
           let front : List ℕ = take (number * pairSize) pairs in

@@ -14,6 +14,7 @@ use Rattle.model.specs.Lists.{pairsIn}
 use Rattle.model.specs.Calls as calls
 use Rattle.image.specs.declared.head.Head.{Head}
 use Rattle.delivery.specs.Region.{evictedIn}
+use Rattle.peers.specs.declared.aim.Aim.{Aim}
 use Rattle.plan.specs.declared.Call.{Call}
 use Rattle.plan.specs.declared.Work.the-variants.{Check, CheckFresh}
 use Rattle.plan.specs.Plans.{retriedBy}
@@ -27,32 +28,32 @@ asked-nothing true clock typeId peer pairs pending = refl
 asked-nothing false clock typeId peer pairs pending = refl
 
 -- the check's work, by what its acts come to
-abbrev checkedThen : State → calls.Call → Done → Worked
-checkedThen st c done =
+abbrev checkedThen : State → calls.Call → Aim → Done → Worked
+checkedThen st c aim done =
     record {
       pending = done .pending;
       evicted = [];
-      sendings = retrySendings (retriedBy st c Check) ++ done .sendings;
-      retried = countBy st c Check retried;
+      sendings = retrySendings (retriedBy st c (Check aim)) ++ done .sendings;
+      retried = countBy st c (Check aim) retried;
       fresh = length (st .sync .evicted);
-      abandoned = countBy st c Check abandoned;
-      forgotten = countBy st c Check forgotten;
+      abandoned = countBy st c (Check aim) abandoned;
+      forgotten = countBy st c (Check aim) forgotten;
     }
 
-none-evicted-plain : (st : State) (c : calls.Call) (downloaded peer : ℕ) → st .sync .evicted ≡ []
-    → workedBy st c downloaded (CheckFresh peer) ≡ workedBy st c downloaded Check
+none-evicted-plain : (st : State) (c : calls.Call) (downloaded peer : ℕ) (aim : Aim) → st .sync .evicted ≡ []
+    → workedBy st c downloaded (CheckFresh peer aim) ≡ workedBy st c downloaded (Check aim)
 unfolding workedBy actedBy countBy retriedBy
-none-evicted-plain st c downloaded peer e =
+none-evicted-plain st c downloaded peer aim e =
     let gate : Bool = eqb (c .gate) 1 in
     let pairs : List Pair = pairsIn (c .stored) in
-    let left : List Request = markAllRetried (retriedBy st c Check) (checkTimeouts (st .settings) (c .clock) (st .pending)) in
-    ap (λ (ids : List Id). checkedThen st c (performAll gate (c .clock) (ask headerType peer pairs ids ∷ []) left)) e
-    ∙ ap (checkedThen st c) (asked-nothing gate (c .clock) headerType peer pairs left)
+    let left : List Request = markAllRetried (retriedBy st c (Check aim)) (checkTimeouts (st .settings) (c .clock) (st .pending)) in
+    ap (λ (ids : List Id). checkedThen st c aim (performAll gate (c .clock) (ask headerType peer pairs ids ∷ []) left)) e
+    ∙ ap (checkedThen st c aim) (asked-nothing gate (c .clock) headerType peer pairs left)
 
 none-evicted : (evicted : ℕ) (region : List ℕ) → evicted ≡ 0 → evictedIn evicted region ≡ []
 none-evicted evicted region e = rw e
 
-module _ {head : Head} {call : Call} {region ids stored peers view : List ℕ} {st : State} {c : calls.Call}
-    (g : Given head region call ids stored peers view st c) where
-  pub given-plain : head .evicted ≡ 0 → (downloaded peer : ℕ) → workedBy st c downloaded (CheckFresh peer) ≡ workedBy st c downloaded Check
-  given-plain e downloaded peer = none-evicted-plain st c downloaded peer (g .evicted ∙ none-evicted (head .evicted) region e)
+module _ {head : Head} {call : Call} {region ids stored view : List ℕ} {st : State} {c : calls.Call}
+    (g : Given head region call ids stored view st c) where
+  pub given-plain : head .evicted ≡ 0 → (downloaded peer : ℕ) (aim : Aim) → workedBy st c downloaded (CheckFresh peer aim) ≡ workedBy st c downloaded (Check aim)
+  given-plain e downloaded peer aim = none-evicted-plain st c downloaded peer aim (g .evicted ∙ none-evicted (head .evicted) region e)

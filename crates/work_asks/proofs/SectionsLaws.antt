@@ -45,8 +45,8 @@ use Rattle.model.specs.Layout.{idSize, recordSize}
 abbrev sections : Call → List ℕ → ℕ → ℕ → List Act
 sections call view downloaded peer = requestSectionsFrom (viewOf view) (call .height) downloaded (some peer) .acts
 
-module _ {head : Head} {call : Call} {region ids stored peers view : List ℕ} {st : State} {c : calls.Call}
-    (g : Given head region call ids stored peers view st c) (downloaded n gone at batch peer : ℕ) where
+module _ {head : Head} {call : Call} {region ids stored view : List ℕ} {st : State} {c : calls.Call}
+    (g : Given head region call ids stored view st c) (downloaded n gone at batch peer : ℕ) where
   sections-worked : workedBy st c downloaded (Sections peer)
       ≡ asking (performAll (eqb (call .gate) 1) (call .clock) (sections call view downloaded peer) (requestsIn (head .pending) region))
       (evictedIn (head .evicted) region) [] (unasked n gone at batch)
@@ -90,7 +90,7 @@ module _ {head : Head} {call : Call} {region : List ℕ} {at batch peer : ℕ} {
   module _ (fv : Bytes view) (downloaded : ℕ) {r : Performed} {after out′ : List ℕ} where
     pub asks-sections : before ≡ unasked (head .pending) (head .evicted) at batch
         → Asks (eqb (call .gate) 1) (call .clock) (sections call view downloaded peer) before region out r after out′
-        → {st : State} {c : calls.Call} {ids stored peers : List ℕ} → Given head region call ids stored peers view st c
+        → {st : State} {c : calls.Call} {ids stored : List ℕ} → Given head region call ids stored view st c
         → Performs at batch (workedBy st c downloaded (Sections peer)) out r after out′
     asks-sections b a g =
         rw (sections-worked g downloaded (head .pending) (head .evicted) at batch peer)
@@ -101,7 +101,7 @@ module _ {head : Head} {call : Call} {region : List ℕ} {at batch peer : ℕ} {
     pub asks-after-purge : {purged : List ℕ} → purged ≡ holding (head .pending) (purgeAll (requestsIn (head .pending) region)) region
         → before ≡ unasked 0 (head .evicted) at batch
         → Asks (eqb (call .gate) 1) (call .clock) (sections call view downloaded peer) before purged out r after out′
-        → {st : State} {c : calls.Call} {ids stored peers : List ℕ} → Given head region call ids stored peers view st c
+        → {st : State} {c : calls.Call} {ids stored : List ℕ} → Given head region call ids stored view st c
         → Performs at batch (workedBy st c downloaded (PurgeSections peer)) out r after out′
     unfolding purgeAll
     asks-after-purge {purged} h b a g =

@@ -54,13 +54,12 @@ pub fn carry_out(
     ids: &[u8],
     continuation: &[u8],
     stored: &[u8],
-    peers: &[u8],
     view: &[u8],
 ) -> Performed
     requires { ⌜ Tracked head (call .clock) (now region) ⌝ }
     requires { ⌜ (length (now ids) % idSize ≡ 0) × ((length (now ids) ≤ idListSize) × (continuationFits (now continuation) ≡ true)) ⌝ }
     requires { ⌜ (pairsFit (now stored) ≡ true) × ((viewFits (now view) ≡ true) × (areaSize ≤ length (now out))) ⌝ }
-    ensures { λ r. ⌜ ((st : State) (c : calls.Call) → Given head (now (region .entry)) call (now (ids .entry)) (now (stored .entry)) (now (peers .entry)) (now (view .entry)) st c → c .continuation ≡ now (continuation .entry) → Performs 0 0 (carriedBy st c plan) (now (out .entry)) r (now (region .exit)) (now (out .exit))) ⌝ }
+    ensures { λ r. ⌜ ((st : State) (c : calls.Call) → Given head (now (region .entry)) call (now (ids .entry)) (now (stored .entry)) (now (view .entry)) st c → c .continuation ≡ now (continuation .entry) → Performs 0 0 (carriedBy st c plan) (now (out .entry)) r (now (region .exit)) (now (out .exit))) ⌝ }
     ensures { λ r. ⌜ (plan .announces ≡ Nobody → Untouched (plan .work) r (now (region .entry)) (now (region .exit)) (now (out .entry)) (now (out .exit))) ⌝ }
 {
     let announces = plan.announces;
@@ -75,7 +74,6 @@ pub fn carry_out(
         after.downloaded,
         ids,
         stored,
-        peers,
         view,
         out,
         placed.at,

@@ -13,6 +13,7 @@ ghost use Rattle.model.specs.Layout.{idListSize, mostBatches, mostBytes};
 use image::head::Head;
 use model::layout::ID_LIST_SIZE;
 use model::layout::ID_SIZE;
+use peers::aim::Aim;
 use plan::Call;
 use work::Performed;
 
@@ -22,8 +23,8 @@ fn check_fresh_with(
     head: Head,
     call: Call,
     peer: u64,
+    aim: Aim,
     stored: &[u8],
-    peers: &[u8],
     fresh: &mut [u8],
     out: &mut [u8],
     at: usize,
@@ -32,12 +33,12 @@ fn check_fresh_with(
     requires { ⌜ Tracked head (call .clock) (now region) ⌝ }
     requires { ⌜ (pairsFit (now stored) ≡ true) × (length (now fresh) ≡ idListSize) ⌝ }
     requires { ⌜ (at + mostBytes ≤ length (now out)) × (batch + mostBatches < 65536) ⌝ }
-    ensures { λ r. ⌜ ((st : State) (c : calls.Call) (ids view : List ℕ) → Given head (now (region .entry)) call ids (now (stored .entry)) (now (peers .entry)) view st c → (downloaded : ℕ) → Performs at batch (workedBy st c downloaded (works.CheckFresh peer)) (now (out .entry)) r (now (region .exit)) (now (out .exit))) ⌝ }
+    ensures { λ r. ⌜ ((st : State) (c : calls.Call) (ids view : List ℕ) → Given head (now (region .entry)) call ids (now (stored .entry)) view st c → (downloaded : ℕ) → Performs at batch (workedBy st c downloaded (works.CheckFresh peer aim)) (now (out .entry)) r (now (region .exit)) (now (out .exit))) ⌝ }
 {
     let size = head.evicted * ID_SIZE;
     let from = region.len() - size;
     spans::moving::overwrite(fresh, 0, &region[from..]);
-    let before = work::region_check::check_region(region, head, call, peers, out, at, batch);
+    let before = work::region_check::check_region(region, head, call, aim, out, at, batch);
     crate::asks::ask_list(region, before, call, 101, peer, stored, &fresh[..size], out)
 }
 
@@ -47,8 +48,8 @@ pub fn check_fresh(
     head: Head,
     call: Call,
     peer: u64,
+    aim: Aim,
     stored: &[u8],
-    peers: &[u8],
     out: &mut [u8],
     at: usize,
     batch: u16,
@@ -56,10 +57,10 @@ pub fn check_fresh(
     requires { ⌜ Tracked head (call .clock) (now region) ⌝ }
     requires { ⌜ pairsFit (now stored) ≡ true ⌝ }
     requires { ⌜ (at + mostBytes ≤ length (now out)) × (batch + mostBatches < 65536) ⌝ }
-    ensures { λ r. ⌜ ((st : State) (c : calls.Call) (ids view : List ℕ) → Given head (now (region .entry)) call ids (now (stored .entry)) (now (peers .entry)) view st c → (downloaded : ℕ) → Performs at batch (workedBy st c downloaded (works.CheckFresh peer)) (now (out .entry)) r (now (region .exit)) (now (out .exit))) ⌝ }
+    ensures { λ r. ⌜ ((st : State) (c : calls.Call) (ids view : List ℕ) → Given head (now (region .entry)) call ids (now (stored .entry)) view st c → (downloaded : ℕ) → Performs at batch (workedBy st c downloaded (works.CheckFresh peer aim)) (now (out .entry)) r (now (region .exit)) (now (out .exit))) ⌝ }
 {
     if head.evicted == 0 {
-        return work::region_check::check(region, head, call, peers, out, at, batch);
+        return work::region_check::check(region, head, call, aim, out, at, batch);
     }
     let mut fresh = [0u8; ID_LIST_SIZE];
     check_fresh_with(
@@ -67,8 +68,8 @@ pub fn check_fresh(
         head,
         call,
         peer,
+        aim,
         stored,
-        peers,
         &mut fresh,
         out,
         at,

@@ -31,7 +31,7 @@ pub fn ids(
     requires { ⌜ (length (now ids) % idSize ≡ 0) × (length (now ids) ≤ idListSize) ⌝ }
     requires { ⌜ pairsFit (now stored) ≡ true ⌝ }
     requires { ⌜ (at + mostBytes ≤ length (now out)) × (batch + mostBatches < 65536) ⌝ }
-    ensures { λ r. ⌜ ((st : State) (c : calls.Call) (peers view : List ℕ) → Given head (now (region .entry)) call (now (ids .entry)) (now (stored .entry)) peers view st c → (downloaded : ℕ) → Performs at batch (workedBy st c downloaded (works.Ids peer)) (now (out .entry)) r (now (region .exit)) (now (out .exit))) ⌝ }
+    ensures { λ r. ⌜ ((st : State) (c : calls.Call) (view : List ℕ) → Given head (now (region .entry)) call (now (ids .entry)) (now (stored .entry)) view st c → (downloaded : ℕ) → Performs at batch (workedBy st c downloaded (works.Ids peer)) (now (out .entry)) r (now (region .exit)) (now (out .exit))) ⌝ }
     ensures { λ r. ⌜ (r ≡ Full → (now (region .exit) ≡ now (region .entry)) × (now (out .exit) ≡ now (out .entry))) ⌝ }
 {
     let before = crate::asks::unasked_counts(head.pending, head.evicted, at, batch);

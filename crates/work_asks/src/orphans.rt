@@ -32,7 +32,7 @@ fn lose_ask_with(
     requires { ⌜ Tracked head (call .clock) (now region) ⌝ }
     requires { ⌜ (pairsFit (now stored) ≡ true) × (length (now pairs) ≡ pairListSize) ⌝ }
     requires { ⌜ (at + mostBytes ≤ length (now out)) × (batch + mostBatches < 65536) ⌝ }
-    ensures { λ r. ⌜ ((st : State) (c : calls.Call) (ids peers view : List ℕ) → Given head (now (region .entry)) call ids (now (stored .entry)) peers view st c → (downloaded : ℕ) → Performs at batch (workedBy st c downloaded (works.LoseAsk peer)) (now (out .entry)) r (now (region .exit)) (now (out .exit))) ⌝ }
+    ensures { λ r. ⌜ ((st : State) (c : calls.Call) (ids view : List ℕ) → Given head (now (region .entry)) call ids (now (stored .entry)) view st c → (downloaded : ℕ) → Performs at batch (workedBy st c downloaded (works.LoseAsk peer)) (now (out .entry)) r (now (region .exit)) (now (out .exit))) ⌝ }
 {
     let number = delivery::orphans::orphans(region, head.pending, head.peer, pairs);
     let left = delivery::purge::purge_peer(region, head.pending, head.peer);
@@ -55,7 +55,7 @@ pub fn lose_ask(
     requires { ⌜ Tracked head (call .clock) (now region) ⌝ }
     requires { ⌜ pairsFit (now stored) ≡ true ⌝ }
     requires { ⌜ (at + mostBytes ≤ length (now out)) × (batch + mostBatches < 65536) ⌝ }
-    ensures { λ r. ⌜ ((st : State) (c : calls.Call) (ids peers view : List ℕ) → Given head (now (region .entry)) call ids (now (stored .entry)) peers view st c → (downloaded : ℕ) → Performs at batch (workedBy st c downloaded (works.LoseAsk peer)) (now (out .entry)) r (now (region .exit)) (now (out .exit))) ⌝ }
+    ensures { λ r. ⌜ ((st : State) (c : calls.Call) (ids view : List ℕ) → Given head (now (region .entry)) call ids (now (stored .entry)) view st c → (downloaded : ℕ) → Performs at batch (workedBy st c downloaded (works.LoseAsk peer)) (now (out .entry)) r (now (region .exit)) (now (out .exit))) ⌝ }
 {
     let mut pairs = [0u8; PAIR_LIST_SIZE];
     lose_ask_with(region, head, call, peer, stored, &mut pairs, out, at, batch)

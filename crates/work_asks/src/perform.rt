@@ -25,7 +25,6 @@ pub fn perform(
     downloaded: u32,
     ids: &[u8],
     stored: &[u8],
-    peers: &[u8],
     view: &[u8],
     out: &mut [u8],
     at: usize,
@@ -35,7 +34,7 @@ pub fn perform(
     requires { ⌜ (length (now ids) % idSize ≡ 0) × (length (now ids) ≤ idListSize) ⌝ }
     requires { ⌜ (pairsFit (now stored) ≡ true) × (viewFits (now view) ≡ true) ⌝ }
     requires { ⌜ (at + mostBytes ≤ length (now out)) × (batch + mostBatches < 65536) ⌝ }
-    ensures { λ r. ⌜ ((st : State) (c : calls.Call) → Given head (now (region .entry)) call (now (ids .entry)) (now (stored .entry)) (now (peers .entry)) (now (view .entry)) st c → Performs at batch (workedBy st c downloaded work) (now (out .entry)) r (now (region .exit)) (now (out .exit))) ⌝ }
+    ensures { λ r. ⌜ ((st : State) (c : calls.Call) → Given head (now (region .entry)) call (now (ids .entry)) (now (stored .entry)) (now (view .entry)) st c → Performs at batch (workedBy st c downloaded work) (now (out .entry)) r (now (region .exit)) (now (out .exit))) ⌝ }
     ensures { λ r. ⌜ Untouched work r (now (region .entry)) (now (region .exit)) (now (out .entry)) (now (out .exit)) ⌝ }
 {
     match work {
@@ -77,14 +76,14 @@ pub fn perform(
             at,
             batch,
         ),
-        Work::Check => work::region_check::check(region, head, call, peers, out, at, batch),
-        Work::CheckFresh(peer) => crate::fresh::check_fresh(
+        Work::Check(aim) => work::region_check::check(region, head, call, aim, out, at, batch),
+        Work::CheckFresh(peer, aim) => crate::fresh::check_fresh(
             region,
             head,
             call,
             peer,
+            aim,
             stored,
-            peers,
             out,
             at,
             batch,

@@ -92,7 +92,7 @@ pub fn sections(
     requires { ⌜ Tracked head (call .clock) (now region) ⌝ }
     requires { ⌜ viewFits (now view) ≡ true ⌝ }
     requires { ⌜ (at + mostBytes ≤ length (now out)) × (batch + mostBatches < 65536) ⌝ }
-    ensures { λ r. ⌜ ((st : State) (c : calls.Call) (ids stored peers : List ℕ) → Given head (now (region .entry)) call ids stored peers (now (view .entry)) st c → Performs at batch (workedBy st c downloaded (works.Sections peer)) (now (out .entry)) r (now (region .exit)) (now (out .exit))) ⌝ }
+    ensures { λ r. ⌜ ((st : State) (c : calls.Call) (ids stored : List ℕ) → Given head (now (region .entry)) call ids stored (now (view .entry)) st c → Performs at batch (workedBy st c downloaded (works.Sections peer)) (now (out .entry)) r (now (region .exit)) (now (out .exit))) ⌝ }
 {
     let before = crate::asks::unasked_counts(head.pending, head.evicted, at, batch);
     ask_sections(region, before, call, peer, downloaded, view, out)
@@ -113,7 +113,7 @@ pub fn purge_sections(
     requires { ⌜ Tracked head (call .clock) (now region) ⌝ }
     requires { ⌜ viewFits (now view) ≡ true ⌝ }
     requires { ⌜ (at + mostBytes ≤ length (now out)) × (batch + mostBatches < 65536) ⌝ }
-    ensures { λ r. ⌜ ((st : State) (c : calls.Call) (ids stored peers : List ℕ) → Given head (now (region .entry)) call ids stored peers (now (view .entry)) st c → Performs at batch (workedBy st c downloaded (works.PurgeSections peer)) (now (out .entry)) r (now (region .exit)) (now (out .exit))) ⌝ }
+    ensures { λ r. ⌜ ((st : State) (c : calls.Call) (ids stored : List ℕ) → Given head (now (region .entry)) call ids stored (now (view .entry)) st c → Performs at batch (workedBy st c downloaded (works.PurgeSections peer)) (now (out .entry)) r (now (region .exit)) (now (out .exit))) ⌝ }
 {
     delivery::purge::purge_all(region, head.pending);
     let before = crate::asks::unasked_counts(0, head.evicted, at, batch);

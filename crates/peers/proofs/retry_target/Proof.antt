@@ -1,73 +1,47 @@
--- The invariant: the peers from i on give the target that all of them give.
+-- All listed peers have stalled, or some have not: which of them are considered.
 use borrow.Author.Needs.{needs}
-use Prim.Native.Nat.{_-_, _*_}
-use mathlib.Core.Path.{_≡_, refl, sym, _∙_}
-use lib.ListN.{drop}
-use Rattle.model.specs.Check.{retryTarget}
+use mathlib.Core.Path.{_∙_}
 use Rattle.model.specs.Lists.{peersIn}
-use Rattle.peers.proofs.PeerLaws.{target-here, target-later, target-end}
+use Rattle.peers.specs.Stalled.{stalledPeers}
+use Rattle.peers.proofs.PeerLaws.{target-all, target-some}
 use Rattle.peers.proofs.retry_target.Statement.{statement}
 use Rattle.peers.proofs.retry_target.Tie as tie
 
-abbrev Inv-loop : tie.InvT-loop
-Inv-loop peers failed count i₀ i = retryTarget (peersIn (drop (i * 8) peers)) failed ≡ retryTarget (peersIn peers) failed
+all-stalled-requires : tie.Need-all-stalled-requires
+all-stalled-requires c κs = search needs
 
-abbrev μ-loop : tie.MeasureT-loop
-μ-loop peers failed count i₀ i = count - i
+first-other-requires : tie.Need-first-other-requires
+first-other-requires c κs = search needs
 
-loop-holds : tie.Need-loop-holds Inv-loop μ-loop
-loop-holds c = refl
-
-mul-read-u64 : tie.Need-mul-read-u64 Inv-loop μ-loop
-mul-read-u64 c = search needs
-
-read-u64-requires : tie.Need-read-u64-requires Inv-loop μ-loop
-read-u64-requires c κs = search needs
-
-returns : tie.Need-returns Inv-loop μ-loop
+returns : tie.Need-returns
 returns c =
-    let start : tie.Start Inv-loop μ-loop = search in
-    let head : tie.At-loop Inv-loop μ-loop = search in
-    let turn : tie.In-loop Inv-loop μ-loop = search in
-    let l = head .loop in
-    let s = start .args in
-    let read = c .before .read-u64 in
-    sym (target-here (s .peers .now) (l .i) (turn .loop-test .taken) (read .ensures) (s .failed) (c .if1 .taken)) ∙ l .inv
+    let s : tie.Start = search in
+    let all : tie.After-all-stalled = search in
+    let then : tie.Then1 = search in
+    let other : tie.After-first-other = search in
+    let a = s .args in
+    other .first-other .ensures
+    ∙ target-all (stalledPeers (a .stalled)) (peersIn (a .peers .now)) (a .failed) (all .all-stalled .ensures) (then .if1 .taken)
 
-add-i : tie.Need-add-i Inv-loop μ-loop
-add-i c = search needs
+first-free-other-requires : tie.Need-first-free-other-requires
+first-free-other-requires c κs = search needs
 
-loop-less : tie.Need-loop-less Inv-loop μ-loop
-loop-less c = search needs
-
-loop-again : tie.Need-loop-again Inv-loop μ-loop
-loop-again c =
-    let start : tie.Start Inv-loop μ-loop = search in
-    let head : tie.At-loop Inv-loop μ-loop = search in
-    let turn : tie.In-loop Inv-loop μ-loop = search in
-    let l = head .loop in
-    let s = start .args in
-    let read = c .before .read-u64 in
-    sym (target-later (s .peers .now) (l .i) (turn .loop-test .taken) (read .ensures) (s .failed) (c .if1 .left)) ∙ l .inv
-
-returns-2 : tie.Need-returns-2 Inv-loop μ-loop
+returns-2 : tie.Need-returns-2
 returns-2 c =
-    let start : tie.Start Inv-loop μ-loop = search in
-    let l = c .before .loop in
-    let s = start .args in
-    sym (target-end (s .peers .now) (l .i) (c .loop-test .left) (s .failed)) ∙ l .inv
+    let s : tie.Start = search in
+    let all : tie.After-all-stalled = search in
+    let some : tie.Else1 = search in
+    let other : tie.After-first-free-other = search in
+    let a = s .args in
+    other .first-free-other .ensures
+    ∙ target-some (stalledPeers (a .stalled)) (peersIn (a .peers .now)) (a .failed) (all .all-stalled .ensures) (some .if1 .left)
 
 pub retry-target-spec : {M : Type 1} → statement M
 retry-target-spec =
     tie.close
     (tie.spec
-    Inv-loop
-    μ-loop
-    loop-holds
-    mul-read-u64
-    read-u64-requires
+    all-stalled-requires
+    first-other-requires
     returns
-    add-i
-    loop-less
-    loop-again
+    first-free-other-requires
     returns-2)

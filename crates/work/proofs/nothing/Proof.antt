@@ -4,7 +4,7 @@ use Rattle.work.proofs.nothing.Statement.{statement}
 use Rattle.work.proofs.nothing.Tie as tie
 
 returns : tie.Need-returns
-returns c = λ st call region ids stored peers view out numbers t g downloaded.
+returns c = λ st call region ids stored view out numbers t g downloaded.
     does-nothing g downloaded t
 
 pub nothing-spec : {M : Type 1} → statement M

@@ -1,9 +1,8 @@
 -- The loop: the requests that stay, then what the rest gives, is what the whole gives (`Checking`).
 use Rattle.fields.specs.Facts.{Bytes}
-use Rattle.model.specs.Lists.{peersIn}
 use Rattle.settings.specs.Values.{settingsOf}
 use Rattle.table.proofs.EditLaws.{bytes-from}
-use Rattle.check_timeouts.specs.Checked.{aimedAt}
+use Rattle.peers.specs.Aims.{aimedAt}
 use Rattle.check_timeouts.proofs.CheckLaws.{Checking, starts, turn-asks, turned-as, ends}
 use borrow.Author.Needs.{needs}
 use native.Mathlib.Omega.{arith}
@@ -14,11 +13,11 @@ use Rattle.check_timeouts.proofs.check.check_timeouts.Tie as tie
 use Rattle.model.specs.Layout.{recordSize}
 
 abbrev Inv-loop : tie.InvT-loop
-Inv-loop table₀ count settings clock gate peers places₀ aim counts₀ i₀ table places counts i =
-    Checking (settingsOf settings) clock (aimedAt aim) count table₀ places₀ table places counts i
+Inv-loop table₀ count settings clock gate places₀ to counts₀ i₀ table places counts i =
+    Checking (settingsOf settings) clock (aimedAt to) count table₀ places₀ table places counts i
 
 abbrev μ-loop : tie.MeasureT-loop
-μ-loop table₀ count settings clock gate peers places₀ aim counts₀ i₀ table places counts i = count - i
+μ-loop table₀ count settings clock gate places₀ to counts₀ i₀ table places counts i = count - i
 
 abbrev Turn : Type 0
 Turn = tie.In-loop Inv-loop μ-loop
@@ -37,14 +36,14 @@ module _ (c : tie.After-slice-known Inv-loop μ-loop) where
 
 -- ---- the needs
 
-retry-aim-requires : tie.Need-retry-aim-requires Inv-loop μ-loop
-retry-aim-requires c κs = search needs
+by-gate-requires : tie.Need-by-gate-requires Inv-loop μ-loop
+by-gate-requires c κs = search needs
 
 loop-holds : tie.Need-loop-holds Inv-loop μ-loop
 loop-holds c =
     let s : tie.Start Inv-loop μ-loop = search in
     let a = s .args in
-    let aim = aimedAt (c .retry-aim .result) in
+    let aim = aimedAt (c .by-gate .result) in
     starts (settingsOf (a .settings)) (a .clock) aim (a .count) (a .table .now) (a .places .now) (s .pre .1 .1 .0) (s .pre .1 .1 .1)
 
 turn-requires : tie.Need-turn-requires Inv-loop μ-loop
@@ -92,12 +91,12 @@ same-length-2 c = let l : tie.At-loop Inv-loop μ-loop = search in l .loop .inv 
 returns : tie.Need-returns Inv-loop μ-loop
 returns c =
     let entry : tie.After-slice-known Inv-loop μ-loop = search in
-    let aimed : tie.After-retry-aim Inv-loop μ-loop = search in
+    let aimed : tie.After-by-gate Inv-loop μ-loop = search in
     let l : tie.At-loop Inv-loop μ-loop = search in
     let past : tie.After-loop Inv-loop μ-loop = search in
     let done : tie.After-clear Inv-loop μ-loop = search in
     let a = start entry .args in
-    ends (l .loop .inv) (past .loop-test .left) (fits entry) (start entry .pre .1 .0) (a .gate) (peersIn (a .peers .now)) (aimed .retry-aim .ensures)
+    ends (l .loop .inv) (past .loop-test .left) (fits entry) (start entry .pre .1 .0) (a .gate) (aimedAt (a .aim)) (aimed .by-gate .ensures)
     (done .clear .ensures)
 
 pub check-timeouts-spec : {M : Type 1} → statement M
@@ -106,7 +105,7 @@ check-timeouts-spec =
     (tie.spec
     Inv-loop
     μ-loop
-    retry-aim-requires
+    by-gate-requires
     loop-holds
     turn-requires
     add-i

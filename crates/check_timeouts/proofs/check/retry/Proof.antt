@@ -1,6 +1,6 @@
 -- The record restarted, then marked: `retries-as`.
 use Rattle.fields.specs.Facts.{Bytes}
-use Rattle.check_timeouts.specs.Checked.{aimedAt}
+use Rattle.peers.specs.Aims.{aimedAt}
 use Rattle.check_timeouts.proofs.RecordLaws.{retries-as}
 use borrow.Author.Needs.{needs}
 use native.Mathlib.Omega.{arith}

@@ -3,7 +3,7 @@ use Rattle.fields.specs.Entries.{entry}
 use Rattle.model.specs.Delivery as delivery
 use Rattle.model.specs.Image.{requestOf}
 use Rattle.settings.specs.Values.{settingsOf}
-use Rattle.check_timeouts.specs.Checked.{aimedAt}
+use Rattle.peers.specs.Aims.{aimedAt}
 use Rattle.check_timeouts.specs.Turn.{verdictOf}
 use Rattle.check_timeouts.specs.declared.check.Verdict.{Verdict}
 use Rattle.check_timeouts.proofs.RecordLaws.{Moved, entry-moved, fits-moved, moved-retried}

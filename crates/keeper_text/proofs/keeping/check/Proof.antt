@@ -44,9 +44,6 @@ returns c =
 slice-aggregate-check-timeouts : tie.Need-slice-aggregate-check-timeouts
 slice-aggregate-check-timeouts c = search needs
 
-slice-aggregate-check-timeouts-2 : tie.Need-slice-aggregate-check-timeouts-2
-slice-aggregate-check-timeouts-2 c = search needs
-
 check-timeouts-requires : tie.Need-check-timeouts-requires
 unfolding settingsOf
 check-timeouts-requires c κs =
@@ -86,7 +83,6 @@ check-spec =
     in-order-requires
     returns
     slice-aggregate-check-timeouts
-    slice-aggregate-check-timeouts-2
     check-timeouts-requires
     put-row-requires
     same-length

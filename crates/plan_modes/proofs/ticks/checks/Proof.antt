@@ -32,7 +32,7 @@ module _ (c : tie.After-check-work) where
       actsBy st call height (c .check-work .result) ++ [] ≡ askFresh (firstOf (peersIn (call .peers))) (pairsIn (call .stored)) (st .sync .evicted)
   asks st call height ep =
       append-nil (actsBy st call height (c .check-work .result))
-      ∙ rw (c .check-work .ensures, sym ep) (fresh-asked st call height (firstOf (peersIn (call .peers))))
+      ∙ rw (c .check-work .ensures, sym ep) (fresh-asked st call height (start .args .aim) (firstOf (peersIn (call .peers))))
 
 -- ---- the needs
 

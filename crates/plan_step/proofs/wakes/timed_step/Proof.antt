@@ -1,11 +1,8 @@
--- By the kind: `progress-follows`, `check-follows`, what `scheduled_tick` ensures.
+-- By the kind: `progress-follows`, what `delivery_check` and `scheduled_tick` ensure.
 use borrow.Author.Needs.{needs}
-use mathlib.Core.Path.{ap, _∙_}
-use Rattle.model.specs.Peers.{firstOf}
-use Rattle.model.specs.Lists.{peersIn}
-use Rattle.peers.specs.Peers.{listedPeer}
+use mathlib.Core.Path.{_∙_}
 use Rattle.plan.proofs.KindLaws.{third}
-use Rattle.plan.proofs.FollowLaws.{progress-follows, check-follows}
+use Rattle.plan.proofs.FollowLaws.{progress-follows}
 use Rattle.plan.proofs.CallLaws.{numbers}
 use Rattle.plan_step.proofs.wakes.timed_step.Statement.{statement}
 use Rattle.plan_step.proofs.wakes.timed_step.Tie as tie
@@ -13,8 +10,8 @@ use Rattle.plan_step.proofs.wakes.timed_step.Tie as tie
 progresses-requires : tie.Need-progresses-requires
 progresses-requires c κs = search needs
 
-checks-requires : tie.Need-checks-requires
-checks-requires c κs = search needs
+delivery-check-requires : tie.Need-delivery-check-requires
+delivery-check-requires c κs = search needs
 
 scheduled-tick-requires : tie.Need-scheduled-tick-requires
 scheduled-tick-requires c κs = search needs
@@ -35,15 +32,9 @@ returns-2 : tie.Need-returns-2
 returns-2 c =
     let s : tie.Start = search in
     let a = s .args in
-    let r = c .checks in
     λ st d h n ep ev es lo hi.
     let m = numbers d (a .call) n in
-    check-follows st d (r .result)
-    (m .kind ∙ c .before .match .keys2)
-    (firstOf (peersIn (a .peers .now)))
-    (r .ensures .0 .0)
-    (ap listedPeer (r .ensures .0 .1))
-    (r .ensures .1 st d h (m .clock) (m .height) ep ev)
+    c .delivery-check .ensures st d h n ep ev es (m .kind ∙ c .before .match .keys2)
 
 returns-3 : tie.Need-returns-3
 returns-3 c =
@@ -59,7 +50,7 @@ timed-step-spec =
     tie.close
     (tie.spec
     progresses-requires
-    checks-requires
+    delivery-check-requires
     scheduled-tick-requires
     returns
     returns-2

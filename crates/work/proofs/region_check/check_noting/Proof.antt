@@ -1,6 +1,8 @@
 -- The table after the check holds what stays, and the noted places are in it: `checked-so`.
 use borrow.Author.Needs.{needs}
 use native.Mathlib.Omega.{arith}
+use Rattle.peers.specs.Aims.{aimedAt}
+use Rattle.work.proofs.AimLaws.{aim-fits}
 use Rattle.work.proofs.CheckLaws.{Due, made-retried, places-inside, places-narrow, table-size, checked-so}
 use Rattle.work.proofs.region_check.check_noting.Statement.{statement}
 use Rattle.work.proofs.region_check.check_noting.Tie as tie
@@ -11,14 +13,13 @@ module _ (c : tie.After-struct-known) where
   abbrev start : tie.Start
   start = search
 
-  due : let a = start .args in Due (a .head) (a .call) (a .peers .now) (a .region .now)
+  due : let a = start .args in Due (a .head) (a .call) (aimedAt (a .aim)) (a .region .now)
   due =
       let region : tie.After-slice-known = search in
-      let peers : tie.After-shared-slice-known = search in
       record {
         tracked = start .pre .0;
         bytes = λ i. omega (arith, region .slice-known .given i);
-        listed = λ i. omega (arith, peers .shared-slice-known .given i);
+        targets = aim-fits (start .args .aim) (start .good .1 .1 .1 .0);
         clock = omega (arith, c .struct-known .given);
       }
 

@@ -48,7 +48,7 @@ returns c =
     let s = start m in
     let a = s .args in
     let said = m .schedule-rerequest in (
-      λ st call stored peers view out g downloaded.
+      λ st call stored view out g downloaded.
           evicts-too-many g downloaded (s .pre .0) (region-bytes m) (ids-bytes m) (said .ensures .0) (c .enum-told .given .1),
       λ t. full-stays _ _ _ _ (a .region .now) (said .last .0) (said .ensures .0) (c .enum-told .given .1) (said .ensures .1),
     )
@@ -62,7 +62,7 @@ returns-2 c =
     let stays : tie.After-stay = search in
     let s = start m in
     let said = m .schedule-rerequest in (
-      λ st call stored peers view out g downloaded.
+      λ st call stored view out g downloaded.
           evicts g downloaded (s .pre .0) (region-bytes m) (ids-bytes m) (said .ensures .0) (stays .stay .given .1) refl (said .ensures .1),
       λ f. let z : _≡_ {A = ℕ} 0 1 = cc in absurd (lt-irrefl 0 (omega arith)),
     )

@@ -17,7 +17,7 @@ returns c =
     let region : tie.After-slice-known = search in
     let purged : tie.After-purge-peer = search in
     let made = purged .purge-peer .ensures in
-    λ st call ids stored peers view out g downloaded.
+    λ st call ids stored view out g downloaded.
     takes-the-peers g downloaded (s .pre) (λ i. omega (arith, region .slice-known .given i)) (made .0) (made .1)
 
 pub lose-spec : {M : Type 1} → statement M

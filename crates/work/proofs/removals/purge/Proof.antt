@@ -17,7 +17,7 @@ returns c =
     let s : tie.Start = search in
     let region : tie.After-slice-known = search in
     let purged : tie.After-purge-all = search in
-    λ st call ids stored peers view out g downloaded.
+    λ st call ids stored view out g downloaded.
     takes-all g downloaded (s .pre) (λ i. omega (arith, region .slice-known .given i)) refl (purged .purge-all .ensures)
 
 pub purge-spec : {M : Type 1} → statement M

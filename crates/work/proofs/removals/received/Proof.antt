@@ -20,7 +20,7 @@ returns c =
     let region : tie.After-slice-known = search in
     let marked : tie.After-mark-received = search in
     let made = marked .mark-received .ensures in
-    λ st call stored peers view out g downloaded.
+    λ st call stored view out g downloaded.
     takes-received g downloaded (s .pre .0) (λ i. omega (arith, region .slice-known .given i)) (made .0) (made .1)
 
 pub received-spec : {M : Type 1} → statement M

@@ -15,8 +15,8 @@ module _ (c : tie.After-perform) where
   abbrev start : tie.Start
   start = search
 
-  out-kept : length (c .perform .last .1 .1 .1 .1 .1 .1 .1 .1 .1 .0) ≡ length (first .announce .last .0)
-  out-kept = c .perform .kept .1 .1 .1 .1 .1 .1 .1 .1 .1 .0
+  out-kept : length (c .perform .last .1 .1 .1 .1 .1 .1 .1 .1 .0) ≡ length (first .announce .last .0)
+  out-kept = c .perform .kept .1 .1 .1 .1 .1 .1 .1 .1 .0
 
 -- ---- the needs
 

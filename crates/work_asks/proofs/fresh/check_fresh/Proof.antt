@@ -21,7 +21,7 @@ returns c =
     let checked : tie.After-check = search in
     let a = s .args in
     λ st call ids view g downloaded.
-    rw (given-plain g (none .if1 .taken) downloaded (a .peer)) (checked .check .ensures st call ids (a .stored .now) view g downloaded)
+    rw (given-plain g (none .if1 .taken) downloaded (a .peer) (a .aim)) (checked .check .ensures st call ids (a .stored .now) view g downloaded)
 
 slice-aggregate-check-fresh-with : tie.Need-slice-aggregate-check-fresh-with
 slice-aggregate-check-fresh-with c = search needs

@@ -4,7 +4,9 @@ use native.Mathlib.Omega.{arith}
 use Prim.Native.Nat.{ℕ, _-_, _*_}
 use mathlib.Core.Path.{sym}
 use lib.ListN.{length}
-use Rattle.fields.specs.Facts.{Bytes}
+use Rattle.peers.specs.Aims.{aimedAt}
+use Rattle.work.proofs.AimLaws.{aim-fits}
+use Rattle.work.proofs.RetriedLaws.{TargetsFit}
 use Rattle.work_asks.proofs.EntryLaws.{Entered}
 use Rattle.work_asks.proofs.FreshLaws.{Copied, CheckDone, up-to-end, fresh-long, fresh-ask, asks-fresh}
 use Rattle.work_asks.proofs.fresh.check_fresh_with.Statement.{statement}
@@ -28,8 +30,8 @@ module _ (c : tie.After-overwrite) where
         room = start .pre .1 .1;
       }
 
-  listed : Bytes (start .args .peers .now)
-  listed = let peers : tie.After-shared-slice-known2 = search in λ i. omega (arith, peers .shared-slice-known2 .given i)
+  targets : TargetsFit (aimedAt (start .args .aim))
+  targets = aim-fits (start .args .aim) (start .good .1 .1 .1 .1 .0)
 
   copied : let a = start .args in Copied (a .head) (a .region .now) (a .fresh .now) (c .overwrite .last .0)
   copied =
@@ -45,7 +47,7 @@ module _ (c : tie.After-check-region) where
   entry = search
 
   done : let a = start entry .args in
-      CheckDone (a .head) (a .call) (a .peers .now) (a .region .now) (a .at) (a .batch) (a .out .now)
+      CheckDone (a .head) (a .call) (a .aim) (a .region .now) (a .at) (a .batch) (a .out .now)
       (c .check-region .result) (c .check-region .last .0) (c .check-region .last .1 .1 .1 .1 .0)
   done =
       let made = c .check-region .ensures in
@@ -87,7 +89,7 @@ ask-list-requires c κs =
     let checked : tie.After-check-region = search in
     let copy = entry checked in
     let s = start copy in
-    fresh-ask (entered copy) (copied copy) (listed copy) (done checked) (s .args .stored .now) (s .pre .1 .0 .0)
+    fresh-ask (entered copy) (copied copy) (targets copy) (done checked) (s .args .stored .now) (s .pre .1 .0 .0)
 
 same-length : tie.Need-same-length
 same-length c = search needs
@@ -104,7 +106,7 @@ returns c =
     let checked : tie.After-check-region = search in
     let copy = entry checked in
     λ st call ids view g downloaded.
-    asks-fresh (entered copy) (copied copy) (listed copy) (done checked) (asked .ask-list .ensures .0) g downloaded
+    asks-fresh (entered copy) (copied copy) (targets copy) (done checked) (asked .ask-list .ensures .0) g downloaded
 
 pub check-fresh-with-spec : {M : Type 1} → statement M
 check-fresh-with-spec =

@@ -55,7 +55,7 @@ returns c =
     let counted : tie.After-unasked-counts = search in
     let entry : tie.After-shared-slice-known = search in
     let made = asked .ask-list .ensures in (
-      λ st call peers view g downloaded.
+      λ st call view g downloaded.
           asks-ids (entered entry) (counted .unasked-counts .ensures) (type-fits entry) (listed entry) (start entry .pre .1 .0 .1) (made .0) g downloaded,
       made .1,
     )

@@ -96,7 +96,7 @@ returns c =
     let counted : tie.After-unasked-counts = search in
     let purged : tie.After-purge-peer = search in
     let found = before purged in
-    λ st call ids peers view g downloaded.
+    λ st call ids view g downloaded.
     asks-lost (entered found) (gathered found) (left purged) (counted .unasked-counts .ensures) (pairs-bytes purged) (asked .ask-pairs .ensures) g downloaded
 
 pub lose-ask-with-spec : {M : Type 1} → statement M

@@ -60,14 +60,14 @@ enum-known-work-4 c = search needs
 lose-ask-requires : tie.Need-lose-ask-requires
 lose-ask-requires c κs = search needs
 
-enum-told-6 : tie.Need-enum-told-6
-enum-told-6 c = search needs
+enum-known-work-5 : tie.Need-enum-known-work-5
+enum-known-work-5 c = search needs
 
 check-requires : tie.Need-check-requires
 check-requires c κs = search needs
 
-enum-known-work-5 : tie.Need-enum-known-work-5
-enum-known-work-5 c = search needs
+enum-known-work-6 : tie.Need-enum-known-work-6
+enum-known-work-6 c = search needs
 
 check-fresh-requires : tie.Need-check-fresh-requires
 check-fresh-requires c κs = search needs
@@ -79,7 +79,7 @@ returns c =
     let did : tie.After-nothing = search in
     let a = s .args in (
       λ st call g. as-work st call (a .downloaded) (told .enum-told .given .1)
-          (did .nothing .ensures st call (a .region .now) (a .ids .now) (a .stored .now) (a .peers .now) (a .view .now) (a .out .now) (a .call)
+          (did .nothing .ensures st call (a .region .now) (a .ids .now) (a .stored .now) (a .view .now) (a .out .now) (a .call)
           (rw (clock-given g) (s .pre .0)) g (a .downloaded)),
       several (told .enum-told .given .1) refl,
     )
@@ -97,7 +97,7 @@ returns-2 c =
     let did : tie.After-ids = search in
     let a = s .args in (
       λ st call g. as-work st call (a .downloaded) (told .work .given .1)
-          (did .ids .ensures .0 st call (a .peers .now) (a .view .now) g (a .downloaded)),
+          (did .ids .ensures .0 st call (a .view .now) g (a .downloaded)),
       λ one full. did .ids .ensures .1 full,
     )
 
@@ -114,7 +114,7 @@ returns-3 c =
     let did : tie.After-sections = search in
     let a = s .args in (
       λ st call g. as-work st call (a .downloaded) (told .work2 .given .1)
-          (did .sections .ensures st call (a .ids .now) (a .stored .now) (a .peers .now) g),
+          (did .sections .ensures st call (a .ids .now) (a .stored .now) g),
       several (told .work2 .given .1) refl,
     )
 
@@ -128,7 +128,7 @@ returns-4 c =
     let did : tie.After-received = search in
     let a = s .args in (
       λ st call g. as-work st call (a .downloaded) (told .enum-told2 .given .1)
-          (did .received .ensures st call (a .stored .now) (a .peers .now) (a .view .now) (a .out .now) g (a .downloaded)),
+          (did .received .ensures st call (a .stored .now) (a .view .now) (a .out .now) g (a .downloaded)),
       several (told .enum-told2 .given .1) refl,
     )
 
@@ -142,7 +142,7 @@ returns-5 c =
     let did : tie.After-evicted = search in
     let a = s .args in (
       λ st call g. as-work st call (a .downloaded) (told .enum-told3 .given .1)
-          (did .evicted .ensures .0 st call (a .stored .now) (a .peers .now) (a .view .now) (a .out .now) g (a .downloaded)),
+          (did .evicted .ensures .0 st call (a .stored .now) (a .view .now) (a .out .now) g (a .downloaded)),
       λ one full. (did .evicted .ensures .1 full, refl),
     )
 
@@ -156,7 +156,7 @@ returns-6 c =
     let did : tie.After-purge = search in
     let a = s .args in (
       λ st call g. as-work st call (a .downloaded) (told .enum-told4 .given .1)
-          (did .purge .ensures st call (a .ids .now) (a .stored .now) (a .peers .now) (a .view .now) (a .out .now) g (a .downloaded)),
+          (did .purge .ensures st call (a .ids .now) (a .stored .now) (a .view .now) (a .out .now) g (a .downloaded)),
       several (told .enum-told4 .given .1) refl,
     )
 
@@ -173,7 +173,7 @@ returns-7 c =
     let did : tie.After-purge-sections = search in
     let a = s .args in (
       λ st call g. as-work st call (a .downloaded) (told .work3 .given .1)
-          (did .purge-sections .ensures st call (a .ids .now) (a .stored .now) (a .peers .now) g),
+          (did .purge-sections .ensures st call (a .ids .now) (a .stored .now) g),
       several (told .work3 .given .1) refl,
     )
 
@@ -187,7 +187,7 @@ returns-8 c =
     let did : tie.After-lose = search in
     let a = s .args in (
       λ st call g. as-work st call (a .downloaded) (told .enum-told5 .given .1)
-          (did .lose .ensures st call (a .ids .now) (a .stored .now) (a .peers .now) (a .view .now) (a .out .now) g (a .downloaded)),
+          (did .lose .ensures st call (a .ids .now) (a .stored .now) (a .view .now) (a .out .now) g (a .downloaded)),
       several (told .enum-told5 .given .1) refl,
     )
 
@@ -204,7 +204,7 @@ returns-9 c =
     let did : tie.After-lose-ask = search in
     let a = s .args in (
       λ st call g. as-work st call (a .downloaded) (told .work4 .given .1)
-          (did .lose-ask .ensures st call (a .ids .now) (a .peers .now) (a .view .now) g (a .downloaded)),
+          (did .lose-ask .ensures st call (a .ids .now) (a .view .now) g (a .downloaded)),
       several (told .work4 .given .1) refl,
     )
 
@@ -217,12 +217,12 @@ same-length-14 c = search needs
 returns-10 : tie.Need-returns-10
 returns-10 c =
     let s : tie.Start = search in
-    let told : tie.After-enum-told6 = search in
+    let told : tie.After-work5 = search in
     let did : tie.After-check = search in
     let a = s .args in (
-      λ st call g. as-work st call (a .downloaded) (told .enum-told6 .given .1)
+      λ st call g. as-work st call (a .downloaded) (told .work5 .given .1)
           (did .check .ensures st call (a .ids .now) (a .stored .now) (a .view .now) g (a .downloaded)),
-      several (told .enum-told6 .given .1) refl,
+      several (told .work5 .given .1) refl,
     )
 
 same-length-15 : tie.Need-same-length-15
@@ -234,12 +234,12 @@ same-length-16 c = search needs
 returns-11 : tie.Need-returns-11
 returns-11 c =
     let s : tie.Start = search in
-    let told : tie.After-work5 = search in
+    let told : tie.After-work6 = search in
     let did : tie.After-check-fresh = search in
     let a = s .args in (
-      λ st call g. as-work st call (a .downloaded) (told .work5 .given .1)
+      λ st call g. as-work st call (a .downloaded) (told .work6 .given .1)
           (did .check-fresh .ensures st call (a .ids .now) (a .view .now) g (a .downloaded)),
-      several (told .work5 .given .1) refl,
+      several (told .work6 .given .1) refl,
     )
 
 pub perform-spec : {M : Type 1} → statement M
@@ -264,9 +264,9 @@ perform-spec =
     lose-requires
     enum-known-work-4
     lose-ask-requires
-    enum-told-6
-    check-requires
     enum-known-work-5
+    check-requires
+    enum-known-work-6
     check-fresh-requires
     returns
     same-length
