@@ -1,5 +1,5 @@
-//! Takes the published Rust as it is, makes the changes that document 01 allows on a copy in the build folder, and
-//! stops if the source is not the one that the driver was written for.
+//! Takes the published Rust as it is, makes the changes that documents 01 and 02 allow on a copy in the build folder,
+//! and stops if the source is not the one that the driver was written for.
 
 use std::path::{Path, PathBuf};
 use std::{env, fs};
@@ -64,10 +64,29 @@ const SOURCES: [Source; 3] = [
             "\"no outbound peers, returning to idle\"",
             "\"progress → second batch SyncInfo\"",
         ],
-        replaced: &[(
-            "use std::collections::{HashMap, HashSet};",
-            "use std::collections::{BTreeMap as HashMap, BTreeSet as HashSet};",
-        )],
+        replaced: &[
+            (
+                "use std::collections::{HashMap, HashSet};",
+                "use std::collections::{BTreeMap as HashMap, BTreeSet as HashSet};",
+            ),
+            // F-2: retries pass over stalled peers, unless all listed ones are stalled.
+            (
+                "            for retry in &result.retries {
+                let target = peers
+                    .iter()
+",
+                "            let unstalled: Vec<PeerId> = peers
+                .iter()
+                .filter(|p| !self.stalled_peers.contains(*p))
+                .copied()
+                .collect();
+            let considered = if unstalled.is_empty() { &peers } else { &unstalled };
+            for retry in &result.retries {
+                let target = considered
+                    .iter()
+",
+            ),
+        ],
         probed: true,
     },
     Source {

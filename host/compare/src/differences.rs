@@ -1,12 +1,13 @@
 //! The differences that docs/DIFFERENCES.md names, each shown on its smallest input.
 
 use keeper_oracle::{Oracle, Reason, Verdict};
-use keeper_reference::{image, PLAIN};
+use keeper_reference::{image, Reference, PLAIN};
 use keeper_streams::build::{missing, syncing, Build, CASES};
 use keeper_streams::{directed, Opening, Script};
 use keeper_values::numbers::{kinds, outcomes};
 use keeper_values::{Answer, Call, Keeper, State};
 use keeper_values::{COMMAND_BYTES, STATE_BYTES};
+use keeper_variants::AS_PUBLISHED;
 
 /// Runs a stream on a keeper; the last answer and the state after it.
 fn played(keeper: &dyn Keeper, script: &Script) -> Result<(Answer, State), String> {
@@ -83,6 +84,20 @@ fn d1(keeper: &dyn Keeper) -> Result<(), String> {
     holds("D-1, the Rust's set is empty", state.stalled.is_empty())
 }
 
+/// D-2: retries pass over stalled peers (F-2). The Rust as it was published asks the first other peer, stalled or not; the
+/// oracle's copy has the rule written in.
+fn d2(keeper: &dyn Keeper) -> Result<(), String> {
+    let script = directed::d2();
+    let asked = |state: &State| -> Vec<u64> { state.pending.values().map(|r| r.peer).collect() };
+    let (_, state) = played(keeper, &script)?;
+    holds("D-2, the keeper asks 6", asked(&state) == [6])?;
+    let (_, state) = judged(&script, &[])?;
+    holds("D-2, the oracle asks 6", asked(&state) == [6])?;
+    let rules = AS_PUBLISHED;
+    let (_, state) = played(&Reference { rules }, &script)?;
+    holds("D-2, the published rule asks 4", asked(&state) == [4])
+}
+
 /// A sum that is exact here and overflows in the Rust: the step's outcome, and its length in bytes.
 fn overflow(keeper: &dyn Keeper, script: &Script, outcome: u32, length: u32) -> Result<(), String> {
     let (answer, _) = played(keeper, script)?;
@@ -137,6 +152,7 @@ fn sends_counted(keeper: &dyn Keeper) -> Result<(), String> {
 /// All of them; they need the Rust and a build with overflow checks.
 pub fn shown(keeper: &dyn Keeper) -> Result<(), String> {
     d1(keeper)?;
+    d2(keeper)?;
     our_sum(keeper)?;
     window_sum(keeper)?;
     sends_counted(keeper)

@@ -134,6 +134,9 @@ impl<'k> Trial<'k> {
             Verdict::Finished(observed) => {
                 self.finished(call, &answer, &written, &observed)?;
                 report.agreed(call, &self.state, &observed.sends, answer.outcome);
+                if call.kind == kinds::CHECK {
+                    report.agreed_check(&before, call, &self.state);
+                }
             }
             Verdict::Refused(number) => same("refusal", &Answer::refused(number), &answer)?,
             Verdict::Lost(surprise) => return Err(format!("the oracle is lost: {surprise}")),

@@ -11,6 +11,7 @@ use keeper_streams::text::Line;
 use keeper_streams::{directed, hostile};
 use keeper_values::{Keeper, MAP_BYTES};
 use keeper_variants::Variant;
+use std::cmp::Reverse;
 use std::collections::{BTreeMap, BTreeSet};
 
 pub fn write(lines: &[Line]) -> String {
@@ -124,6 +125,12 @@ fn candidates(variants: &[Variant], seeds: u64) -> Result<Vec<Candidate>, String
 /// How often each key has been shown.
 type Seen = BTreeMap<u64, u32>;
 
+fn see(seen: &mut Seen, candidate: &Candidate) {
+    for key in &candidate.keys {
+        *seen.entry(*key).or_default() += 1;
+    }
+}
+
 /// What a candidate adds: keys not yet shown and, if it is short, variants told once so far.
 fn worth(seen: &Seen, candidate: &Candidate) -> u64 {
     let short = candidate.size <= SHORT;
@@ -135,28 +142,49 @@ fn worth(seen: &Seen, candidate: &Candidate) -> u64 {
     candidate.keys.iter().filter(new).count() as u64
 }
 
-/// Makes the list: the stream that adds most for its size, then the next, until none adds anything.
-pub fn make(variants: &[Variant], seeds: u64) -> Result<Vec<Line>, String> {
-    let candidates = candidates(variants, seeds)?;
+/// The stream that adds most for its size, then the next, until none adds anything.
+fn chosen(candidates: &[Candidate]) -> Vec<&Candidate> {
     let mut left: Vec<&Candidate> = candidates.iter().collect();
     left.retain(|candidate| candidate.size <= LONGEST);
     let mut seen = Seen::new();
-    let mut lines = Vec::new();
+    let mut chosen = Vec::new();
     loop {
         let rate = |candidate: &Candidate| {
             worth(&seen, candidate) * 1_000_000_000 / (candidate.size as u64 + 400)
         };
         let best = (0..left.len()).max_by_key(|index| rate(left[*index]));
         let Some(best) = best.filter(|index| worth(&seen, left[*index]) > 0) else {
-            break;
+            return chosen;
         };
-        let chosen = left.swap_remove(best);
-        for key in &chosen.keys {
-            *seen.entry(*key).or_default() += 1;
-        }
-        lines.extend(chosen.lines.iter().cloned());
+        let best = left.swap_remove(best);
+        see(&mut seen, best);
+        chosen.push(best);
     }
-    Ok(lines)
+}
+
+/// Those without which the others would be less: the longest that adds nothing to the others goes first.
+fn needed(chosen: Vec<&Candidate>) -> Vec<&Candidate> {
+    let mut by_size: Vec<usize> = (0..chosen.len()).collect();
+    by_size.sort_by_key(|index| Reverse(chosen[*index].size));
+    let mut kept: BTreeSet<usize> = by_size.iter().copied().collect();
+    for index in by_size {
+        let mut seen = Seen::new();
+        for other in kept.iter().filter(|other| **other != index) {
+            see(&mut seen, chosen[*other]);
+        }
+        if worth(&seen, chosen[index]) == 0 {
+            kept.remove(&index);
+        }
+    }
+    kept.into_iter().map(|index| chosen[index]).collect()
+}
+
+/// Makes the list.
+pub fn make(variants: &[Variant], seeds: u64) -> Result<Vec<Line>, String> {
+    let candidates = candidates(variants, seeds)?;
+    let needed = needed(chosen(&candidates));
+    let lines = needed.iter().flat_map(|candidate| candidate.lines.clone());
+    Ok(lines.collect())
 }
 
 /// How many streams a list has.

@@ -2,7 +2,8 @@
 
 use keeper_oracle::{Reason, Sent};
 use keeper_values::numbers::kinds;
-use keeper_values::{Call, MapCall, Mode, Row, State};
+use keeper_values::{Call, Id, MapCall, Mode, Request, Row, State};
+use std::collections::BTreeSet;
 use std::fmt::{self, Display, Formatter};
 
 const KINDS: usize = kinds::LAST as usize + 2;
@@ -18,6 +19,16 @@ const MET: [&str; 9] = [
     "192 heights or more in the view",
     "1,000 or more pending and evicted",
     "a height of 2^32 - 1",
+];
+
+/// What finished checks with retries are counted for besides, where the gate is open and a peer is listed.
+const AIMED: [&str; 6] = [
+    "no listed peer stalled",
+    "some of the listed peers stalled",
+    "all listed peers stalled",
+    "all listed peers but the failed one stalled",
+    "a listed peer stalled, the failed one not listed",
+    "a listed peer stalled, one listed twice",
 ];
 
 /// The numbers that a call of the map may have.
@@ -38,6 +49,7 @@ pub struct Report {
     out_of_domain: [u64; 3],
     outcomes: [u64; 6],
     met: [u64; MET.len()],
+    aimed: [u64; AIMED.len()],
     map: [[u64; MAP_NUMBERS.len()]; MapCall::NAMES.len()],
     map_met: [u64; MAP_MET.len()],
     pub streams: u64,
@@ -82,6 +94,36 @@ impl Report {
             call.height == u32::MAX,
         ];
         for (count, met) in self.met.iter_mut().zip(met) {
+            *count += u64::from(met);
+        }
+    }
+
+    /// A finished check that the Rust agrees with, by where its retries could go.
+    pub fn agreed_check(&mut self, before: &State, call: &Call, after: &State) {
+        // Only a retry has one check more.
+        let retried = |(id, request): (&Id, &Request)| {
+            let now = after.pending.get(id)?;
+            (now.checks > request.checks).then_some(request.peer)
+        };
+        let failed: Vec<u64> = before.pending.iter().filter_map(retried).collect();
+        let peers = &call.peers;
+        if !call.gate || peers.is_empty() || failed.is_empty() {
+            return;
+        }
+        let is_stalled = |peer: &u64| before.stalled.contains(peer);
+        let (stalled, free): (Vec<u64>, Vec<u64>) = peers.iter().partition(|peer| is_stalled(peer));
+        let only = |failed: &u64| free.iter().all(|peer| peer == failed);
+        let once: BTreeSet<&u64> = peers.iter().collect();
+        let some = !stalled.is_empty();
+        let met = [
+            !some,
+            some && !free.is_empty(),
+            free.is_empty(),
+            some && !free.is_empty() && failed.iter().any(only),
+            some && failed.iter().any(|failed| !peers.contains(failed)),
+            some && once.len() < peers.len(),
+        ];
+        for (count, met) in self.aimed.iter_mut().zip(met) {
             *count += u64::from(met);
         }
     }
@@ -162,6 +204,11 @@ impl Display for Report {
         writeln!(out, "\n| finished steps with | steps |")?;
         writeln!(out, "|---|---|")?;
         for (name, count) in MET.iter().zip(self.met) {
+            writeln!(out, "| {name} | {count} |")?;
+        }
+        writeln!(out, "\n| checks with retries, gate open | checks |")?;
+        writeln!(out, "|---|---|")?;
+        for (name, count) in AIMED.iter().zip(self.aimed) {
             writeln!(out, "| {name} | {count} |")?;
         }
         writeln!(out, "\n| refusal | steps |")?;

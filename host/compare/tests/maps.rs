@@ -1,6 +1,8 @@
 //! The map of the window: every directed stream answers as it says, random ones go where they are meant to go, and a
 //! keeper with a fault is found.
 
+mod rows;
+
 use keeper_compare::report::Report;
 use keeper_compare::{hostile_maps, keepers, maps, tell};
 use keeper_play::record;
@@ -23,12 +25,7 @@ fn random_streams_agree_with_rule_5() {
     for seed in 0..300 {
         maps::try_random(&keepers::all(), seed, &mut report).expect("no difference");
     }
-    let text = report.to_string();
-    let met = |name: &str, least: u64| {
-        let row = text.lines().find(|line| line.contains(name));
-        let count = row.and_then(|row| row.split('|').nth(2)?.trim().parse::<u64>().ok());
-        assert!(count >= Some(least), "{name}: {row:?}");
-    };
+    let met = |name, least| rows::met(&report, name, least);
     met("| fill |", 500);
     met("| arrived |", 1_000);
     met("| pruned |", 300);

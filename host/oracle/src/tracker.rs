@@ -1,6 +1,7 @@
 //! The original's tracker by its own operations on whole lists, to be timed.
 
 use keeper_values::Id;
+use std::collections::HashSet;
 
 /// The maps in which it holds what is pending.
 #[derive(Debug, Clone, Copy, PartialEq, Eq)]
@@ -10,6 +11,9 @@ pub enum Maps {
     /// `HashMap`, as it was published.
     Hashed,
 }
+
+/// The stalled and the listed peers, behind an open gate.
+pub type Open<'a> = (&'a HashSet<u64>, &'a [u64]);
 
 pub trait Tracker {
     /// The ids that are not pending, as `request_announced` picks them.
@@ -22,9 +26,9 @@ pub trait Tracker {
 
     fn schedule_rerequest(&mut self, ids: &[Id]);
 
-    /// `check_timeouts`. With `peers`, the retries are put into batches by target and type and marked as retried, as
-    /// `handle_delivery_check` does behind an open gate. Answers how many were retried.
-    fn check_timeouts(&mut self, peers: Option<&[u64]>) -> usize;
+    /// `check_timeouts`. With `open`, the retries are put into batches by target and type and marked as retried, as
+    /// `handle_delivery_check` does in the oracle's copy. Answers how many were retried.
+    fn check_timeouts(&mut self, open: Option<Open>) -> usize;
 
     fn pending_count(&self) -> usize;
 }

@@ -1,6 +1,6 @@
 //! The original's tracker with ordered maps and as it was published.
 
-use crate::tracker::{Maps, Tracker};
+use crate::tracker::{Maps, Open, Tracker};
 use crate::{delivery, delivery_as_published};
 use enr_p2p::types::PeerId;
 use keeper_values::Id;
@@ -34,14 +34,18 @@ macro_rules! tracker_with {
                 self.schedule_rerequest(ids);
             }
 
-            fn check_timeouts(&mut self, peers: Option<&[u64]>) -> usize {
+            fn check_timeouts(&mut self, open: Option<Open>) -> usize {
                 let checked = self.check_timeouts();
-                let Some(peers) = peers else {
+                let open = open.filter(|_| !checked.retries.is_empty());
+                let Some((stalled, peers)) = open else {
                     return checked.retries.len();
                 };
+                let free = peers.iter().filter(|peer| !stalled.contains(*peer));
+                let free: Vec<u64> = free.copied().collect();
+                let considered = if free.is_empty() { peers } else { &free };
                 let mut batches: $map<(PeerId, u8), Vec<Id>> = $map::new();
                 for retry in &checked.retries {
-                    let other = peers
+                    let other = considered
                         .iter()
                         .find(|peer| PeerId(**peer) != retry.failed_peer);
                     let target = other.map_or(retry.failed_peer, |peer| PeerId(*peer));

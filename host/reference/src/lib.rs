@@ -1,5 +1,5 @@
-//! The reference: document 01, F-1 of document 02 and docs/LAYOUT.md read as plain Rust on bytes. Small and obvious
-//! rather than fast.
+//! The reference: document 01, F-1 and F-2 of document 02 and docs/LAYOUT.md read as plain Rust on bytes. Small and
+//! obvious rather than fast.
 //!
 //! In the oracle's domain it equals the original Rust; outside, on any bytes, it is what a core is held against. Every
 //! decision is a field of [`Rules`], so that a faulty variant is the plain rules with one field replaced.
@@ -42,7 +42,7 @@ pub struct Reference {
 }
 
 impl Reference {
-    /// Document 01's own rules.
+    /// The documents' own rules.
     pub fn plain() -> Self {
         Self { rules: PLAIN }
     }

@@ -1,4 +1,4 @@
-//! Every decision of the reference as a field. [`PLAIN`] is document 01 with F-1; a variant is
+//! Every decision of the reference as a field. [`PLAIN`] is document 01 with F-1 and F-2; a variant is
 //! `Rules { one: .., ..PLAIN }`.
 
 use crate::delivery::{Check, Retry};
@@ -22,7 +22,7 @@ macro_rules! rules {
             pub run_length: usize,
         }
 
-        /// Document 01's own rules.
+        /// The documents' own rules.
         pub const PLAIN: Rules = Rules {
             $($($rule: rules!(@value $module $rule $($name)?),)*)*
             run_length: limits::RUN,
@@ -95,7 +95,7 @@ rules! {
         request_next_sections: fn(&mut Run) -> Result<(), Refusal>,
         complete: fn(&Row) -> bool,
         advance_downloaded_height: fn(&mut Run) -> Result<(), Refusal>,
-        retry_target: fn(&[u64], u64) -> u64,
+        retry_target: fn(&[u64], &[u64], u64) -> u64,
         retry_batches: fn(&Run, &[Retry]) -> Vec<(u64, u8, Vec<Id>)>,
         send_retries: fn(&mut Run, &[Retry]),
         send_fresh: fn(&mut Run, &[Id]),

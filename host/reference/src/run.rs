@@ -24,7 +24,7 @@ impl Run<'_> {
         self.inputs.row(height).ok_or(Refusal(9))
     }
 
-    /// The peer that rules 4, 6 and 9 turn to.
+    /// The peer that rules 4 and 9 and the fresh ids of rule 6 turn to.
     pub fn first_peer(&self) -> Option<u64> {
         self.inputs.peers.first().copied()
     }

@@ -1,4 +1,4 @@
-//! state.rs, rules 1 to 6 (document 01).
+//! state.rs, rules 1 to 6 (document 01, and F-2 of document 02).
 
 use crate::delivery::Retry;
 use crate::{Refusal, Run};
@@ -116,9 +116,20 @@ pub fn advance_downloaded_height(run: &mut Run) -> Result<(), Refusal> {
     Ok(())
 }
 
-/// Rule 6: "the first listed peer other than the failed one, else [..] the failed one".
-pub fn retry_target(peers: &[u64], failed: u64) -> u64 {
-    let other = peers.iter().find(|peer| **peer != failed);
+/// F-2: "Consider the listed peers not stalled, or all listed ones when every one is stalled."
+pub fn considered(stalled: &[u64], peers: &[u64]) -> Vec<u64> {
+    let unstalled = peers.iter().filter(|peer| !stalled.contains(peer));
+    let unstalled: Vec<u64> = unstalled.copied().collect();
+    if unstalled.is_empty() {
+        return peers.to_vec();
+    }
+    unstalled
+}
+
+/// F-2: "Take the first of these other than the failed peer; if there is none, the failed peer."
+pub fn retry_target(stalled: &[u64], peers: &[u64], failed: u64) -> u64 {
+    let considered = considered(stalled, peers);
+    let other = considered.iter().find(|peer| **peer != failed);
     other.copied().unwrap_or(failed)
 }
 
@@ -126,7 +137,8 @@ pub fn retry_target(peers: &[u64], failed: u64) -> u64 {
 pub fn retry_batches(run: &Run, retries: &[Retry]) -> Vec<(u64, u8, Vec<Id>)> {
     let mut batches = BTreeMap::<(u64, u8), Vec<Id>>::new();
     for retry in retries {
-        let target = (run.rules.retry_target)(&run.inputs.peers, retry.failed_peer);
+        let (stalled, peers) = (&run.state.stalled, &run.inputs.peers);
+        let target = (run.rules.retry_target)(stalled, peers, retry.failed_peer);
         let batch = batches.entry((target, retry.type_id)).or_default();
         batch.push(retry.id);
     }

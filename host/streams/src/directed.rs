@@ -10,6 +10,7 @@ mod messages;
 mod peers;
 mod shapes;
 
+pub use delivery::d2;
 pub use peers::d1;
 
 /// All directed streams.

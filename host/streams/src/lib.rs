@@ -11,6 +11,7 @@ pub mod noise;
 pub mod random;
 pub mod rng;
 pub mod shapes;
+mod stalling;
 pub mod text;
 mod world;
 

@@ -1,6 +1,7 @@
 //! Random streams: the next call is drawn from a seed and from what the keeper holds.
 
 use crate::rng::Rng;
+use crate::stalling::Stalling;
 use crate::world::World;
 use crate::Opening;
 use keeper_values::numbers::kinds;
@@ -9,6 +10,7 @@ use std::collections::BTreeSet;
 
 pub struct Random {
     rng: Rng,
+    stalling: Stalling,
     world: World,
     opening: Opening,
     /// Calls in this stream.
@@ -18,6 +20,7 @@ pub struct Random {
 impl Random {
     pub fn new(seed: u64) -> Self {
         let mut rng = Rng::new(seed);
+        let mut stalling = Stalling::new(seed);
         let clock = rng.pick(&[0, 0, 1_000, 1 << 40, u64::MAX - 5_000]);
         let height = match rng.below(12) {
             0 => u32::MAX - rng.below(400) as u32,
@@ -32,7 +35,9 @@ impl Random {
             _ => rng.range(5, 50),
         } as usize;
         let opening = if world.crowded || rng.once_in(5) {
-            Opening::Put(Box::new(put_state(&mut rng, &world, clock, height)))
+            let mut state = put_state(&mut rng, &world, clock, height);
+            stalling.put(&world, &mut state);
+            Opening::Put(Box::new(state))
         } else {
             Opening::Open {
                 settings: world.settings,
@@ -42,6 +47,7 @@ impl Random {
         };
         Self {
             rng,
+            stalling,
             world,
             opening,
             length,
@@ -74,7 +80,7 @@ impl Random {
             world.branch = rng.draw();
             first = first.min(fork.saturating_add(1));
         }
-        Call {
+        let mut call = Call {
             kind,
             clock: clock(rng, state),
             gate: !rng.once_in(5),
@@ -94,7 +100,9 @@ impl Random {
             peers: world.listed.clone(),
             view: world.view(rng, first),
             fails: fails(rng),
-        }
+        };
+        self.stalling.turn(world, state, &mut call);
+        call
     }
 }
 

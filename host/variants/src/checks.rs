@@ -11,15 +11,19 @@ pub fn variants() -> Vec<Variant> {
         fault(
             "a retry goes to the first listed peer, failed or not",
             Rules {
-                retry_target: |peers, failed| peers.first().copied().unwrap_or(failed),
+                retry_target: |stalled, peers, failed| {
+                    let considered = sync::considered(stalled, peers);
+                    considered.first().copied().unwrap_or(failed)
+                },
                 ..PLAIN
             },
         ),
         fault(
             "a retry goes to the last other peer",
             Rules {
-                retry_target: |peers, failed| {
-                    let other = peers.iter().rev().find(|peer| **peer != failed);
+                retry_target: |stalled, peers, failed| {
+                    let considered = sync::considered(stalled, peers);
+                    let other = considered.iter().rev().find(|peer| **peer != failed);
                     other.copied().unwrap_or(failed)
                 },
                 ..PLAIN

@@ -11,13 +11,17 @@ mod maps;
 mod messages;
 mod requests;
 mod results;
-
+mod targets;
 mod ticks;
 
 use keeper_reference::{Reference, Rules};
+pub use targets::AS_PUBLISHED;
 
 /// The place of the map's variants.
 pub const MAP: &str = "F-1";
+
+/// The place of those that choose a retry's target among stalled peers.
+pub const TARGETS: &str = "F-2";
 
 /// A keeper with one fault.
 #[derive(Clone, Copy)]
@@ -52,6 +56,7 @@ pub fn all() -> Vec<Variant> {
         calls::variants(),
         results::variants(),
         maps::variants(),
+        targets::variants(),
     ]
     .concat()
 }

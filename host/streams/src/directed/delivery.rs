@@ -68,7 +68,8 @@ fn timeouts(scripts: &mut Vec<Script>) {
     );
 }
 
-/// Where retries go, open and behind a shut gate.
+/// Where retries go, open and behind a shut gate, and with some of the listed peers stalled: none of them that matters, the
+/// first, all but the failed one, all.
 fn targets(scripts: &mut Vec<Script>) {
     let lists: [&[u64]; 8] = [
         &[],
@@ -124,6 +125,61 @@ fn targets(scripts: &mut Vec<Script>) {
             }
         }
     }
+    let stalled: [&[u64]; 6] = [&[7], &[4], &[5], &[4, 5], &[9, 4], &[6, 5, 4, 9]];
+    for peers in lists {
+        for stalled in stalled {
+            let state = State {
+                stalled: stalled.to_vec(),
+                ..state.clone()
+            };
+            scripts.push(
+                Build::put(&format!("retry to {peers:?}, {stalled:?} stalled"), state)
+                    .at(10_000)
+                    .check(peers)
+                    .at(20_000)
+                    .check(peers)
+                    .done(),
+            );
+        }
+    }
+}
+
+/// One id, retried at checks that list these peers. The sync peer plays no part.
+fn retried(failed: u64, stalled: &[u64], lists: &[&[u64]]) -> Script {
+    let settings = Settings {
+        max_checks: 3,
+        ..CASES
+    };
+    let state = State {
+        sync_peer: Some(9),
+        stalled: stalled.to_vec(),
+        pending: pending(1, 1, request(failed, 102, 0, 0)),
+        ..syncing(settings, 0)
+    };
+    let name = format!("{failed} failed, {stalled:?} stalled, listed {lists:?}");
+    let mut build = Build::put(&name, state);
+    for (peers, clock) in lists.iter().zip([10_000, 20_000]) {
+        build = build.at(clock).check(peers);
+    }
+    build.done()
+}
+
+/// D-2's smallest input: of the listed 4, 5 and 6 the first is stalled and the second has failed.
+pub fn d2() -> Script {
+    retried(5, &[4], &[&[4, 5, 6]])
+}
+
+/// Short streams for each case of the choice: a peer to pass over, only the failed one not stalled, all stalled; and two of
+/// them one after the other.
+fn passed_over(scripts: &mut Vec<Script>) {
+    scripts.extend([
+        d2(),
+        retried(5, &[4], &[&[4, 5]]),
+        retried(4, &[4, 5], &[&[4, 5]]),
+        retried(4, &[4], &[&[4]]),
+        retried(5, &[4, 7], &[&[4, 5], &[4, 7]]),
+        retried(5, &[7, 4], &[&[5, 4], &[7, 4]]),
+    ]);
 }
 
 /// Eviction, with ids pending or not, repeats, and the check after it.
@@ -290,6 +346,7 @@ pub fn scripts() -> Vec<Script> {
     let mut scripts = Vec::new();
     timeouts(&mut scripts);
     targets(&mut scripts);
+    passed_over(&mut scripts);
     evictions(&mut scripts);
     lost(&mut scripts);
     runs(&mut scripts);

@@ -100,19 +100,23 @@ pub fn scripts() -> Vec<Script> {
             );
         }
     }
-    // 10 goes by what is left at the end: an id more is refused, one that only changes its list is not.
+    // 10 goes by what is left at the end: an id that only changes its list is not refused, one more is. The longest list
+    // of ids, so that the fixed list needs no other for it.
     scripts.push(
         Build::put(
-            "one more, a reorg and an eviction at 1,024",
-            repeated(1, 1_023),
+            "an eviction to 1,024, one more, and a reorg",
+            repeated(1, 0),
         )
+        .call(kinds::EVICTED, |c| {
+            c.ids = vec![id(1); 1_023];
+            c.ids.push(id(2_000));
+        })
         .announce(6, 102, vec![id(2)])
         .call(kinds::REORG, |c| {
             c.height = 2;
             c.peers = vec![4];
             c.view = missing(1, 2);
         })
-        .call(kinds::EVICTED, |c| c.ids = vec![id(2_000)])
         .done(),
     );
     // What a step takes out makes room for what it puts in.
