@@ -8,7 +8,7 @@ use keeper_reference::image;
 use keeper_values::numbers::{kinds, types};
 use keeper_values::{Call, Id, Row, State};
 use std::collections::hash_map::DefaultHasher;
-use std::collections::BTreeMap;
+use std::collections::{BTreeMap, HashSet};
 use std::hash::{Hash, Hasher};
 use std::hint::black_box;
 use std::time::Duration;
@@ -78,12 +78,17 @@ fn listed(call: &Call) -> BTreeMap<u8, Vec<Id>> {
     lists
 }
 
-fn track(call: &Call, tracker: &mut dyn Tracker, lists: &BTreeMap<u8, Vec<Id>>) {
+fn track(
+    call: &Call,
+    stalled: &HashSet<u64>,
+    tracker: &mut dyn Tracker,
+    lists: &BTreeMap<u8, Vec<Id>>,
+) {
     match call.kind {
         kinds::RECEIVED => tracker.mark_received(&call.ids),
         kinds::EVICTED => tracker.schedule_rerequest(&call.ids),
         kinds::CHECK => {
-            tracker.check_timeouts(call.gate.then_some(&call.peers[..]));
+            tracker.check_timeouts(call.gate.then_some((stalled, &call.peers[..])));
         }
         _ => {
             for (type_id, ids) in lists {
@@ -103,8 +108,9 @@ pub fn time_tracker(case: &Case, prepared: &Prepared, maps: Maps) -> Option<(Dur
     let mut tracker = filled(&prepared.state, maps)?;
     let call = prepared.call.clone();
     let lists = listed(&call);
+    let stalled = prepared.state.stalled.iter().copied().collect();
     set_clock(call.clock);
-    let took = time(|| track(&call, tracker.as_mut(), &lists));
+    let took = time(|| track(&call, &stalled, tracker.as_mut(), &lists));
     Some((took, tracker.pending_count()))
 }
 

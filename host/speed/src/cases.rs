@@ -1,6 +1,6 @@
 //! The calls that are timed.
 
-use crate::bound::{ANNOUNCED, FEW, REMOVED, SCANNED, WINDOW};
+use crate::bound::{ANNOUNCED, FEW, QUIET, REMOVED, SCANNED, WINDOW};
 use crate::case::{Beside, Case, Memory, Prepared};
 use crate::data::{
     call, from_distinct_peers, pending, quiet, synced, window, with_ids, CLOCK, HEIGHT, LONG_AGO,
@@ -107,6 +107,18 @@ pub fn tracker() -> Vec<Case> {
     fn distinct(ids: &mut Ids, check: Call) -> Prepared {
         Prepared::new(from_distinct_peers(&ids.draw(1_024), LONG_AGO), check)
     }
+    /// The listed peers are the last of the stalled ones to be found.
+    fn among_stalled(ids: &mut Ids, stamp: u64, listed: u64, stalled: u64) -> Prepared {
+        let state = State {
+            stalled: (1..=stalled).rev().collect(),
+            ..pending(&ids.draw(1_024), stamp)
+        };
+        let check = Call {
+            peers: (1..=listed).collect(),
+            ..call(kinds::CHECK)
+        };
+        Prepared::new(state, check)
+    }
     vec![
         Case::tracked(
             "check of 1,024, all retried, one target",
@@ -129,6 +141,20 @@ pub fn tracker() -> Vec<Case> {
         }),
         Case::tracked("check of 1,024, nothing expired", SCANNED, |ids| {
             Prepared::new(pending(&ids.draw(1_024), CLOCK), call(kinds::CHECK))
+        }),
+        Case::tracked(
+            "check of 1,024, all retried, 8 of 16 listed stalled",
+            ANNOUNCED,
+            |ids| among_stalled(ids, LONG_AGO, 16, 8),
+        ),
+        Case::tracked(
+            "the same, all of 128 listed and 256 stalled",
+            ANNOUNCED,
+            |ids| among_stalled(ids, LONG_AGO, 128, 256),
+        ),
+        // The tracker has no stalled set, which every image is tested for.
+        Case::tracked("the same, nothing expired", QUIET, |ids| {
+            among_stalled(ids, CLOCK, 128, 256)
         }),
         received_400(),
         Case::tracked("evicted 400 of 1,024", REMOVED, |ids| {
