@@ -1,9 +1,11 @@
 //! The words for what became of an id: a label and the reason.
 
-use crate::fates::{Asked, Became, NotAsked, Retry};
+use crate::fates::{Aim, Asked, Became, NotAsked, Retry};
 use crate::scenario::{show_type, Names};
 use crate::text::grouped;
 use request_keeper::{Peer, Settings};
+
+const UNEXPLAINED: &str = "for no reason that the player knows";
 
 /// Whether a sentence is about one id or about several.
 #[derive(Debug, Clone, Copy, PartialEq, Eq)]
@@ -143,30 +145,49 @@ fn not_asked(why: NotAsked, told: Told, names: &Names) -> String {
             )
         }
         NotAsked::Transaction => "a transaction is not asked for twice".to_string(),
-        NotAsked::Unexplained => "for no reason that the player knows".to_string(),
+        NotAsked::Unexplained => UNEXPLAINED.to_string(),
+    }
+}
+
+/// Where a retry goes, and why there.
+fn aimed(retry: &Retry, told: Told, names: &Names) -> String {
+    let (from, to) = (names.show_peer(retry.from), names.show_peer(retry.to));
+    let first_other = format!("now asked of {to}, the first listed peer other than {from}");
+    match &retry.aim {
+        Aim::GateShut => {
+            let stay = told.form(
+                "its clock starts anew, it stays",
+                "their clocks start anew, they stay",
+            );
+            format!("the gate is shut: {stay} with {from}, nothing is sent")
+        }
+        Aim::Unstalled(passed) if passed.is_empty() => first_other,
+        Aim::Unstalled(passed) => {
+            let passed = names.show_peers(passed);
+            format!("{first_other} that has not stalled (passed over: {passed})")
+        }
+        Aim::AllStalled(listed) => {
+            let listed = names.show_peers(listed);
+            format!("every listed peer has stalled ({listed}): {first_other}")
+        }
+        Aim::OthersStalled(others) => {
+            let others = names.show_peers(others);
+            format!("every other listed peer has stalled ({others}): asked of {to} again")
+        }
+        Aim::NoOther => format!("no other peer is listed: asked of {to} again"),
+        Aim::NoPeer => format!("no peer is listed: asked of {to} again"),
+        Aim::Unexplained => format!("asked of {to}, {UNEXPLAINED}"),
     }
 }
 
 fn retried(retry: &Retry, told: Told, settings: &Settings, names: &Names) -> String {
-    let (from, to) = (names.show_peer(retry.from), names.show_peer(retry.to));
-    let why = if !retry.gate_open {
-        let stay = told.form(
-            "its clock starts anew, it stays",
-            "their clocks start anew, they stay",
-        );
-        format!("the gate is shut: {stay} with {from}, nothing is sent")
-    } else if retry.to != retry.from {
-        format!("now asked of {to}, the first listed peer other than {from}")
-    } else if retry.other_listed {
-        format!("asked of {to} again")
-    } else {
-        format!("no other peer is listed: asked of {to} again")
-    };
     format!(
-        "{from} did not deliver in {} ms (timeout {}); checks {}, the limit is {}; {why}",
+        "{} did not deliver in {} ms (timeout {}); checks {}, the limit is {}; {}",
+        names.show_peer(retry.from),
         grouped(retry.age),
         grouped(settings.timeout),
         retry.checks,
-        settings.max_checks
+        settings.max_checks,
+        aimed(retry, told, names)
     )
 }

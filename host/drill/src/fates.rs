@@ -22,13 +22,13 @@ pub struct Facts<'a> {
 }
 
 /// What became of an id.
-#[derive(Debug, Clone, Copy, PartialEq, Eq)]
+#[derive(Debug, Clone, PartialEq, Eq)]
 pub struct Fate {
     pub id: Id,
     pub became: Became,
 }
 
-#[derive(Debug, Clone, Copy, PartialEq, Eq)]
+#[derive(Debug, Clone, PartialEq, Eq)]
 pub enum Became {
     /// It went on order.
     Asked { of: Peer, why: Asked },
@@ -57,16 +57,35 @@ pub enum Became {
 }
 
 /// A retry, by the records before and after.
-#[derive(Debug, Clone, Copy, PartialEq, Eq)]
+#[derive(Debug, Clone, PartialEq, Eq)]
 pub struct Retry {
     pub age: u64,
     /// After the step.
     pub checks: u32,
+    /// The failed peer.
     pub from: Peer,
+    /// The target.
     pub to: Peer,
-    pub gate_open: bool,
-    /// Whether a peer other than the failed one is listed.
-    pub other_listed: bool,
+    pub aim: Aim,
+}
+
+/// Why a retry has its target.
+#[derive(Debug, Clone, PartialEq, Eq)]
+pub enum Aim {
+    /// The gate is shut: it stays with the failed peer, and is not sent.
+    GateShut,
+    /// The first listed peer other than the failed one that has not stalled; the stalled ones that it passes over.
+    Unstalled(Vec<Peer>),
+    /// The first listed peer other than the failed one, since all of these have stalled.
+    AllStalled(Vec<Peer>),
+    /// The failed peer, which has not stalled as these have, all the others that are listed.
+    OthersStalled(Vec<Peer>),
+    /// The failed peer, since no other is listed.
+    NoOther,
+    /// The failed peer, since none is listed.
+    NoPeer,
+    /// No fact explains it.
+    Unexplained,
 }
 
 /// Why an id went on order.
@@ -158,10 +177,10 @@ pub fn fates(facts: &Facts<'_>) -> Vec<Fate> {
     }
 }
 
-/// Each id the first time that it stands in a list.
-fn once(ids: &[Id]) -> impl Iterator<Item = &Id> {
+/// Each entry the first time that it stands in a list.
+fn once<T: Copy + Ord>(entries: &[T]) -> impl Iterator<Item = &T> {
     let mut seen = BTreeSet::new();
-    ids.iter().filter(move |id| seen.insert(**id))
+    entries.iter().filter(move |entry| seen.insert(**entry))
 }
 
 fn needed(facts: &Facts<'_>, id: &Id) -> Fate {
@@ -268,6 +287,51 @@ fn entered_again(facts: &Facts<'_>, now: &PendingRequest) -> bool {
     now.checks == 0 && facts.asked_of(&now.id).is_some()
 }
 
+/// Why a retry goes from one peer to another, or to the same again, by the listed and the stalled peers.
+fn aim(listed: &[Peer], stalled: &[Peer], from: Peer, to: Peer) -> Aim {
+    let has_stalled = |peer: &Peer| stalled.contains(peer);
+    let others = once(listed).copied().filter(|peer| *peer != from);
+    let others: Vec<Peer> = others.collect();
+    if to == from {
+        return if listed.is_empty() {
+            Aim::NoPeer
+        } else if others.is_empty() {
+            Aim::NoOther
+        } else if listed.contains(&from) && !has_stalled(&from) && others.iter().all(has_stalled) {
+            Aim::OthersStalled(others)
+        } else {
+            Aim::Unexplained
+        };
+    }
+    let Some(place) = others.iter().position(|peer| *peer == to) else {
+        return Aim::Unexplained;
+    };
+    let passed = &others[..place];
+    if !has_stalled(&to) && passed.iter().all(has_stalled) {
+        Aim::Unstalled(passed.to_vec())
+    } else if passed.is_empty() && listed.iter().all(has_stalled) {
+        Aim::AllStalled(once(listed).copied().collect())
+    } else {
+        Aim::Unexplained
+    }
+}
+
+fn retried(facts: &Facts<'_>, was: &PendingRequest, now: &PendingRequest) -> Retry {
+    let (from, to) = (was.peer, now.peer);
+    let aim = if facts.world.gate_open {
+        aim(&facts.world.peers, &facts.before.stalled, from, to)
+    } else {
+        Aim::GateShut
+    };
+    Retry {
+        age: facts.age(was),
+        checks: now.checks,
+        from,
+        to,
+        aim,
+    }
+}
+
 fn checked(facts: &Facts<'_>, was: &PendingRequest) -> Became {
     let (peer, age) = (was.peer, facts.age(was));
     let now = facts.after.pending.get(&was.id);
@@ -278,14 +342,7 @@ fn checked(facts: &Facts<'_>, was: &PendingRequest) -> Became {
             age,
             checks: was.checks.saturating_add(1),
         },
-        Some(now) if now.checks > was.checks => Became::Retried(Retry {
-            age,
-            checks: now.checks,
-            from: peer,
-            to: now.peer,
-            gate_open: facts.world.gate_open,
-            other_listed: facts.world.peers.iter().any(|other| *other != peer),
-        }),
+        Some(now) if now.checks > was.checks => Became::Retried(retried(facts, was, now)),
         Some(_) => Became::Waits { peer, age },
     }
 }
@@ -311,4 +368,76 @@ fn check(facts: &Facts<'_>) -> Vec<Fate> {
         became: fresh(facts, id),
     });
     checked.chain(fresh).collect()
+}
+
+#[cfg(test)]
+mod tests {
+    use super::{aim, Aim};
+    use keeper_reference::sync::retry_target;
+    use request_keeper::Peer;
+
+    fn peers(numbers: &[u64]) -> Vec<Peer> {
+        numbers.iter().copied().map(Peer).collect()
+    }
+
+    /// Listed, stalled, failed peer, target, why.
+    type Case<'c> = (&'c [u64], &'c [u64], u64, u64, Aim);
+
+    fn aimed(listed: &[u64], stalled: &[u64], from: u64, to: u64) -> Aim {
+        aim(&peers(listed), &peers(stalled), Peer(from), Peer(to))
+    }
+
+    #[test]
+    fn each_reason_is_found() {
+        let unstalled = |passed: &[u64]| Aim::Unstalled(peers(passed));
+        let all = |listed: &[u64]| Aim::AllStalled(peers(listed));
+        let others = |others: &[u64]| Aim::OthersStalled(peers(others));
+        let cases: [Case<'_>; 14] = [
+            (&[], &[], 4, 4, Aim::NoPeer),
+            (&[], &[4], 4, 4, Aim::NoPeer),
+            (&[4], &[], 4, 4, Aim::NoOther),
+            (&[4, 4], &[4], 4, 4, Aim::NoOther),
+            (&[4, 5], &[], 4, 5, unstalled(&[])),
+            (&[5, 4], &[4, 9], 4, 5, unstalled(&[])),
+            (&[4, 5, 6], &[6], 4, 5, unstalled(&[])),
+            (&[5, 4, 6], &[5], 4, 6, unstalled(&[5])),
+            (&[5, 7, 5, 6], &[7, 5], 4, 6, unstalled(&[5, 7])),
+            (&[4, 5], &[5], 4, 4, others(&[5])),
+            (&[5, 4, 6], &[4_000, 6, 5], 4, 4, others(&[5, 6])),
+            (&[5], &[5], 4, 5, all(&[5])),
+            (&[4, 5, 4, 6], &[6, 5, 4], 4, 5, all(&[4, 5, 6])),
+            (&[5, 6], &[6, 5], 4, 5, all(&[5, 6])),
+        ];
+        for (listed, stalled, from, to, expected) in cases {
+            let case = format!("{listed:?}, {stalled:?} stalled, {from} -> {to}");
+            assert_eq!(aimed(listed, stalled, from, to), expected, "{case}");
+        }
+    }
+
+    /// All lists of up to three of three peers, with any of them stalled: the rule's target has a reason, and no other has.
+    #[test]
+    fn the_target_alone_is_explained() {
+        let known = [4, 5, 6];
+        let mut lists = vec![vec![]];
+        for length in 0..3 {
+            let longest = lists.iter().filter(|list: &&Vec<u64>| list.len() == length);
+            let longer = longest.flat_map(|list| known.map(|peer| [&list[..], &[peer]].concat()));
+            let longer: Vec<_> = longer.collect();
+            lists.extend(longer);
+        }
+        assert_eq!(lists.len(), 1 + 3 + 9 + 27);
+        for listed in &lists {
+            for marks in 0..8 {
+                let stalled: Vec<u64> = known
+                    .into_iter()
+                    .filter(|peer| marks >> (peer - 4) & 1 == 1)
+                    .collect();
+                for (from, to) in known.iter().flat_map(|from| known.map(|to| (*from, to))) {
+                    let right = retry_target(&stalled, listed, from) == to;
+                    let explained = aimed(listed, &stalled, from, to) != Aim::Unexplained;
+                    assert_eq!(explained, right, "{listed:?} {stalled:?} {from} {to}");
+                }
+            }
+        }
+    }
 }

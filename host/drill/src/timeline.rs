@@ -177,7 +177,7 @@ impl Text {
         explain(&moment.reasons, true, self);
         for (became, ids) in same_fates(&moment.fates) {
             let told = Told::of(ids.len());
-            let (label, why) = words(&became, told, &played.settings, names);
+            let (label, why) = words(became, told, &played.settings, names);
             self.entry(label, &format!("{}: {why}", names.show_ids(&ids)));
         }
         explain(&moment.reasons, false, self);
@@ -264,12 +264,15 @@ fn place(moment: &Moment, played: &Played) -> String {
 }
 
 /// Ids that shared a fate.
-fn same_fates(fates: &[Fate]) -> Vec<(Became, Vec<Id>)> {
-    let mut groups: Vec<(Became, Vec<Id>)> = Vec::new();
+fn same_fates(fates: &[Fate]) -> Vec<(&Became, Vec<Id>)> {
+    let mut groups: Vec<(&Became, Vec<Id>)> = Vec::new();
     for fate in fates {
-        match groups.iter_mut().find(|(became, _)| *became == fate.became) {
+        match groups
+            .iter_mut()
+            .find(|(became, _)| **became == fate.became)
+        {
             Some((_, ids)) => ids.push(fate.id),
-            None => groups.push((fate.became, vec![fate.id])),
+            None => groups.push((&fate.became, vec![fate.id])),
         }
     }
     groups

@@ -1,9 +1,11 @@
 //! Each expectation can be met and can fail; the explanations account for the counts of the core's answers.
 
-use drill::fates::Became;
+use drill::fates::{Aim, Became};
 use drill::play::{play, Played};
 use drill::scenario::read;
 use drill::timeline;
+use std::collections::HashSet;
+use std::mem::discriminant;
 
 /// Two peers, a block on order from north, an expired check at 11,300.
 const STORY: &str = "\
@@ -110,6 +112,94 @@ fn several_ids_are_told_as_several() {
         "{told}"
     );
     assert!(told.contains("as headers: they were evicted"), "{told}");
+}
+
+/// Three peers. North has stalled, and south is the sync peer.
+const STALLED: &str = "\
+setting stall_timeout 15000
+peer north 4
+peer south 5
+peer west 6
+ids h i
+open 0 0
+peers north south west
+at 0 start
+at 1000 pick
+at 21000 scheduled-tick
+at 21200 pick
+";
+
+/// The timeline of these lines after the story, its words parted by one blank.
+fn told_after_a_stall(lines: &str) -> String {
+    let told = timeline::timeline(&played(&format!("{STALLED}{lines}")));
+    told.split_whitespace().collect::<Vec<_>>().join(" ")
+}
+
+/// Why a retry goes where it goes, up to the entry that follows.
+#[test]
+fn the_target_of_a_retry_is_explained() {
+    let cases = [
+        (
+            "north",
+            "peers north south west",
+            "now asked of south, the first listed peer other than north sent to south: ",
+        ),
+        (
+            "south",
+            "peers south west north",
+            "now asked of west, the first listed peer other than south sent to west: ",
+        ),
+        (
+            "south",
+            "peers north south west",
+            "now asked of west, the first listed peer other than south that has not stalled (passed over: north) \
+             sent to west: ",
+        ),
+        (
+            "south",
+            "peers north",
+            "every listed peer has stalled (north): now asked of north, the first listed peer other than south \
+             sent to north: ",
+        ),
+        (
+            "south",
+            "peers north south",
+            "every other listed peer has stalled (north): asked of south again sent to south: ",
+        ),
+        (
+            "north",
+            "peers north",
+            "no other peer is listed: asked of north again sent to north: ",
+        ),
+        (
+            "south",
+            "peers none",
+            "no peer is listed: asked of south again sent to south: ",
+        ),
+        (
+            "south",
+            "peers north south west\ngate shut",
+            "the gate is shut: its clock starts anew, it stays with south, nothing is sent pending h: ",
+        ),
+    ];
+    for (failed, around, expected) in cases {
+        let lines = format!("at 22000 announced {failed} header h\n{around}\nat 32000 check\n");
+        let told = told_after_a_stall(&lines);
+        let expected = format!("the limit is 100; {expected}");
+        assert!(told.contains(&expected), "{expected} is not in\n{told}");
+    }
+}
+
+/// South stalls too: both are passed over, in the order in which they are listed.
+#[test]
+fn all_who_are_passed_over_are_named() {
+    let stalls = "at 41200 scheduled-tick\nat 41400 pick\nexpect stalled north south\npeers south 7 north west\n";
+    let lines = format!("{stalls}at 42000 announced 7 header h i\nat 52000 check\n");
+    let told = told_after_a_stall(&lines);
+    let expected = "h i: 7 did not deliver in 10,000 ms (timeout 10,000); checks 1, the limit is 100; now asked of west, \
+                    the first listed peer other than 7 that has not stalled (passed over: south north) sent to west: ";
+    assert!(told.contains(expected), "{told}");
+    assert!(told.ends_with("all met"), "{told}");
 }
 
 /// A pick within the interval of the opening sends nothing, though no sync info has gone out; at the interval it does.
@@ -228,15 +318,15 @@ impl Dice {
 fn random(seed: u64) -> String {
     let mut dice = Dice(seed);
     let mut text = String::from(
-        "setting timeout 100\nsetting max_checks 2\nids a b c d\nopen 0 0\nchain 2\nheader 1 block:e\n\
-         header 2 extension:f\npeers 1 2\nat 0 start\nat 300 pick\n",
+        "setting timeout 100\nsetting max_checks 2\nsetting stall_timeout 200\nids a b c d\nopen 0 0\nchain 2\n\
+         header 1 block:e\nheader 2 extension:f\npeers 1 2\nat 0 start\nat 300 pick\n",
     );
     let mut clock = 300;
     for _ in 0..60 {
         clock += dice.throw(60);
         let id = ["a", "b", "c", "d", "e", "f"][dice.throw(6) as usize];
         let peer = 1 + dice.throw(3);
-        text += &match dice.throw(10) {
+        text += &match dice.throw(11) {
             0 => format!("gate {}\n", ["open", "shut"][dice.throw(2) as usize]),
             1 => format!(
                 "peers {}\n",
@@ -247,6 +337,7 @@ fn random(seed: u64) -> String {
             4 => format!("at {clock} announced {peer} transaction {id}\n"),
             5 => format!("at {clock} evicted {id} a\n"),
             6 => format!("at {clock} progress\n"),
+            7 => format!("at {clock} scheduled-tick\nat {clock} pick\n"),
             _ => format!("at {clock} check\n"),
         };
     }
@@ -256,11 +347,15 @@ fn random(seed: u64) -> String {
 #[test]
 fn the_explanations_account_for_the_counts_of_every_check() {
     let mut checks = 0;
+    let (mut aims, mut passed_over) = (HashSet::new(), 0);
     for seed in 0..200 {
         let text = random(seed);
         let played = played(&text);
         for moment in played.moments().filter(|moment| moment.text == "check") {
-            let answer = moment.result.expect("finished");
+            // Refused after a stall, as long as nobody is listed.
+            let Ok(answer) = moment.result else {
+                continue;
+            };
             let count = |is: fn(&Became) -> bool| {
                 moment.fates.iter().filter(|fate| is(&fate.became)).count() as u32
             };
@@ -272,9 +367,20 @@ fn the_explanations_account_for_the_counts_of_every_check() {
             let counted = [answer.retried, answer.abandoned, answer.forgotten];
             assert_eq!(told, counted, "line {} of\n{text}", moment.line);
             checks += 1;
+            for fate in &moment.fates {
+                if let Became::Retried(retry) = &fate.became {
+                    aims.insert(discriminant(&retry.aim));
+                    passed_over += match &retry.aim {
+                        Aim::Unstalled(passed) => passed.len(),
+                        _ => 0,
+                    };
+                }
+            }
         }
         let told = timeline::timeline(&played);
         assert!(!told.contains("no reason that the player knows"), "{told}");
     }
     assert!(checks > 1_000);
+    assert_eq!(aims.len(), 6, "each reason that there can be");
+    assert!(passed_over > 10, "{passed_over}");
 }

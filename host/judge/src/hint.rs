@@ -1,4 +1,4 @@
-//! Which sentence of document 01 speaks of a field that differs.
+//! Which sentence of document 01, or of document 02 where that has changed it, speaks of a field that differs.
 
 use crate::rows::Field;
 use keeper_values::numbers::kinds;
@@ -15,6 +15,14 @@ const RULE_5: &str =
     "rule 5: \"past each next height, up to chain height, whose header is present \
                       and whose sections are all stored\"";
 
+/// Where a retry goes.
+macro_rules! target {
+    () => {
+        "document 02, F-2: \"Consider the listed peers not stalled, or all listed ones when every one is \
+         stalled. Take the first of these other than the failed peer; if there is none, the failed peer\""
+    };
+}
+
 /// Rule 6 and `check_timeouts`.
 fn check(field: Field, part: Option<&str>) -> Option<&'static str> {
     Some(match (field, part) {
@@ -22,10 +30,10 @@ fn check(field: Field, part: Option<&str>) -> Option<&'static str> {
             "delivery.rs: a retried id has \"stamp = this clock\"; rule 6: \"Gate shut: clocks and \
              checks still move, peer and sends don't\""
         }
-        (Field::Pending, Some("peer")) => {
-            "rule 6: \"a retry goes to the first listed peer other than the failed one, else to \
-             the failed one\"; behind a shut gate the peer stays"
-        }
+        (Field::Pending, Some("peer")) => concat!(
+            target!(),
+            "; behind a shut gate the peer stays; a fresh id has the first listed peer"
+        ),
         (Field::Retried, _) | (Field::Pending, Some("checks")) => {
             "delivery.rs: \"Expired: clock − stamp >= timeout\", \"checks rise by 1\"; rule 6: \
              \"Gate shut: clocks and checks still move, peer and sends don't\""
@@ -41,10 +49,11 @@ fn check(field: Field, part: Option<&str>) -> Option<&'static str> {
             "delivery.rs: \"The next check hands that list out whole as fresh\"; rule 6: \"No peer \
              or a shut gate loses them\""
         }
-        (Field::Command, _) => {
+        (Field::Command, _) => concat!(
             "rule 6: \"Batches go by target, then type, in runs as in rule 3\"; \"Then fresh ids \
-             go out as headers to the first listed peer through rule 3\""
-        }
+             go out as headers to the first listed peer through rule 3\"; the target of a retry: ",
+            target!()
+        ),
         (Field::Downloaded, _) => "rule 9: \"A check in syncing also runs rule 5, in synced not\"",
         _ => return None,
     })
@@ -193,7 +202,8 @@ pub fn hint(kind: Option<u8>, field: Field, part: Option<&str>) -> Option<String
          starts 0 or empty, mode new\"",
     );
     let found = own.or(general).or(kind.and_then(of_kind)).or(opening)?;
-    let place = if found.starts_with("docs/") {
+    let elsewhere = ["docs/", "document 02"];
+    let place = if elsewhere.iter().any(|place| found.starts_with(place)) {
         ""
     } else {
         "document 01, "

@@ -80,6 +80,17 @@ fn switching_to_a_peer_one_block_ahead() {
 }
 
 #[test]
+fn retrying_with_a_stalled_peer() {
+    caught(
+        "retry-to-a-stalled-peer",
+        &[
+            "command 0: yours request type 101 to 2, ",
+            "document 02, F-2: \"Consider the listed peers not stalled, or all listed ones",
+        ],
+    );
+}
+
+#[test]
 fn the_right_ones_pass() {
     for right in ["none", "core"] {
         let (verdict, report) = judged(&shipped(right), &few_streams());

@@ -104,7 +104,8 @@ impl RequestKeeper {
         u64::from_be_bytes(self.field(LAST_SEND))
     }
 
-    /// The peers that have stalled, in the order of joining.
+    /// The peers that have stalled, in the order of joining. Picks and retries pass over them, as long as a listed
+    /// peer has not stalled.
     pub fn stalled(&self) -> impl Iterator<Item = Peer> + '_ {
         let (peers, _) = self.part(STALLED).as_chunks::<8>();
         let peer = |bytes: &[u8; 8]| Peer(u64::from_be_bytes(*bytes));

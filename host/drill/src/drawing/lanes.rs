@@ -113,7 +113,7 @@ impl Sheet<'_> {
     pub(super) fn lane_marks(&self, canvas: &mut Canvas, lane: &Lane, y: f64) {
         for (moment, column) in self.places() {
             let fates = moment.fates.iter().filter(|fate| fate.id == lane.id);
-            let fates: Vec<Became> = fates.map(|fate| fate.became).collect();
+            let fates: Vec<&Became> = fates.map(|fate| &fate.became).collect();
             self.marks(canvas, moment, &fates, (column.x, y), column.room);
         }
     }
@@ -123,7 +123,7 @@ impl Sheet<'_> {
         &self,
         canvas: &mut Canvas,
         moment: &Moment,
-        fates: &[Became],
+        fates: &[&Became],
         (x, y): (f64, f64),
         room: f64,
     ) {

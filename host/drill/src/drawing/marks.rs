@@ -1,7 +1,7 @@
 //! The mark for each fate, and its words.
 
 use super::canvas::{Canvas, Stroke, AMBER, BACKGROUND, FAINT, GREEN, RED};
-use crate::fates::{Became, NotAsked};
+use crate::fates::{Aim, Became, NotAsked};
 use crate::scenario::Names;
 use crate::text::grouped;
 use request_keeper::Peer;
@@ -54,16 +54,16 @@ pub fn drawn(became: &Became, names: &Names) -> Option<Drawn> {
         Became::Asked { of, .. } => drawn(Mark::Request, Some(*of), names.show_peer(*of)),
         Became::NotAsked(why) => drawn(Mark::NotAsked, None, hindrance(*why).to_string()),
         Became::Waits { peer, age } => drawn(Mark::Check, Some(*peer), grouped(*age)),
-        Became::Retried(retry) if retry.gate_open => Drawn {
-            mark: Mark::Retry,
-            peer: Some(retry.to),
-            above: format!("\u{2192} {}", names.show_peer(retry.to)),
-            below: format!("checks {}", retry.checks),
-        },
-        Became::Retried(retry) => Drawn {
+        Became::Retried(retry) if retry.aim == Aim::GateShut => Drawn {
             mark: Mark::HeldRetry,
             peer: Some(retry.to),
             above: "not sent".to_string(),
+            below: format!("checks {}", retry.checks),
+        },
+        Became::Retried(retry) => Drawn {
+            mark: Mark::Retry,
+            peer: Some(retry.to),
+            above: format!("\u{2192} {}", names.show_peer(retry.to)),
             below: format!("checks {}", retry.checks),
         },
         Became::GivenUp { checks, .. } => Drawn {

@@ -13,7 +13,7 @@ use std::thread::sleep;
 use std::time::Duration;
 
 /// A word for each mistake of the class, and the fault by which `keeper_variants` knows it.
-const CLASS: [(&str, &str); 4] = [
+const CLASS: [(&str, &str); 5] = [
     ("older-stamp", "a retry keeps its older stamp"),
     (
         "no-check-behind-a-shut-gate",
@@ -27,6 +27,7 @@ const CLASS: [(&str, &str); 4] = [
         "one-block-ahead",
         "a peer one block ahead is a reason to switch",
     ),
+    ("retry-to-a-stalled-peer", "a retry goes to a stalled peer"),
 ];
 
 /// Mistakes whose first wrong answer is a bad one to show: after many calls, with many ids, or none at all.
