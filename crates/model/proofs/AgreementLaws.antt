@@ -110,20 +110,25 @@ module _ (settings : Settings) (clock : ℕ) (check : Bool) (fate : Request → 
   again-ids target = map-map (λ (i : Item). i .id) (retryOf target) (restarting fate (openRequests stays))
 
   again-agrees : (target : ℕ → ℕ) → Distinct (openIds stays) → All (Good settings) stays → Sound settings gone first
-      → Agrees settings gone (markAllRetried (again target) (openRequests (first .open'))) (enterAll clock (map requestedItem (sorted itemBelow (again target))) first)
+      → Agrees settings gone (markAllRetried (again target) (openRequests (first .open')))
+      (enterAll clock (map requestedItem (sorted itemBelow (again target))) first)
   unfolding first
   again-agrees target d g h =
       let opens : List Id = openIds (stillOpen check clock fate stays) in
       let e : itemIds (again target) ≡ idsOf (restarting fate (openRequests stays)) = again-ids target in
-      let once : Distinct (itemIds (again target)) = rw e (distinct-kept (λ (r : Request). r .id) (λ (r : Request). isRestart (fate r)) (openRequests stays) (rw (open-ids stays) d)) in
+      let once : Distinct (itemIds (again target)) =
+      rw e (distinct-kept (λ (r : Request). r .id) (λ (r : Request). isRestart (fate r)) (openRequests stays) (rw (open-ids stays) d)) in
       let inside : All (λ (id : Id). isAmong id opens ≡ true) (itemIds (again target)) = rw e (restarting-open check clock fate stays) in
-      agrees-as settings gone (markAllRetried (again target) (openRequests (first .open'))) (markAllRetried (sorted itemBelow (again target)) (openRequests (first .open')))
+      agrees-as settings gone (markAllRetried (again target) (openRequests (first .open')))
+      (markAllRetried (sorted itemBelow (again target)) (openRequests (first .open')))
       (enterAll clock (map requestedItem (sorted itemBelow (again target))) first) (enterAll clock (map requestedItem (sorted itemBelow (again target))) first)
       (sym (marks-sorted itemBelow (again target) (openRequests (first .open')) once)) refl
       (retries-agree settings gone clock (sorted itemBelow (again target)) first
       (distinct-sorted (λ (i : Item). i .id) itemBelow (again target) once)
-      (all-map (λ (i : Item). isAmong (i .id) opens ≡ true) (λ (id : Id). isAmong id opens ≡ true) (λ (i : Item). i .id) (λ i p. p) (sorted itemBelow (again target))
-      (all-sorted itemBelow (λ (i : Item). isAmong (i .id) opens ≡ true) (again target) (map-all (λ (id : Id). isAmong id opens ≡ true) (λ (i : Item). i .id) (again target) inside)))
+      (all-map (λ (i : Item). isAmong (i .id) opens ≡ true) (λ (id : Id). isAmong id opens ≡ true) (λ (i : Item). i .id) (λ i p. p)
+      (sorted itemBelow (again target))
+      (all-sorted itemBelow (λ (i : Item). isAmong (i .id) opens ≡ true) (again target)
+      (map-all (λ (id : Id). isAmong id opens ≡ true) (λ (i : Item). i .id) (again target) inside)))
       (none-among-nil (itemIds (sorted itemBelow (again target))))
       (all-weaker (Room (idsOf (restarting fate (openRequests stays)))) (Room (itemIds (sorted itemBelow (again target))))
       (λ s room m. room (ap (isAmong (s .request .id)) (sym e) ∙ sym (among-sorted (λ (i : Item). i .id) itemBelow (s .request .id) (again target)) ∙ m))
@@ -190,7 +195,8 @@ module _ (st : State) (call : Call) (b : Book) (h : Agreement st b) (passes : Pa
 
   again-agree : (gate : Bool) → ItemsAgree (cond gate askedAgain [])
   again-agree true =
-      again-agrees (st .settings) (call .clock) (eqb (call .kind) 12) fates (b .open') (b .ended) (b .entries) (retryTarget (st .sync .stalledPeers) (a .peers)) (h .distinct) (h .good) begun-sound
+      again-agrees (st .settings) (call .clock) (eqb (call .kind) 12) fates (b .open') (b .ended) (b .entries)
+      (retryTarget (st .sync .stalledPeers) (a .peers)) (h .distinct) (h .good) begun-sound
   again-agree false = none-agree
 
   retried-agree : (check : Bool) → eqb (call .kind) 12 ≡ check → ItemsAgree (retried st a)

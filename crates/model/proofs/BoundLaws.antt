@@ -176,7 +176,9 @@ module _ (st : State) (a : Args) (tracked : length (st .pending) + length (st .s
   unfolding retries judged
   retries-few = go (a .gate)
     where
-      go : (t : Bool) → length (cond t (map (retryOf (retryTarget (st .sync .stalledPeers) (a .peers))) (judged (st .settings) (a .clock) delivery.retried (st .pending))) []) ≤ length (st .pending)
+      go : (t : Bool)
+          → length (cond t (map (retryOf (retryTarget (st .sync .stalledPeers) (a .peers))) (judged (st .settings) (a .clock) delivery.retried (st .pending))) [])
+          ≤ length (st .pending)
       go true =
           let few = length-kept (λ (r : Request). eqb (verdictNumber (verdict (st .settings) (a .clock) r)) (verdictNumber delivery.retried)) (st .pending) in
           let same = length-map (judged (st .settings) (a .clock) delivery.retried (st .pending)) (retryOf (retryTarget (st .sync .stalledPeers) (a .peers))) in
@@ -188,7 +190,9 @@ module _ (st : State) (a : Args) (tracked : length (st .pending) + length (st .s
   checks-weight also = fresh-weight (firstOf (a .peers)) (a .stored) (st .sync .evicted)
 
   plan-of-weight : (step : Step) → WellStep step
-      → 48 * length (cond (isCheck step) (retries (a .gate) (st .settings) (a .clock) (retryTarget (st .sync .stalledPeers) (a .peers)) (st .pending)) []) + total actWeight (planOf st a step .acts) ≤ mostBytes
+      → 48 * length (cond (isCheck step) (retries (a .gate) (st .settings) (a .clock) (retryTarget (st .sync .stalledPeers) (a .peers)) (st .pending)) [])
+      + total actWeight (planOf st a step .acts)
+      ≤ mostBytes
   unfolding planOf advances leaves continues evicts
   plan-of-weight Steps.start w = omega arith
   plan-of-weight Steps.pick w = let l = picks-weight (selectPeer (st .sync .stalledPeers) (a .peers)) in omega arith

@@ -22,7 +22,8 @@ use Rattle.model.proofs.Well.{Well, WellRequest, RisingIds}
 use Rattle.model.proofs.Widths.{WellItem, WellArgs}
 use Rattle.model.proofs.FinishedLaws.{Passed, passed}
 use Rattle.model.proofs.ArgumentLaws.{arguments-well}
-use Rattle.model.proofs.PendingLaws.{rising-kept, rising-checked, rising-retried, rising-performed, later-well, checked-well, retried-well, performed-well, target-well, retries-well}
+use Rattle.model.proofs.PendingLaws.{rising-kept, rising-checked, rising-retried, rising-performed}
+use Rattle.model.proofs.PendingLaws.{later-well, checked-well, retried-well, performed-well, target-well, retries-well}
 use Rattle.model.proofs.PlanLaws.{WellPlan, plan-well}
 
 pub opened-well : (o : Opening) → OpeningInWidth o → Well (opened (o .settings) (o .clock) (o .height))

@@ -93,8 +93,11 @@ module _ (st : State) (c : calls.Call) (downloaded : ℕ) where
   stays-few Lose announces h e one = omega (arith, length-kept (λ (r : Request). not (eqb (r .peer) (st .sync .syncPeer))) (st .pending))
   stays-few (LoseAsk peer) announces h e one = absurd (false≢true (sym e))
   stays-few (Check aim) announces h e one =
-      omega
-      (arith, length-marked (retriedBy st c (Check aim)) (checkTimeouts (st .settings) (c .clock) (st .pending)), checked-few (st .settings) (c .clock) (st .pending))
+      omega (
+        arith,
+        length-marked (retriedBy st c (Check aim)) (checkTimeouts (st .settings) (c .clock) (st .pending)),
+        checked-few (st .settings) (c .clock) (st .pending),
+      )
   stays-few (CheckFresh peer aim) announces h e one =
       let base : List Request = markAllRetried (retriedBy st c (CheckFresh peer aim)) (checkTimeouts (st .settings) (c .clock) (st .pending)) in
       omega (

@@ -61,7 +61,8 @@ pub up-to-end : (fresh room region : List ℕ) (n from : ℕ) → length region 
 up-to-end fresh room region n from h e = e ∙ ap (λ (x : List ℕ). overwritten 0 x room) (take-all n (drop from region) (rw (length-drop from region) h))
 
 -- The check by what it makes of the region and sends.
-pub record CheckDone (head : Head) (call : Call) (aim : Aim) (region : List ℕ) (at batch : ℕ) (out : List ℕ) (before : Counts) (table first : List ℕ) : Type 0 where
+pub record CheckDone (head : Head) (call : Call) (aim : Aim) (region : List ℕ) (at batch : ℕ) (out : List ℕ)
+    (before : Counts) (table first : List ℕ) : Type 0 where
   pub counts : before ≡ checkedCounts head call (aimedAt aim) region at batch
   pub held : table ≡ regionOf (checkedPending head call (aimedAt aim) region) []
   pub sent : first ≡ overwritten at (sentBytes batch (checkedSendings head call (aimedAt aim) region)) out

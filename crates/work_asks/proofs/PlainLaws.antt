@@ -55,5 +55,6 @@ none-evicted evicted region e = rw e
 
 module _ {head : Head} {call : Call} {region ids stored view : List ℕ} {st : State} {c : calls.Call}
     (g : Given head region call ids stored view st c) where
-  pub given-plain : head .evicted ≡ 0 → (downloaded peer : ℕ) (aim : Aim) → workedBy st c downloaded (CheckFresh peer aim) ≡ workedBy st c downloaded (Check aim)
+  pub given-plain : head .evicted ≡ 0 → (downloaded peer : ℕ) (aim : Aim)
+      → workedBy st c downloaded (CheckFresh peer aim) ≡ workedBy st c downloaded (Check aim)
   given-plain e downloaded peer aim = none-evicted-plain st c downloaded peer aim (g .evicted ∙ none-evicted (head .evicted) region e)

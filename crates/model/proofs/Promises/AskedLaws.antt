@@ -147,7 +147,8 @@ module _ (st : State) (a : Args) where
 
   pub unretried : isCheck (a .step) ≡ false → retried st a ≡ []
   unfolding retried
-  unretried e = ap (λ (check : Bool). cond check (retries (a .gate) (st .settings) (a .clock) (retryTarget (st .sync .stalledPeers) (a .peers)) (st .pending)) []) e
+  unretried e =
+      ap (λ (check : Bool). cond check (retries (a .gate) (st .settings) (a .clock) (retryTarget (st .sync .stalledPeers) (a .peers)) (st .pending)) []) e
 
   shut-retries : a .gate ≡ false → retried st a ≡ []
   unfolding retried retries

@@ -97,7 +97,8 @@ module _ (st : State) (a : Args) (check : a .step ≡ steps.check) (gate : a .ga
   retried-again : steps.retried st a ≡ again st a
   unfolding steps.retried retries
   retried-again =
-      ap (λ (step : Step). cond (isCheck step) (retries (a .gate) (st .settings) (a .clock) (retryTarget (st .sync .stalledPeers) (a .peers)) (st .pending)) []) check
+      let to : ℕ → ℕ = retryTarget (st .sync .stalledPeers) (a .peers) in
+      ap (λ (step : Step). cond (isCheck step) (retries (a .gate) (st .settings) (a .clock) to (st .pending)) []) check
       ∙ ap (λ (t : Bool). cond t (again st a) []) gate
 
   performed-behind : steps.performed st a .sendings ≡ behind st a true (again st a)

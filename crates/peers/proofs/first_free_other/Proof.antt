@@ -41,7 +41,8 @@ returns c =
     let read : tie.After-read-u64 Inv-loop μ-loop = search in
     let test : tie.After-is-free-other Inv-loop μ-loop = search in
     let free = sym (test .is-free-other .ensures) ∙ c .if1 .taken in
-    sym (free-here (s .args .peers .now) (l .loop .i) (turn .loop-test .taken) (read .read-u64 .ensures) (stalledPeers (s .args .stalled)) (s .args .failed) free)
+    sym (free-here (s .args .peers .now) (l .loop .i) (turn .loop-test .taken) (read .read-u64 .ensures)
+    (stalledPeers (s .args .stalled)) (s .args .failed) free)
     ∙ l .loop .inv .1
 
 add-i : tie.Need-add-i Inv-loop μ-loop
@@ -58,7 +59,9 @@ loop-again c =
     let read : tie.After-read-u64 Inv-loop μ-loop = search in
     let test : tie.After-is-free-other Inv-loop μ-loop = search in
     let past = sym (test .is-free-other .ensures) ∙ c .if1 .left in
-    let later = free-later (s .args .peers .now) (l .loop .i) (turn .loop-test .taken) (read .read-u64 .ensures) (stalledPeers (s .args .stalled)) (s .args .failed) past in
+    let later =
+    free-later (s .args .peers .now) (l .loop .i) (turn .loop-test .taken) (read .read-u64 .ensures)
+    (stalledPeers (s .args .stalled)) (s .args .failed) past in
     (search needs, sym later ∙ l .loop .inv .1)
 
 returns-2 : tie.Need-returns-2 Inv-loop μ-loop
