@@ -14,10 +14,10 @@ use Rattle.peers.specs.declared.aim.Aim.{Aim}
 use Rattle.peers.specs.declared.aim.Aim.the-variants.{Same, Other}
 use Rattle.peers.proofs.aim.Aim.{the-type}
 use Rattle.peers.proofs.aim.Aim.Laws.{the-laws}
-use Rattle.work.proofs.RetriedLaws.{TargetsFit}
+use Rattle.model.proofs.PendingLaws.{WellTarget}
 
 -- what a function is told of an aim that it is given
-pub aim-fits : (aim : Aim) {vs : List Val} → Is (row the-type) aim vs → TargetsFit (aimedAt aim)
+pub aim-fits : (aim : Aim) {vs : List Val} → Is (row the-type) aim vs → WellTarget (aimedAt aim)
 aim-fits Same told failed h = h
 aim-fits (Other first other) {vs} told failed h =
     let peers = owed the-type the-laws (Other first other) vs told in

@@ -43,7 +43,8 @@ use Rattle.work.specs.declared.Counts.{Counts}
 use Rattle.work.specs.declared.Performed.the-variants.{Done as Finished}
 use Rattle.work.proofs.RegionLaws.{Stands, tracked-stands, stands-size, stands-requests, stands-holding, stands-cleared}
 use Rattle.work.proofs.WorkedLaws.{length-requests, length-evicted, settings-given, clock-given, gate-given}
-use Rattle.work.proofs.RetriedLaws.{TargetsFit, types-below, itemsAt, retries-few, retries-in-width, below, types-at, retried-items}
+use Rattle.model.proofs.PendingLaws.{WellTarget}
+use Rattle.work.proofs.RetriedLaws.{types-below, itemsAt, retries-few, retries-in-width, below, types-at, retried-items}
 use Rattle.work.proofs.RetriedLaws.{after-rising, after-length, after-few, after-recorded}
 use Rattle.model.specs.Layout.{idSize, recordSize, regionSize}
 
@@ -51,7 +52,7 @@ use Rattle.model.specs.Layout.{idSize, recordSize, regionSize}
 pub record Due (head : Head) (call : Call) (target : ℕ → ℕ) (region : List ℕ) : Type 0 where
   pub tracked : Tracked head (call .clock) region
   pub bytes : Bytes region
-  pub targets : TargetsFit target
+  pub targets : WellTarget target
   pub clock : call .clock < 2 ^ 64
 
 -- what it sends of the places noted in a table

@@ -22,7 +22,7 @@ use Rattle.model.specs.Image.{requestOf, typesNarrow}
 use Rattle.model.proofs.Well.{RisingIds}
 use Rattle.model.proofs.Widths.{WellPeer, WellItem}
 use Rattle.model.proofs.RecordLaws.{Recorded, narrow-type}
-use Rattle.model.proofs.PendingLaws.{rising-checked, rising-retried}
+use Rattle.model.proofs.PendingLaws.{WellTarget, rising-checked, rising-retried}
 use Rattle.commands.specs.Pending.{requestsIn}
 use Rattle.retries.specs.Items.{itemOf}
 use Rattle.check_timeouts.specs.Checked.{pendingAfterCheck, placedAfter, retriedPlaces}
@@ -45,10 +45,6 @@ itemsAt table places = map (λ (place : ℕ). itemOf (requestOf (entry recordSiz
 all-both : (P Q : Request → Type 0) (rs : List Request) → All P rs → All Q rs → All (λ (r : Request). P r × Q r) rs
 all-both P Q [] p q = tt
 all-both P Q (r ∷ rs) p q = ((p .0, q .0), all-both P Q rs (p .1) (q .1))
-
--- Where a peer in width failed, the target is in width.
-abbrev pub TargetsFit : (ℕ → ℕ) → Type 0
-TargetsFit target = (failed : ℕ) → WellPeer failed → WellPeer (target failed)
 
 module _ (settings : Settings) (clock : ℕ) (target : ℕ → ℕ) where
   checked-all : (P Q : Request → Type 0) → ((r : Request) → P r → Q r) → ((r : Request) → P r → Q (restartedTo clock target r))
@@ -151,7 +147,7 @@ module _ (gate : Bool) (settings : Settings) (clock : ℕ) (target : ℕ → ℕ
       rw after-is
       (checked-all settings clock aim (λ (r : Request). r .typeId < 256) (λ (r : Request). r .typeId < 256) (λ r p. p) (λ r p. p) rs w)
 
-  pub after-recorded : clock < 2 ^ 64 → TargetsFit target → All Recorded rs → All (λ (r : Request). r .checks + 1 < 2 ^ 32) rs
+  pub after-recorded : clock < 2 ^ 64 → WellTarget target → All Recorded rs → All (λ (r : Request). r .checks + 1 < 2 ^ 32) rs
       → All Recorded (pendingAfterCheck gate settings clock target rs)
   unfolding restartedTo restarted
   after-recorded k w a b =
@@ -226,7 +222,7 @@ module _ (gate : Bool) (settings : Settings) (clock : ℕ) (target : ℕ → ℕ
       let b = length-kept (λ (r : Request). eqb (verdictNumber (verdict settings clock r)) (verdictNumber retried)) rs in
       either (λ (is : List Item). length is ≤ length rs) gate (map (retryOf target) due) [] (omega arith) (omega arith)
 
-  pub retries-in-width : TargetsFit target → All Recorded rs → All (λ (r : Request). r .typeId < 256) rs
+  pub retries-in-width : WellTarget target → All Recorded rs → All (λ (r : Request). r .typeId < 256) rs
       → All WellItem (retries gate settings clock target rs)
   unfolding retries retryOf judged
   retries-in-width w a b =

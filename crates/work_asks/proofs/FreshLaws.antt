@@ -29,7 +29,7 @@ use Rattle.work.specs.Worked.{regionOf, Given, actedBy, countBy, workedBy, Perf
 use Rattle.work.proofs.RegionLaws.{Stands, tracked-stands, stands-size, stands-requests, stands-rising}
 use Rattle.work.proofs.WorkedLaws.{length-evicted, settings-given, clock-given, gate-given}
 use Rattle.work.specs.Checking.{checkedPending, checkedSendings, judgedCount, checkedCounts}
-use Rattle.work.proofs.RetriedLaws.{TargetsFit}
+use Rattle.model.proofs.PendingLaws.{WellTarget}
 use Rattle.work.proofs.CheckLaws.{Due, checked-stands, checked-count, checked-bytes}
 use Rattle.work_asks.specs.Asked.{Asks}
 use Rattle.work_asks.proofs.EntryLaws.{Entered, ListAsks}
@@ -87,7 +87,7 @@ module _ {head : Head} {call : Call} {region : List ℕ} {at batch peer : ℕ} {
 
   -- ---- asked for behind the check
 
-  module _ {aim : Aim} (targets : TargetsFit (aimedAt aim)) {before : Counts} {table first : List ℕ}
+  module _ {aim : Aim} (targets : WellTarget (aimedAt aim)) {before : Counts} {table first : List ℕ}
       (done : CheckDone head call aim region at batch out before table first) where
     due : Due head call (aimedAt aim) region
     due = record { tracked = n .tracked; bytes = n .bytes; targets = targets; clock = n .clock }

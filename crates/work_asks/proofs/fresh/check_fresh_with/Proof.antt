@@ -6,7 +6,7 @@ use mathlib.Core.Path.{sym}
 use lib.ListN.{length}
 use Rattle.peers.specs.Aims.{aimedAt}
 use Rattle.work.proofs.AimLaws.{aim-fits}
-use Rattle.work.proofs.RetriedLaws.{TargetsFit}
+use Rattle.model.proofs.PendingLaws.{WellTarget}
 use Rattle.work_asks.proofs.EntryLaws.{Entered}
 use Rattle.work_asks.proofs.FreshLaws.{Copied, CheckDone, up-to-end, fresh-long, fresh-ask, asks-fresh}
 use Rattle.work_asks.proofs.fresh.check_fresh_with.Statement.{statement}
@@ -30,7 +30,7 @@ module _ (c : tie.After-overwrite) where
         room = start .pre .1 .1;
       }
 
-  targets : TargetsFit (aimedAt (start .args .aim))
+  targets : WellTarget (aimedAt (start .args .aim))
   targets = aim-fits (start .args .aim) (start .good .1 .1 .1 .1 .0)
 
   copied : let a = start .args in Copied (a .head) (a .region .now) (a .fresh .now) (c .overwrite .last .0)
