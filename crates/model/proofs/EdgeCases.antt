@@ -20,7 +20,7 @@ use Rattle.model.specs.Calls as calls
 use Rattle.model.specs.Cases as starred
 use Rattle.model.specs.CaseTables.{Hold, allAsExpected}
 use Rattle.model.specs.EdgeCases.{found, refusals, callsRead, picksAndSends, announcedIds, windows, viewReaders, advances}
-use Rattle.model.specs.EdgeCases.{deliveryChecks, retryTargets, messages, modeSteps}
+use Rattle.model.specs.EdgeCases.{deliveryChecks, retryTargets, messages, modeSteps, forecasts}
 use Rattle.model.proofs.CaseTables.{each}
 
 -- Every definition that a case computes with, opened by one name.
@@ -118,3 +118,10 @@ mode-step-test = refl
 
 pub mode-step-cases : Hold found modeSteps
 mode-step-cases = each found modeSteps mode-step-test
+
+forecast-test : allAsExpected found forecasts ≡ true
+unfolding rules
+forecast-test = refl
+
+pub forecast-cases : Hold found forecasts
+forecast-cases = each found forecasts forecast-test

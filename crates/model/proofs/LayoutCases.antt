@@ -11,6 +11,7 @@ use Rattle.model.specs.Image as image
 use Rattle.model.specs.Lists as lists
 use Rattle.model.specs.Commands as commands
 use Rattle.model.specs.Calls as calls
+use Rattle.model.specs.Forecast as forecasts
 use Rattle.model.specs.CaseTables.{Hold, allAsExpected}
 use Rattle.model.specs.LayoutCases.{found, layouts, listTests, areaTests, wholeAreas}
 use Rattle.model.proofs.CaseTables.{each}
@@ -34,7 +35,8 @@ area-test = refl
 whole-area-test : allAsExpected found wholeAreas ≡ true
 unfolding found before same rising protocol.isTransaction settings.mostRequests image.headerBytes image.requestBytes image.padded image.encode
     image.requestOf image.settingsOf image.modeOf image.stalledOf image.pendingOf image.noneTwice image.requestFits image.marksFit image.countsFit
-    image.clocksFit image.unusedZero image.wellFormed calls.stepRefusal
+    image.clocksFit image.unusedZero image.wellFormed calls.stepRefusal image.decode calls.callRefusal forecasts.forecastRefusal
+    forecasts.forecast
 whole-area-test = refl
 
 pub layout-cases : Hold found layouts

@@ -12,6 +12,7 @@ pub mod EnteringLaws
 pub mod EntryLaws
 pub mod FateLaws
 pub mod FinishedLaws
+pub mod ForecastLaws
 pub mod FormedLaws
 pub mod HeaderLaws
 pub mod IdLaws

@@ -150,12 +150,13 @@ callRefusal st call =
     (unless (peersFit (call .peers)) 7
     (unless (viewFits (call .view)) 8 (resultRefusal st (argsOf call))))))
 
+-- 1 and 2, of every entry that is lent a state, before its other numbers
+abbrev pub imageRefusal : List ℕ → ℕ → ℕ
+imageRefusal state others = unless (eqb (length state) areaSize) 1 (unless (wellFormed state) 2 others)
+
 -- "Checked in this order."
 unfoldable pub stepRefusal : List ℕ → List ℕ → Call → ℕ
-stepRefusal state area call =
-    unless (eqb (length state) areaSize) 1
-    (unless (wellFormed state) 2
-    (unless (leb areaSize (length area)) 3 (callRefusal (decode state) call)))
+stepRefusal state area call = imageRefusal state (unless (leb areaSize (length area)) 3 (callRefusal (decode state) call))
 
 -- The step entry.
 unfoldable pub step : List ℕ → List ℕ → Call → Result
@@ -209,9 +210,7 @@ questionPairs st flag =
     []
 
 unfoldable pub questionRefusal : List ℕ → List ℕ → ℕ → ℕ
-questionRefusal state area flag =
-    unless (eqb (length state) areaSize) 1
-    (unless (wellFormed state) 2 (unless (leb areaSize (length area)) 3 (unless (isFlag flag) 5 0)))
+questionRefusal state area flag = imageRefusal state (unless (leb areaSize (length area)) 3 (unless (isFlag flag) 5 0))
 
 pub record Asked : Type 0 where
   pub number : ℕ

@@ -20,6 +20,7 @@ use Rattle.model.specs.Steps.{Step, Args, plan, after, commands}
 use Rattle.model.specs.Steps.{start, pick, progress, check, scheduledTick, sectionTick, sendFailure, endOfStream, otherMessage}
 use Rattle.model.specs.Steps.{neededModifier, reorg, announced, syncInfo, lostPeer, received, evicted}
 use Rattle.model.specs.Calls.{Call, Answer, stepOf, argsOf, callFits, callRefusal, stepAnswer, resultRefusal}
+use Rattle.model.specs.Forecast.{Forecast, figures}
 use Rattle.model.specs.Cases.{caseSettings, syncingState, argsAt, numbered}
 use Rattle.model.specs.Cases as starred
 use Rattle.model.specs.CaseTables.{Entry, _gives_, lends, plain, flagged}
@@ -29,6 +30,8 @@ use Rattle.model.specs.CaseTables.{Entry, _gives_, lends, plain, flagged
 pub data Case : Type 0 where
   -- what a step sends and keeps pending; what it leaves of the rest of the state; its answer; the number of 9 to 11 that it is refused with
   sends leaves answers refusedAs : State → Args → Case
+  -- the figures of its forecast
+  forecast : State → Args → Case
   -- the number of 4 to 11 that a call is refused with
   called : State → Call → Case
   -- the kinds of steps that a mode takes: of 0 to 17, with the entry mark or without
@@ -141,6 +144,9 @@ syncNumbers lastClock s =
 
 abbrev pub answerNumbers : Answer → List ℕ
 answerNumbers a = a .outcome ∷ a .retried ∷ a .fresh ∷ a .abandoned ∷ a .forgotten ∷ a .pending ∷ a .evicted ∷ a .length ∷ []
+
+abbrev pub forecastNumbers : Forecast → List ℕ
+forecastNumbers f = f .number ∷ f .outcome ∷ f .pending ∷ f .evicted ∷ f .commands ∷ f .length ∷ []
 
 abbrev pub optionNumbers : Option ℕ → List ℕ
 optionNumbers none = []
@@ -293,11 +299,12 @@ hearing clock chainHeight peer tip continuation = argsAt clock chainHeight [] (s
 -- What the rules give. A step that sends: outcome and mode; a row a command (kind, type, batch, peer, count, ids); a row a pending
 -- request (id, type, peer, stamp, checks). What it leaves: outcome and mode; sync peer, downloaded height, known tip; last clock, last
 -- progress, last send, sends counted; progress mark, entry mark; stalled peers; evicted ids. Its answer: outcome, retried, fresh,
--- abandoned, forgotten, pending, evicted, length.
+-- abandoned, forgotten, pending, evicted, length. Its forecast: number, outcome, pending, evicted, commands, length.
 unfoldable pub found : Case → List (List ℕ)
 found (sends st a) = ending st a ∷ map commandNumbers (commands st a) ++ map requestNumbers (after st a .pending)
 found (leaves st a) = ending st a ∷ syncNumbers (after st a .lastClock) (after st a .sync)
 found (answers st a) = answerNumbers (stepAnswer st a) ∷ []
+found (forecast st a) = forecastNumbers (figures (stepAnswer st a) (commands st a)) ∷ []
 found (refusedAs st a) = number (resultRefusal st a)
 found (called st c) = number (callRefusal st c)
 found (taken mode entrySent) = takenFrom 18 0 (core mode (withSyncPeer baseSync 7 false entrySent)) ∷ []
@@ -788,3 +795,15 @@ modeSteps =
     ∷ (sends beforeReorg (at 50 (evicted (ids (14 ∷ 14 ∷ 8 ∷ [])))) gives (0 ∷ 2 ∷ []) ∷ pending 15 102 7 0 0 ∷ [])
     ∷ (leaves beforeReorg (at 50 (evicted (ids (14 ∷ 14 ∷ 8 ∷ [])))) gives
     (0 ∷ 2 ∷ []) ∷ (7 ∷ 5 ∷ 0 ∷ []) ∷ (50 ∷ 0 ∷ 0 ∷ 0 ∷ []) ∷ (0 ∷ 0 ∷ []) ∷ [] ∷ (9 ∷ 14 ∷ 14 ∷ 8 ∷ []) ∷ []) ∷ []
+
+-- F-3: the figures of a forecast.
+abbrev pub forecasts : List (Entry Case)
+forecasts =
+    -- nothing sent: one pending, two evicted
+    (forecast (evicting 2 (waits 5 102 7 0 0 ∷ []) (5 ∷ 6 ∷ [])) (at 10000 otherMessage) gives (0 ∷ 0 ∷ 1 ∷ 2 ∷ 0 ∷ 0 ∷ []) ∷ [])
+    -- a retry, and an id evicted 401 times handed out: two batches, three commands
+    ∷ (forecast (stateOf 2 syncing (waits 5 102 7 0 0 ∷ []) (withEvicted baseSync (replicate 401 (replicate 32 6)))) (checking (8 ∷ [])) gives
+    (0 ∷ 0 ∷ 2 ∷ 0 ∷ 3 ∷ 12912 ∷ []) ∷ [])
+    -- a sync info of 16 bytes; an outcome that is not Continue
+    ∷ (forecast syncingCore (at 200 scheduledTick) gives (0 ∷ 0 ∷ 0 ∷ 0 ∷ 1 ∷ 16 ∷ []) ∷ [])
+    ∷ (forecast syncingCore (at 50 endOfStream) gives (0 ∷ 5 ∷ 0 ∷ 0 ∷ 0 ∷ 0 ∷ []) ∷ []) ∷ []

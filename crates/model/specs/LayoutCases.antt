@@ -13,6 +13,7 @@ use Rattle.model.specs.Image.{bit, headerBytes, encode, decode, requestB
 use Rattle.model.specs.Lists.{idsIn, peersIn, pairsIn, viewOf, idsFit, continuationFits, peersFit, pairsFit, rowFits, viewFits}
 use Rattle.model.specs.Commands.{allCommandBytes, commandsIn}
 use Rattle.model.specs.Calls.{Call, questionPairs, stepRefusal}
+use Rattle.model.specs.Forecast.{Forecast, forecast}
 use Rattle.model.specs.Cases.{syncingState}
 use Rattle.model.specs.CaseTables.{Entry, _gives_, plain}
 
@@ -35,6 +36,8 @@ pub data Case : Type 0 where
   questioned : ℕ → State → Case
   -- what a step is refused with: the state area, the length of the command area, the call
   refusedAs : List ℕ → ℕ → Call → Case
+  -- a forecast: the state area, the call
+  foretold : List ℕ → Call → Case
   -- tests, 1 where the bytes pass
   idsTested continuationTested peersTested pairsTested rowTested viewTested countsTested : List ℕ → Case
   -- whether the sound area below is well formed with these bytes changed: an offset and the byte there, and so on
@@ -64,6 +67,9 @@ stateNumbers st =
     ∷ (st .settings .timeout ∷ st .settings .maxChecks ∷ st .settings .minSendInterval ∷ st .settings .stallTimeout ∷ [])
     ∷ (st .sync .lastProgress ∷ st .sync .sendClock .lastSend ∷ st .sync .syncPeer ∷ [])
     ∷ (st .sync .sendClock .sends ∷ st .sync .downloaded ∷ st .sync .knownTip ∷ []) ∷ []
+
+abbrev pub forecastNumbers : Forecast → List ℕ
+forecastNumbers f = f .number ∷ f .outcome ∷ f .pending ∷ f .evicted ∷ f .commands ∷ f .length ∷ []
 
 abbrev pub told : Bool → List (List ℕ)
 told test = (bit test ∷ []) ∷ []
@@ -228,6 +234,7 @@ found (written commands) = allCommandBytes commands ∷ []
 found (commandsRead bytes) = allCommandNumbers (commandsIn bytes)
 found (questioned flag st) = questionPairs st flag
 found (refusedAs state count c) = (stepRefusal state (replicate count 0x77) c ∷ []) ∷ []
+found (foretold state c) = forecastNumbers (forecast state c) ∷ []
 found (idsTested bytes) = told (idsFit bytes)
 found (continuationTested bytes) = told (continuationFits bytes)
 found (peersTested bytes) = told (peersFit bytes)
@@ -419,7 +426,8 @@ areaTests =
     ∷ (changed (2655 ∷ 0x66 ∷ 2667 ∷ 1 ∷ []) gives passes) ∷ []
 
 -- Whole areas: stalled peers, records and evicted ids at their places, with zeros around them, and nothing after 65,536 bytes; then
--- what a step is refused with: 1 before 2, 2 before 3, 3 before 4.
+-- what a step is refused with: 1 before 2, 2 before 3, 3 before 4; and the forecast of such calls, with all else 0: 1, 2, and 4 where
+-- the step with its short area is 3.
 abbrev pub wholeAreas : List (Entry Case)
 wholeAreas =
     (area (504 ∷ 40 ∷ 2552 ∷ 120 ∷ 65468 ∷ 100 ∷ []) fullState gives
@@ -430,4 +438,7 @@ wholeAreas =
     ∷ (replicate 4 0x00 ++ (all32 0xee ++ all32 0x11)) ∷ [])
     ∷ (refusedAs (replicate 65535 0x00) 65536 (plain 13 1200 1) gives (1 ∷ []) ∷ [])
     ∷ (refusedAs (replicate 65536 0x00) 65535 (plain 13 1200 1) gives (2 ∷ []) ∷ [])
-    ∷ (refusedAs wholeArea 65535 (plain 13 999 1) gives (3 ∷ []) ∷ []) ∷ []
+    ∷ (refusedAs wholeArea 65535 (plain 13 999 1) gives (3 ∷ []) ∷ [])
+    ∷ (foretold (replicate 65535 0x00) (plain 13 1200 1) gives (1 ∷ 0 ∷ 0 ∷ 0 ∷ 0 ∷ 0 ∷ []) ∷ [])
+    ∷ (foretold (replicate 65536 0x00) (plain 13 1200 1) gives (2 ∷ 0 ∷ 0 ∷ 0 ∷ 0 ∷ 0 ∷ []) ∷ [])
+    ∷ (foretold wholeArea (plain 13 999 1) gives (4 ∷ 0 ∷ 0 ∷ 0 ∷ 0 ∷ 0 ∷ []) ∷ []) ∷ []

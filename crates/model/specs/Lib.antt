@@ -10,6 +10,7 @@ pub mod Delivery
 pub mod Demand3
 pub mod EdgeCases
 pub mod Events
+pub mod Forecast
 pub mod Image
 pub mod Lists
 pub mod Peers

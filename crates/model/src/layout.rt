@@ -12,6 +12,11 @@ pub const PLACE_SIZE: usize = 34;
 
 pub const ROW_SIZE: usize = 103;
 
+pub const COMMAND_HEADER: usize = 16;
+
+// A request for one id.
+pub const COMMAND_SIZE: usize = 48;
+
 pub const AREA_SIZE: usize = 65536;
 
 pub const STALLED_AT: usize = 512;
@@ -30,6 +35,9 @@ pub const ID_LIST_SIZE: usize = 32768;
 pub const PAIR_LIST_SIZE: usize = 33792;
 
 pub const WINDOW_PAIRS_SIZE: usize = 19008;
+
+// A step's commands, at most.
+pub const MOST_BYTES: usize = 49152;
 
 // Most requests pending and ids evicted.
 pub const TRACKED_LIMIT: usize = 1024;
