@@ -1,3 +1,4 @@
+pub mod CountLaws
 pub mod HoldingLaws
 pub mod RecordedLaws
 pub mod RunLaws

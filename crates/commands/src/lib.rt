@@ -4,4 +4,5 @@
 // command costs a copy of its ids. specs/ also say what a table of pending requests stands for: records, ids rising, at the
 // front of a slice.
 pub mod chunk;
+pub mod counting;
 pub mod writing;
