@@ -27,13 +27,13 @@ pub fn copy_prefix(src: &[u8], count: usize, dst: &mut [u8])
     copy(&src[..count], &mut dst[..count]);
 }
 
-// A copy of an area of 65,536 bytes to work on.
+// A copy of an area of 65,536 bytes to work on. The part says its length to the compiler, which then makes one copy of it.
 pub fn scratch(src: &[u8]) -> [u8; 65536]
     requires { ⌜ length (now src) ≡ 65536 ⌝ }
     ensures { λ r. ⌜ r ≡ now (src .entry) ⌝ }
 {
     let mut area = [0u8; 65536];
-    copy(src, &mut area);
+    copy(&src[..65536], &mut area);
     area
 }
 
