@@ -18,7 +18,7 @@ ghost use Rattle.model.specs.Check.{retrySendings};
 ghost use Rattle.commands.specs.Sent.{sentBytes};
 ghost use Rattle.retries.specs.Items.{Asked, itemsAt, itemOf};
 ghost use Rattle.retries.specs.Retried.{idsAt, sendingsOf};
-ghost use Rattle.model.specs.Layout.{commandSize, idSize, mostBatches, mostBytes, recordSize};
+ghost use Rattle.model.specs.Layout.{commandSize, idSize, mostBatches, recordSize};
 ghost use Rattle.model.specs.Protocol.{trackedLimit};
 use crate::batches::Batch;
 use model::layout::ID_LIST_SIZE;
@@ -121,7 +121,7 @@ fn put_with_room(
     requires { ⌜ All (λ (place : ℕ). place * recordSize + recordSize ≤ length (now table)) (now places) ⌝ }
     requires { ⌜ All (λ (place : ℕ). requestOf (entry recordSize place (now table)) .typeId < 256) (now places) ⌝ }
     requires { ⌜ (length (now places) ≤ length (now spare)) × (length (now places) * idSize ≤ length (now ids)) ⌝ }
-    requires { ⌜ (length (now places) ≤ trackedLimit) × ((at + mostBytes ≤ length (now out)) × (batch + mostBatches < 65536)) ⌝ }
+    requires { ⌜ (length (now places) ≤ trackedLimit) × ((at + length (now places) * commandSize ≤ length (now out)) × (batch + mostBatches < 65536)) ⌝ }
     ensures { λ _. ⌜ now (out .exit) ≡ overwritten at (sentBytes batch (retrySendings (map (λ (place : ℕ). itemOf (requestOf (entry recordSize place (now (table .entry))))) (now (places .entry))))) (now (out .entry)) ⌝ }
     ensures { λ r. ⌜ r .at ≡ at + length (sentBytes batch (retrySendings (map (λ (place : ℕ). itemOf (requestOf (entry recordSize place (now (table .entry))))) (now (places .entry))))) ⌝ }
     ensures { λ r. ⌜ r .batch ≡ batch + length (retrySendings (map (λ (place : ℕ). itemOf (requestOf (entry recordSize place (now (table .entry))))) (now (places .entry)))) ⌝ }
@@ -143,7 +143,7 @@ fn put_with_room(
 fn put_places(table: &[u8], places: &mut [u16], out: &mut [u8], at: usize, batch: u16) -> Written
     requires { ⌜ All (λ (place : ℕ). place * recordSize + recordSize ≤ length (now table)) (now places) ⌝ }
     requires { ⌜ All (λ (place : ℕ). requestOf (entry recordSize place (now table)) .typeId < 256) (now places) ⌝ }
-    requires { ⌜ (length (now places) ≤ trackedLimit) × ((at + mostBytes ≤ length (now out)) × (batch + mostBatches < 65536)) ⌝ }
+    requires { ⌜ (length (now places) ≤ trackedLimit) × ((at + length (now places) * commandSize ≤ length (now out)) × (batch + mostBatches < 65536)) ⌝ }
     ensures { λ _. ⌜ now (out .exit) ≡ overwritten at (sentBytes batch (retrySendings (map (λ (place : ℕ). itemOf (requestOf (entry recordSize place (now (table .entry))))) (now (places .entry))))) (now (out .entry)) ⌝ }
     ensures { λ r. ⌜ r .at ≡ at + length (sentBytes batch (retrySendings (map (λ (place : ℕ). itemOf (requestOf (entry recordSize place (now (table .entry))))) (now (places .entry))))) ⌝ }
     ensures { λ r. ⌜ r .batch ≡ batch + length (retrySendings (map (λ (place : ℕ). itemOf (requestOf (entry recordSize place (now (table .entry))))) (now (places .entry)))) ⌝ }
@@ -165,7 +165,7 @@ pub fn send_retries(
 ) -> Written
     requires { ⌜ All (λ (place : ℕ). place * recordSize + recordSize ≤ length (now table)) (take count (now places)) ⌝ }
     requires { ⌜ All (λ (place : ℕ). requestOf (entry recordSize place (now table)) .typeId < 256) (take count (now places)) ⌝ }
-    requires { ⌜ (count ≤ length (now places)) × ((length (now places) ≤ trackedLimit) × ((at + mostBytes ≤ length (now out)) × (batch + mostBatches < 65536))) ⌝ }
+    requires { ⌜ (count ≤ length (now places)) × ((length (now places) ≤ trackedLimit) × ((at + count * commandSize ≤ length (now out)) × (batch + mostBatches < 65536))) ⌝ }
     ensures { λ _. ⌜ now (out .exit) ≡ overwritten at (sentBytes batch (retrySendings (cond gate (map (λ (place : ℕ). itemOf (requestOf (entry recordSize place (now (table .entry))))) (take count (now (places .entry)))) []))) (now (out .entry)) ⌝ }
     ensures { λ r. ⌜ r .at ≡ at + length (sentBytes batch (retrySendings (cond gate (map (λ (place : ℕ). itemOf (requestOf (entry recordSize place (now (table .entry))))) (take count (now (places .entry)))) []))) ⌝ }
     ensures { λ r. ⌜ r .batch ≡ batch + length (retrySendings (cond gate (map (λ (place : ℕ). itemOf (requestOf (entry recordSize place (now (table .entry))))) (take count (now (places .entry)))) [])) ⌝ }

@@ -12,7 +12,7 @@ ghost use Rattle.commands.specs.Sent.{sentBytes};
 ghost use Rattle.work.specs.Worked.{regionOf, Tracked, Given, Performs, workedBy};
 ghost use Rattle.work.specs.Checking.{checkedPending, checkedSendings, checkedCounts};
 ghost use Rattle.plan.specs.declared.Work.the-variants as works;
-ghost use Rattle.model.specs.Layout.{idSize, mostBatches, mostBytes};
+ghost use Rattle.model.specs.Layout.{commandSize, idSize, mostBatches};
 ghost use Rattle.model.specs.Protocol.{trackedLimit};
 use crate::Counts;
 use crate::Performed;
@@ -43,7 +43,7 @@ fn check_noting(
     batch: u16,
 ) -> Counts
     requires { ⌜ Tracked head (call .clock) (now region) ⌝ }
-    requires { ⌜ (length (now places) ≡ trackedLimit) × ((at + mostBytes ≤ length (now out)) × (batch + mostBatches < 65536)) ⌝ }
+    requires { ⌜ (length (now places) ≡ trackedLimit) × ((at + head .pending * commandSize ≤ length (now out)) × (batch + mostBatches < 65536)) ⌝ }
     ensures { λ r. ⌜ r ≡ checkedCounts head call (aimedAt aim) (now (region .entry)) at batch ⌝ }
     ensures { λ _. ⌜ now (region .exit) ≡ regionOf (checkedPending head call (aimedAt aim) (now (region .entry))) [] ⌝ }
     ensures { λ _. ⌜ now (out .exit) ≡ overwritten at (sentBytes batch (checkedSendings head call (aimedAt aim) (now (region .entry)))) (now (out .entry)) ⌝ }
@@ -83,7 +83,7 @@ pub fn check_region(
     batch: u16,
 ) -> Counts
     requires { ⌜ Tracked head (call .clock) (now region) ⌝ }
-    requires { ⌜ (at + mostBytes ≤ length (now out)) × (batch + mostBatches < 65536) ⌝ }
+    requires { ⌜ (at + head .pending * commandSize ≤ length (now out)) × (batch + mostBatches < 65536) ⌝ }
     ensures { λ r. ⌜ r ≡ checkedCounts head call (aimedAt aim) (now (region .entry)) at batch ⌝ }
     ensures { λ _. ⌜ now (region .exit) ≡ regionOf (checkedPending head call (aimedAt aim) (now (region .entry))) [] ⌝ }
     ensures { λ _. ⌜ now (out .exit) ≡ overwritten at (sentBytes batch (checkedSendings head call (aimedAt aim) (now (region .entry)))) (now (out .entry)) ⌝ }
@@ -103,7 +103,7 @@ pub fn check(
     batch: u16,
 ) -> Performed
     requires { ⌜ Tracked head (call .clock) (now region) ⌝ }
-    requires { ⌜ (at + mostBytes ≤ length (now out)) × (batch + mostBatches < 65536) ⌝ }
+    requires { ⌜ (at + head .pending * commandSize ≤ length (now out)) × (batch + mostBatches < 65536) ⌝ }
     ensures { λ r. ⌜ ((st : State) (c : calls.Call) (ids stored view : List ℕ) → Given head (now (region .entry)) call ids stored view st c → (downloaded : ℕ) → Performs at batch (workedBy st c downloaded (works.Check aim)) (now (out .entry)) r (now (region .exit)) (now (out .exit))) ⌝ }
 {
     Performed::Done(check_region(region, head, call, aim, out, at, batch))

@@ -14,13 +14,13 @@ use Rattle.work.specs.declared.Counts.{Counts}
 use Rattle.work.specs.Worked.{Tracked}
 use Rattle.model.specs.Layout.{commandSize, idListSize, idSize, mostBatches, mostBytes, pairListSize, pairSize, recordSize, tableSize}
 
--- The region as it stands, the peer to ask, and room for commands; all within their types.
-pub record Entered (head : Head) (call : Call) (region : List ℕ) (at batch peer : ℕ) (out : List ℕ) : Type 0 where
+-- The region as it stands, the peer to ask, and room for so many bytes of commands; all within their types.
+pub record Entered (head : Head) (call : Call) (region : List ℕ) (at batch peer most : ℕ) (out : List ℕ) : Type 0 where
   pub tracked : Tracked head (call .clock) region
   pub bytes : Bytes region
   pub clock : call .clock < 2 ^ 64
   pub asked : peer < 2 ^ 64
-  pub room : (at + mostBytes ≤ length out) × (batch + mostBatches < 65536)
+  pub room : (at + most ≤ length out) × (batch + mostBatches < 65536)
 
 -- what `ask_list` asks
 abbrev pub ListAsks : Counts → List ℕ → List ℕ → List ℕ → List ℕ → Type 0

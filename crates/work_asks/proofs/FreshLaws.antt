@@ -1,5 +1,5 @@
 -- A check that asks for fresh ids, from what was asked for it.
-use Prim.Native.Nat.{ℕ, _-_, _*_, _/_, _≤_}
+use Prim.Native.Nat.{ℕ, _+_, _-_, _*_, _/_, _≤_}
 use mathlib.Core.Path.{_≡_, refl, ap, _∙_}
 use mathlib.Core.Bool.{Bool, true}
 use mathlib.Core.List.{List, [], _∷_}
@@ -34,7 +34,7 @@ use Rattle.work.proofs.CheckLaws.{Due, checked-stands, checked-count, checked-b
 use Rattle.work_asks.specs.Asked.{Asks}
 use Rattle.work_asks.proofs.EntryLaws.{Entered, ListAsks}
 use Rattle.work_asks.proofs.AskedLaws.{asking, Behind, asks-done}
-use Rattle.model.specs.Layout.{idSize}
+use Rattle.model.specs.Layout.{commandSize, idSize}
 
 -- ---- what it comes to
 
@@ -68,7 +68,8 @@ pub record CheckDone (head : Head) (call : Call) (aim : Aim) (region : List ℕ)
   pub sent : first ≡ overwritten at (sentBytes batch (checkedSendings head call (aimedAt aim) region)) out
   pub long : length first ≡ length out
 
-module _ {head : Head} {call : Call} {region : List ℕ} {at batch peer : ℕ} {out : List ℕ} (n : Entered head call region at batch peer out)
+module _ {head : Head} {call : Call} {region : List ℕ} {at batch peer : ℕ} {out : List ℕ}
+    (n : Entered head call region at batch peer ((head .pending + head .evicted) * commandSize) out)
     {room fresh : List ℕ} (copy : Copied head region room fresh) where
   copied-long : length (drop (length region - head .evicted * idSize) region) ≡ head .evicted * idSize
   copied-long = length-drop (length region - head .evicted * idSize) region ∙ omega (arith, n .tracked .few, n .tracked .size)
@@ -106,7 +107,7 @@ module _ {head : Head} {call : Call} {region : List ℕ} {at batch peer : ℕ} {
           (omega (arith, long), (omega (arith, long, t .few), (omega (arith, stands .few), omega (arith, size)))),
           (
             stands-rising (checkedPending head call (aimedAt aim) region) [] table stands,
-            (fit, (omega (arith, long, same, checked-bytes due batch, t .few, n .room), omega (arith, checked-count due, t .few, n .room))),
+            (fit, (omega (arith, long, same, checked-bytes due batch, n .room), omega (arith, checked-count due, t .few, n .room))),
           ),
         )
 
@@ -132,4 +133,4 @@ module _ {head : Head} {call : Call} {region : List ℕ} {at batch peer : ℕ} {
         rw (fresh-worked g downloaded at batch peer aim)
         (asks-done behind gate (call .clock) (ask headerType peer (pairsIn stored) e ∷ []) (n .clock)
         (record { typeId = omega arith; peer = n .asked; ids = tracked-stands head (call .clock) region (n .tracked) (n .bytes) .ids }, tt)
-        (omega (arith, checked-bytes due batch, length-evicted (head .evicted) region, n .tracked .few, n .room)) asked)
+        (omega (arith, checked-bytes due batch, length-evicted (head .evicted) region, n .room)) asked)

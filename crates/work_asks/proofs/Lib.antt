@@ -10,3 +10,5 @@ pub mod SectionsLaws
 pub mod WindowLaws
 pub mod WorkLaws
 pub mod SentLaws
+pub mod RequestLaws
+pub mod RoomLaws

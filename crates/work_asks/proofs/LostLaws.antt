@@ -39,7 +39,7 @@ use Rattle.work_asks.proofs.EntryLaws.{Entered, PairsAsks}
 use Rattle.work_asks.proofs.AskedLaws.{asking, first-done}
 use Rattle.work_asks.proofs.PairLaws.{front-length, front-pairs}
 use Rattle.work_asks.proofs.OrphanLaws.{orphanPairs, orphanAsks, orphan-asks, orphans-wide}
-use Rattle.model.specs.Layout.{idSize, pairSize, recordSize}
+use Rattle.model.specs.Layout.{idSize, mostBytes, pairSize, recordSize}
 
 -- ---- what it comes to
 
@@ -71,7 +71,7 @@ pub record Gathered (head : Head) (region : List ℕ) (number : ℕ) (room pairs
   pub count : number ≡ length (lost head region)
   pub written : pairs ≡ overwritten 0 (joined (orphanPairs (lost head region))) room
 
-module _ {head : Head} {call : Call} {region : List ℕ} {at batch peer : ℕ} {out : List ℕ} (n : Entered head call region at batch peer out) where
+module _ {head : Head} {call : Call} {region : List ℕ} {at batch peer : ℕ} {out : List ℕ} (n : Entered head call region at batch peer mostBytes out) where
   lost-stands : Stands (others head region) (evictedIn (head .evicted) region) (holding (head .pending) (others head region) region)
   unfolding purgePeer
   lost-stands = kept-stands head (call .clock) region (n .tracked) (n .bytes) (λ (r : Request). not (eqb (r .peer) (head .peer)))

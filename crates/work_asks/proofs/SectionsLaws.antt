@@ -37,7 +37,7 @@ use Rattle.work.proofs.WorkedLaws.{length-requests, length-evicted, taken-stand
 use Rattle.work_asks.specs.Asked.{unasked, Asks}
 use Rattle.work_asks.proofs.EntryLaws.{Entered, SectionsAsks}
 use Rattle.work_asks.proofs.AskedLaws.{asking, first-done}
-use Rattle.model.specs.Layout.{idSize, recordSize}
+use Rattle.model.specs.Layout.{idSize, mostBytes, recordSize}
 
 -- ---- what each comes to
 
@@ -78,7 +78,7 @@ none-rising : (table : List ℕ) → rising idSize (entries recordSize 0 table) 
 unfolding rising
 none-rising table = refl
 
-module _ {head : Head} {call : Call} {region : List ℕ} {at batch peer : ℕ} {out : List ℕ} (n : Entered head call region at batch peer out)
+module _ {head : Head} {call : Call} {region : List ℕ} {at batch peer : ℕ} {out : List ℕ} (n : Entered head call region at batch peer mostBytes out)
     (view : List ℕ) (fits : viewFits view ≡ true) {before : Counts} where
   pub sections-ask : before ≡ unasked (head .pending) (head .evicted) at batch → SectionsAsks before region view out
   sections-ask b = let t = n .tracked in rw b ((t .few, omega (arith, t .size)), (t .order, (fits, n .room)))

@@ -29,7 +29,7 @@ use Rattle.plan.specs.declared.Plan.{Plan}
 use Rattle.work.specs.declared.Performed.{Performed}
 use Rattle.work.specs.Worked.{Worked, workedBy, fits, performedAs, Performs}
 use Rattle.work_asks.specs.Carried.{announced, carriedBy}
-use Rattle.model.specs.Layout.{areaSize, chunkSize, idSize, mostBytes}
+use Rattle.model.specs.Layout.{chunkSize, idSize, mostBytes}
 
 -- ---- an announcement
 
@@ -112,7 +112,7 @@ module _ (st : State) (c : calls.Call) (plan : Plan) where
 
   pub carries : {bytes out out₁ out₂ region : List ℕ} {at batch : ℕ} {r : Performed} → c .continuation ≡ bytes
       → Announced (plan .announces) bytes out out₁ at batch
-      → areaSize ≤ length out → length out₁ ≡ length out → length out₂ ≡ length out₁
+      → at ≤ length out → length out₁ ≡ length out → length out₂ ≡ length out₁
       → Performs at batch work out₁ r region out₂ → Performs 0 0 (carriedBy st c plan) out r region out₂
   unfolding carriedBy performedAs fits
   carries {bytes} {out} {out₁} {out₂} {region} {at} {batch} same told′ room l₁ l₂ p =
@@ -132,7 +132,7 @@ module _ (st : State) (c : calls.Call) (plan : Plan) where
         written =
             λ h.
             let q : out₂ ≡ overwritten at B out₁ = p .written h in
-            let n : at + length B ≤ length out₂ = rw q (over-fits at B out₁ (omega (arith, a .1 .1 .0))) in
+            let n : at + length B ≤ length out₂ = rw q (over-fits at B out₁ (omega arith)) in
             let k : overwritten (0 + length A) B (overwritten 0 A out) ≡ overwritten 0 (A ++ B) out = overwritten-next 0 A B out (omega arith) in
             let z : 0 + length A ≡ at = omega arith in
             q ∙ rw (w, both, ← z) k;

@@ -1,2 +1,3 @@
 pub mod Asked
 pub mod Carried
+pub mod Room

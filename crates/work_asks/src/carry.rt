@@ -14,7 +14,8 @@ ghost use Rattle.commands.specs.Sent.{sentBytes};
 ghost use Rattle.work.specs.Worked.{Tracked, Given, Performs, Untouched};
 ghost use Rattle.peers.specs.declared.Listed.the-variants.{Nobody};
 ghost use Rattle.work_asks.specs.Carried.{announced, carriedBy};
-ghost use Rattle.model.specs.Layout.{areaSize, idListSize, idSize, mostBytes};
+ghost use Rattle.work_asks.specs.Room.{roomFor, mostCarried};
+ghost use Rattle.model.specs.Layout.{idListSize, idSize, mostBytes};
 use image::head::Head;
 use peers::Listed;
 use plan::Call;
@@ -29,7 +30,7 @@ struct Placed {
 
 // Continuation ids, if any, are announced before any reply.
 fn announce(out: &mut [u8], announces: Listed, continuation: &[u8]) -> Placed
-    requires { ⌜ (continuationFits (now continuation) ≡ true) × (areaSize ≤ length (now out)) ⌝ }
+    requires { ⌜ (continuationFits (now continuation) ≡ true) × (roomFor announces 0 ≤ length (now out)) ⌝ }
     ensures { λ _. ⌜ now (out .exit) ≡ overwritten 0 (sentBytes 0 (announced (listedPeer announces) (idsIn (now (continuation .entry))))) (now (out .entry)) ⌝ }
     ensures { λ r. ⌜ (r .at ≡ length (sentBytes 0 (announced (listedPeer announces) (idsIn (now (continuation .entry)))))) × (r .batch ≡ length (announced (listedPeer announces) (idsIn (now (continuation .entry))))) ⌝ }
     ensures { λ r. ⌜ (r .at + mostBytes ≤ 65536) × (r .batch ≤ 1) ⌝ }
@@ -58,7 +59,7 @@ pub fn carry_out(
 ) -> Performed
     requires { ⌜ Tracked head (call .clock) (now region) ⌝ }
     requires { ⌜ (length (now ids) % idSize ≡ 0) × ((length (now ids) ≤ idListSize) × (continuationFits (now continuation) ≡ true)) ⌝ }
-    requires { ⌜ (pairsFit (now stored) ≡ true) × ((viewFits (now view) ≡ true) × (areaSize ≤ length (now out))) ⌝ }
+    requires { ⌜ (pairsFit (now stored) ≡ true) × ((viewFits (now view) ≡ true) × (mostCarried head (length (now ids)) plan ≤ length (now out))) ⌝ }
     ensures { λ r. ⌜ ((st : State) (c : calls.Call) → Given head (now (region .entry)) call (now (ids .entry)) (now (stored .entry)) (now (view .entry)) st c → c .continuation ≡ now (continuation .entry) → Performs 0 0 (carriedBy st c plan) (now (out .entry)) r (now (region .exit)) (now (out .exit))) ⌝ }
     ensures { λ r. ⌜ (plan .announces ≡ Nobody → Untouched (plan .work) r (now (region .entry)) (now (region .exit)) (now (out .entry)) (now (out .exit))) ⌝ }
 {

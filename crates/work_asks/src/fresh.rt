@@ -2,14 +2,14 @@
 ghost use mathlib.Core.Path.{_≡_};
 ghost use mathlib.Core.Bool.{true};
 ghost use mathlib.Core.List.{List};
-ghost use Prim.Native.Nat.{ℕ, _+_, _≤_, _<_};
+ghost use Prim.Native.Nat.{ℕ, _+_, _*_, _≤_, _<_};
 ghost use lib.ListN.{length};
 ghost use Rattle.model.specs.State.{State};
 ghost use Rattle.model.specs.Lists.{pairsFit};
 ghost use Rattle.model.specs.Calls as calls;
 ghost use Rattle.plan.specs.declared.Work.the-variants as works;
 ghost use Rattle.work.specs.Worked.{Tracked, Given, Performs, workedBy};
-ghost use Rattle.model.specs.Layout.{idListSize, mostBatches, mostBytes};
+ghost use Rattle.model.specs.Layout.{commandSize, idListSize, mostBatches};
 use image::head::Head;
 use model::layout::ID_LIST_SIZE;
 use model::layout::ID_SIZE;
@@ -32,7 +32,7 @@ fn check_fresh_with(
 ) -> Performed
     requires { ⌜ Tracked head (call .clock) (now region) ⌝ }
     requires { ⌜ (pairsFit (now stored) ≡ true) × (length (now fresh) ≡ idListSize) ⌝ }
-    requires { ⌜ (at + mostBytes ≤ length (now out)) × (batch + mostBatches < 65536) ⌝ }
+    requires { ⌜ (at + (head .pending + head .evicted) * commandSize ≤ length (now out)) × (batch + mostBatches < 65536) ⌝ }
     ensures { λ r. ⌜ ((st : State) (c : calls.Call) (ids view : List ℕ) → Given head (now (region .entry)) call ids (now (stored .entry)) view st c → (downloaded : ℕ) → Performs at batch (workedBy st c downloaded (works.CheckFresh peer aim)) (now (out .entry)) r (now (region .exit)) (now (out .exit))) ⌝ }
 {
     let size = head.evicted * ID_SIZE;
@@ -56,7 +56,7 @@ pub fn check_fresh(
 ) -> Performed
     requires { ⌜ Tracked head (call .clock) (now region) ⌝ }
     requires { ⌜ pairsFit (now stored) ≡ true ⌝ }
-    requires { ⌜ (at + mostBytes ≤ length (now out)) × (batch + mostBatches < 65536) ⌝ }
+    requires { ⌜ (at + (head .pending + head .evicted) * commandSize ≤ length (now out)) × (batch + mostBatches < 65536) ⌝ }
     ensures { λ r. ⌜ ((st : State) (c : calls.Call) (ids view : List ℕ) → Given head (now (region .entry)) call ids (now (stored .entry)) view st c → (downloaded : ℕ) → Performs at batch (workedBy st c downloaded (works.CheckFresh peer aim)) (now (out .entry)) r (now (region .exit)) (now (out .exit))) ⌝ }
 {
     if head.evicted == 0 {

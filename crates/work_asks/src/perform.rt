@@ -10,7 +10,8 @@ ghost use Rattle.model.specs.State.{State};
 ghost use Rattle.model.specs.Lists.{pairsFit, viewFits};
 ghost use Rattle.model.specs.Calls as calls;
 ghost use Rattle.work.specs.Worked.{Tracked, Given, Performs, Untouched, workedBy};
-ghost use Rattle.model.specs.Layout.{idListSize, idSize, mostBatches, mostBytes};
+ghost use Rattle.work_asks.specs.Room.{mostSent};
+ghost use Rattle.model.specs.Layout.{idListSize, idSize, mostBatches};
 use image::head::Head;
 use plan::Call;
 use plan::Work;
@@ -33,7 +34,7 @@ pub fn perform(
     requires { ⌜ Tracked head (call .clock) (now region) ⌝ }
     requires { ⌜ (length (now ids) % idSize ≡ 0) × (length (now ids) ≤ idListSize) ⌝ }
     requires { ⌜ (pairsFit (now stored) ≡ true) × (viewFits (now view) ≡ true) ⌝ }
-    requires { ⌜ (at + mostBytes ≤ length (now out)) × (batch + mostBatches < 65536) ⌝ }
+    requires { ⌜ (at + mostSent head (length (now ids)) work ≤ length (now out)) × (batch + mostBatches < 65536) ⌝ }
     ensures { λ r. ⌜ ((st : State) (c : calls.Call) → Given head (now (region .entry)) call (now (ids .entry)) (now (stored .entry)) (now (view .entry)) st c → Performs at batch (workedBy st c downloaded work) (now (out .entry)) r (now (region .exit)) (now (out .exit))) ⌝ }
     ensures { λ r. ⌜ Untouched work r (now (region .entry)) (now (region .exit)) (now (out .entry)) (now (out .exit)) ⌝ }
 {

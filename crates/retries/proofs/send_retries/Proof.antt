@@ -30,7 +30,8 @@ put-places-requires : tie.Need-put-places-requires
 put-places-requires c κs =
     let s : tie.Start = search in
     let few = length-take-le (s .args .count) (s .args .places .now) (s .pre .1 .1 .0) in
-    (s .pre .0, (s .pre .1 .0, (omega (arith, few, s .pre .1 .1), s .pre .1 .1 .1 .1)))
+    let fits = s .pre .1 .1 in
+    (s .pre .0, (s .pre .1 .0, (omega (arith, few, fits), (omega (arith, few, fits), fits .1 .1 .1))))
 
 same-length : tie.Need-same-length
 same-length c = search needs

@@ -38,11 +38,12 @@ send-retries-requires c κs =
     let s = start (entry judged) in
     let its = due (entry judged) in
     let made = judged .check-timeouts .ensures in
+    let few = made-retried its (made .0) in
     let kept = judged .check-timeouts .kept in (
       places-inside its (made .1 .0) (made .1 .1),
       (
         places-narrow its (made .1 .0) (made .1 .1),
-        (omega (arith, made-retried its (made .0), kept, s .pre), (omega (arith, kept, s .pre), s .pre .1 .1)),
+        (omega (arith, few, kept, s .pre), (omega (arith, kept, s .pre), (omega (arith, few, s .pre), s .pre .1 .1 .1))),
       ),
     )
 

@@ -1,5 +1,6 @@
 -- Nothing, or one command with the ids: `nobody-told`, `nothing-told`, `told`.
 use Rattle.work_asks.proofs.SentLaws.{continuation-whole, nobody-told, nothing-told, told}
+use Rattle.work_asks.proofs.RoomLaws.{told-room}
 use borrow.Author.Needs.{needs}
 use native.Mathlib.Omega.{arith}
 use Rattle.work_asks.proofs.carry.announce.Statement.{statement}
@@ -28,8 +29,10 @@ returns-2 c =
 put-command-requires : tie.Need-put-command-requires
 put-command-requires c κs =
     let s : tie.Start = search in
+    let peer : tie.After-announces = search in
     let whole = continuation-whole (s .args .continuation .now) (s .pre .0) in
-    (whole .0, (omega (arith, whole .1), omega (arith, whole .1, s .pre .1)))
+    let room = told-room (peer .announces .given .1) (s .pre .1) in
+    (whole .0, (omega (arith, whole .1), omega (arith, whole .1, room)))
 
 same-length : tie.Need-same-length
 same-length c = search needs

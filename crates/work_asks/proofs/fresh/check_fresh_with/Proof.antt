@@ -1,7 +1,7 @@
 -- The copied ids are the evicted ones, asked for behind the check: `fresh-ask`, `asks-fresh`.
 use borrow.Author.Needs.{needs}
 use native.Mathlib.Omega.{arith}
-use Prim.Native.Nat.{ℕ, _-_, _*_}
+use Prim.Native.Nat.{ℕ, _+_, _-_, _*_}
 use mathlib.Core.Path.{sym}
 use lib.ListN.{length}
 use Rattle.peers.specs.Aims.{aimedAt}
@@ -11,7 +11,7 @@ use Rattle.work_asks.proofs.EntryLaws.{Entered}
 use Rattle.work_asks.proofs.FreshLaws.{Copied, CheckDone, up-to-end, fresh-long, fresh-ask, asks-fresh}
 use Rattle.work_asks.proofs.fresh.check_fresh_with.Statement.{statement}
 use Rattle.work_asks.proofs.fresh.check_fresh_with.Tie as tie
-use Rattle.model.specs.Layout.{idSize}
+use Rattle.model.specs.Layout.{commandSize, idSize}
 
 -- ---- the entry, up to where the evicted ids are copied
 
@@ -19,7 +19,8 @@ module _ (c : tie.After-overwrite) where
   abbrev start : tie.Start
   start = search
 
-  entered : let a = start .args in Entered (a .head) (a .call) (a .region .now) (a .at) (a .batch) (a .peer) (a .out .now)
+  entered : let a = start .args in
+      Entered (a .head) (a .call) (a .region .now) (a .at) (a .batch) (a .peer) ((a .head .pending + a .head .evicted) * commandSize) (a .out .now)
   entered =
       let region : tie.After-slice-known = search in
       record {

@@ -1,12 +1,14 @@
 -- The listed ids are asked for behind no other: `ids-ask`, `asks-ids`.
 use borrow.Author.Needs.{needs}
 use native.Mathlib.Omega.{arith}
-use Prim.Native.Nat.{_<_, _^_}
+use Prim.Native.Nat.{_*_, _/_, _<_, _^_}
+use lib.ListN.{length}
 use Rattle.fields.specs.Facts.{Bytes}
 use Rattle.work_asks.proofs.EntryLaws.{Entered}
 use Rattle.work_asks.proofs.IdsLaws.{ids-ask, asks-ids}
 use Rattle.work_asks.proofs.ids.ids.Statement.{statement}
 use Rattle.work_asks.proofs.ids.ids.Tie as tie
+use Rattle.model.specs.Layout.{commandSize, idSize}
 
 -- ---- the entry
 
@@ -14,7 +16,8 @@ module _ (c : tie.After-shared-slice-known) where
   abbrev start : tie.Start
   start = search
 
-  entered : let a = start .args in Entered (a .head) (a .call) (a .region .now) (a .at) (a .batch) (a .peer) (a .out .now)
+  entered : let a = start .args in
+      Entered (a .head) (a .call) (a .region .now) (a .at) (a .batch) (a .peer) (length (a .ids .now) / idSize * commandSize) (a .out .now)
   entered =
       let region : tie.After-slice-known = search in
       record {
@@ -41,7 +44,7 @@ ask-list-requires c κs =
     let counted : tie.After-unasked-counts = search in
     let entry : tie.After-shared-slice-known = search in
     let s = start entry in
-    ids-ask (entered entry) (counted .unasked-counts .ensures) (s .args .ids .now) (s .args .stored .now) (s .pre .1 .0) (s .pre .1 .1 .0)
+    ids-ask (s .args .ids .now) (entered entry) (counted .unasked-counts .ensures) (s .args .stored .now) (s .pre .1 .0) (s .pre .1 .1 .0)
 
 same-length : tie.Need-same-length
 same-length c = search needs
@@ -54,9 +57,10 @@ returns c =
     let asked : tie.After-ask-list = search in
     let counted : tie.After-unasked-counts = search in
     let entry : tie.After-shared-slice-known = search in
+    let its = start entry .args .ids .now in
     let made = asked .ask-list .ensures in (
       λ st call view g downloaded.
-          asks-ids (entered entry) (counted .unasked-counts .ensures) (type-fits entry) (listed entry) (start entry .pre .1 .0 .1) (made .0) g downloaded,
+          asks-ids its (entered entry) (counted .unasked-counts .ensures) (type-fits entry) (listed entry) (made .0) g downloaded,
       made .1,
     )
 

@@ -10,7 +10,7 @@ use Rattle.work_asks.proofs.EntryLaws.{Entered}
 use Rattle.work_asks.proofs.LostLaws.{Left, Gathered, orphans-few, orphans-long, orphans-ask, asks-lost}
 use Rattle.work_asks.proofs.orphans.lose_ask_with.Statement.{statement}
 use Rattle.work_asks.proofs.orphans.lose_ask_with.Tie as tie
-use Rattle.model.specs.Layout.{pairSize}
+use Rattle.model.specs.Layout.{mostBytes, pairSize}
 
 -- ---- the entry, up to where the pairs are gathered
 
@@ -18,7 +18,7 @@ module _ (c : tie.After-orphans) where
   abbrev start : tie.Start
   start = search
 
-  entered : let a = start .args in Entered (a .head) (a .call) (a .region .now) (a .at) (a .batch) (a .peer) (a .out .now)
+  entered : let a = start .args in Entered (a .head) (a .call) (a .region .now) (a .at) (a .batch) (a .peer) mostBytes (a .out .now)
   entered =
       let region : tie.After-slice-known = search in
       record {

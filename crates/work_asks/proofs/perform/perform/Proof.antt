@@ -1,10 +1,24 @@
 -- Each arm is the function of its work: `as-work`.
-use mathlib.Core.Path.{refl}
+use Prim.Native.Nat.{_+_, _≤_, _<_}
+use mathlib.Core.Path.{_≡_, refl}
+use lib.ListN.{length}
 use borrow.Author.Needs.{needs}
 use Rattle.work.proofs.WorkedLaws.{clock-given}
+use Rattle.plan.specs.declared.Work.{Work}
+use Rattle.work_asks.specs.Room.{mostSent}
 use Rattle.work_asks.proofs.WorkLaws.{as-work, several}
 use Rattle.work_asks.proofs.perform.perform.Statement.{statement}
 use Rattle.work_asks.proofs.perform.perform.Tie as tie
+use Rattle.model.specs.Layout.{mostBatches}
+
+-- ---- the room, by the work that is done
+
+module _ (s : tie.Start) where
+  room : {one : Work} → let a = s .args in a .work ≡ one
+      → (a .at + mostSent (a .head) (length (a .ids .now)) one ≤ length (a .out .now)) × (a .batch + mostBatches < 65536)
+  room e = (rw e at (s .pre .1 .1 .1 .0), s .pre .1 .1 .1 .1)
+
+-- ---- the needs
 
 enum-told : tie.Need-enum-told
 enum-told c = search needs
@@ -16,13 +30,19 @@ enum-known-work : tie.Need-enum-known-work
 enum-known-work c = search needs
 
 ids-requires : tie.Need-ids-requires
-ids-requires c κs = let s : tie.Start = search in (s .pre .0, (s .pre .1 .0, (s .pre .1 .1 .0 .0, s .pre .1 .1 .1)))
+ids-requires c κs =
+    let s : tie.Start = search in
+    let told : tie.After-work = search in
+    (s .pre .0, (s .pre .1 .0, (s .pre .1 .1 .0 .0, room s (told .work .given .1))))
 
 enum-known-work-2 : tie.Need-enum-known-work-2
 enum-known-work-2 c = search needs
 
 sections-requires : tie.Need-sections-requires
-sections-requires c κs = search needs
+sections-requires c κs =
+    let s : tie.Start = search in
+    let told : tie.After-work2 = search in
+    (s .pre .0, (s .pre .1 .1 .0 .1, room s (told .work2 .given .1)))
 
 enum-told-2 : tie.Need-enum-told-2
 enum-told-2 c = search needs
@@ -46,7 +66,10 @@ enum-known-work-3 : tie.Need-enum-known-work-3
 enum-known-work-3 c = search needs
 
 purge-sections-requires : tie.Need-purge-sections-requires
-purge-sections-requires c κs = search needs
+purge-sections-requires c κs =
+    let s : tie.Start = search in
+    let told : tie.After-work3 = search in
+    (s .pre .0, (s .pre .1 .1 .0 .1, room s (told .work3 .given .1)))
 
 enum-told-5 : tie.Need-enum-told-5
 enum-told-5 c = search needs
@@ -58,19 +81,28 @@ enum-known-work-4 : tie.Need-enum-known-work-4
 enum-known-work-4 c = search needs
 
 lose-ask-requires : tie.Need-lose-ask-requires
-lose-ask-requires c κs = search needs
+lose-ask-requires c κs =
+    let s : tie.Start = search in
+    let told : tie.After-work4 = search in
+    (s .pre .0, (s .pre .1 .1 .0 .0, room s (told .work4 .given .1)))
 
 enum-known-work-5 : tie.Need-enum-known-work-5
 enum-known-work-5 c = search needs
 
 check-requires : tie.Need-check-requires
-check-requires c κs = search needs
+check-requires c κs =
+    let s : tie.Start = search in
+    let told : tie.After-work5 = search in
+    (s .pre .0, room s (told .work5 .given .1))
 
 enum-known-work-6 : tie.Need-enum-known-work-6
 enum-known-work-6 c = search needs
 
 check-fresh-requires : tie.Need-check-fresh-requires
-check-fresh-requires c κs = search needs
+check-fresh-requires c κs =
+    let s : tie.Start = search in
+    let told : tie.After-work6 = search in
+    (s .pre .0, (s .pre .1 .1 .0 .0, room s (told .work6 .given .1)))
 
 returns : tie.Need-returns
 returns c =
