@@ -3,10 +3,14 @@ pub mod FinishedLaws
 pub mod SaidLaws
 pub mod AreaLaws
 pub mod CarriedLaws
+pub mod CommittedLaws
 pub mod DirectLaws
 pub mod EndLaws
 pub mod FillingLaws
+pub mod ForetoldLaws
 pub mod PlannedLaws
+pub mod RoomLaws
 pub mod SettledLaws
 pub mod StepLaws
+pub mod UsedLaws
 pub mod WorkLaws

@@ -1,6 +1,6 @@
 -- A sync info as bytes, and the place behind it.
 use Prim.Native.Nat.{ℕ, _+_, _≤_, _<_}
-use mathlib.Core.Path.{_≡_, refl, sym, ap}
+use mathlib.Core.Path.{_≡_, refl, sym}
 use mathlib.Core.List.{List, [], _∷_}
 use mathlib.Core.Option.{Option, none, some}
 use native.Mathlib.Nat.{add-zero, lt-irrefl}
@@ -10,13 +10,10 @@ use Rattle.fields.specs.Overwrite.{overwritten}
 use Rattle.fields.proofs.OverwriteLaws.{overwritten-nil}
 use Rattle.model.specs.Lists.{idsIn}
 use Rattle.model.specs.Commands.{commandBytes}
-use Rattle.model.specs.Calls as calls
 use Rattle.peers.specs.Peers.{listedPeer}
 use Rattle.peers.specs.declared.Listed.{Listed}
 use Rattle.peers.specs.declared.Listed.the-variants.{Peer, Nobody}
 use Rattle.commands.specs.Sent.{sentBytes}
-use Rattle.step.specs.declared.finish.Answer.{Answer}
-use Rattle.step.specs.Answers.{answerOf}
 use Rattle.step.specs.Finished.{said}
 
 no-ids : (bytes : List ℕ) → length bytes < 1 → idsIn bytes ≡ []
@@ -51,8 +48,3 @@ said-short batch (some peer) = omega arith
 
 pub said-end : (at batch end : ℕ) (peer : Option ℕ) → end ≡ at + length (sentBytes batch (said peer)) → end ≤ at + 16
 said-end at batch end peer e = omega (arith, said-short batch peer)
-
--- the length among the numbers told
-pub told-length : (r : Answer) {x : calls.Answer} → answerOf r ≡ x → r .length ≡ x .length
-unfolding answerOf
-told-length r e = ap (λ (y : calls.Answer). y .length) e

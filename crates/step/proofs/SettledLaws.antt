@@ -1,7 +1,7 @@
 -- What settling asks of the counts, and what it leaves: the last command, the image, the areas, the answer.
 use Prim.Native.Nat.{ℕ, _+_, _≤_}
 use mathlib.Core.Path.{_≡_}
-use mathlib.Core.List.{List, _++_}
+use mathlib.Core.List.{List}
 use lib.ListN.{length, take, drop}
 use Rattle.fields.specs.Overwrite.{overwritten}
 use Rattle.model.specs.Calls as calls
@@ -51,7 +51,7 @@ answered plan counts =
       length = end plan counts;
     }
 
--- commands written to room of their own, then copied to the front of the area
-abbrev pub CopiedBack : Plan → Counts → List ℕ → List ℕ → List ℕ → Type 0
-CopiedBack plan counts out commands commands′ =
-    commands′ ≡ take (end plan counts) (overwritten (counts .at) (last plan counts) out) ++ drop (end plan counts) commands
+-- what settling leaves of an image and of room for commands, and answers
+abbrev pub Settles : Plan → Counts → ℕ → List ℕ → List ℕ → calls.Answer → List ℕ → List ℕ → Type 0
+Settles plan counts count image out answer image′ out′ =
+    ImageSettled plan counts count image image′ × ((out′ ≡ overwritten (counts .at) (last plan counts) out) × (answer ≡ answered plan counts))

@@ -13,7 +13,7 @@ use Rattle.fields.specs.Facts.{Bytes}
 use Rattle.fields.specs.Overwrite.{overwritten}
 use Rattle.fields.proofs.AllLaws.{either}
 use Rattle.fields.proofs.FilterLaws.{length-kept}
-use Rattle.fields.proofs.OverwriteLaws.{drop-take, front-read-back, overwritten-next}
+use Rattle.fields.proofs.OverwriteLaws.{drop-take, overwritten-next}
 use Rattle.model.specs.Protocol.{trackedLimit, stalledLimit}
 use Rattle.model.specs.Delivery as delivery
 use Rattle.model.specs.Delivery.{Request, Verdict, judged, verdict, verdictNumber}
@@ -51,8 +51,8 @@ use Rattle.step.proofs.CarriedLaws.{carried-pending, carried-evicted, c
 use Rattle.step.proofs.CarriedLaws.{carried-fresh, carried-fits, outcome-is, seen-is, stalled-is, stalled-count, head-after}
 use Rattle.step.proofs.FinishedLaws.{completed-encode}
 use Rattle.step.proofs.EndLaws.{untouched, few, ends-9, ends-10, ends-11, passes, ends-finished, countsOf, full-fails, done-fits}
-use Rattle.step.proofs.SettledLaws.{Few, CountsFew, last, end, ImageSettled, answered, CopiedBack}
-use Rattle.model.specs.Layout.{areaSize, mostBytes, regionAt}
+use Rattle.step.proofs.SettledLaws.{Few, CountsFew, last, end, ImageSettled, answered}
+use Rattle.model.specs.Layout.{mostBytes, regionAt}
 
 -- ---- a part of two lists that begin alike, and records by their fields
 
@@ -62,18 +62,13 @@ part-same n k m x y h e =
     let b : take (n + k) y ≡ take (n + k) (take m y) = sym (take-take (n + k) m y h) in
     sym (drop-take n k x) ∙ ap (drop n) (a ∙ ap (take (n + k)) e ∙ sym b) ∙ drop-take n k y
 
--- two writes one behind another, copied to the front of another list
-front-written : (a b whole out out₁ s s′ : List ℕ) (at : ℕ)
-    → whole ≡ a ++ b → at ≡ length a → length whole ≤ length out → out₁ ≡ overwritten 0 a out
-    → s′ ≡ take (at + length b) (overwritten at b out₁) ++ drop (at + length b) s → s′ ≡ overwritten 0 whole s
-unfolding overwritten
-front-written a b whole out out₁ s s′ at w n room o e =
+-- two writes one behind another
+front-written : (a b whole s s₁ s₂ : List ℕ) (at : ℕ)
+    → whole ≡ a ++ b → at ≡ length a → length whole ≤ length s → s₁ ≡ overwritten 0 a s → s₂ ≡ overwritten at b s₁ → s₂ ≡ overwritten 0 whole s
+front-written a b whole s s₁ s₂ at w n room e f =
     let l : length whole ≡ length a + length b = ap length w ∙ length-append a b in
-    let k : at + length b ≡ length (a ++ b) = rw (n, length-append a b) in
-    let q : overwritten at b out₁ ≡ overwritten 0 (a ++ b) out =
-    (let z : at ≡ 0 + length a = n ∙ sym (zero-add (length a)) in rw (z, o) (overwritten-next 0 a b out (omega arith))) in
-    let t : take (at + length b) (overwritten at b out₁) ≡ a ++ b = rw (q, k) (front-read-back (a ++ b) out) in
-    e ∙ rw (t, k, w, zero-add (length (a ++ b)))
+    let z : at ≡ 0 + length a = n ∙ sym (zero-add (length a)) in
+    f ∙ rw (z, e, w) (overwritten-next 0 a b s (omega arith))
 
 same-answer : {o o′ r r′ n n′ b b′ t t′ q q′ v v′ l l′ : ℕ}
     → o ≡ o′ → r ≡ r′ → n ≡ n′ → b ≡ b′ → t ≡ t′ → q ≡ q′ → v ≡ v′ → l ≡ l′
@@ -225,12 +220,12 @@ module _ (area commands : List ℕ) (c : calls.Call) (p : Plan) (g : givenRefusa
               ∙ completed-encode old new (well-sized old well) (well-sized new (step-well old c well width not-refused-call)) image e₁ (back ∙ r)
 
         -- the commands
-        commands-finished : (out out₁ commands′ : List ℕ) → areaSize ≤ length out → out₁ ≡ overwritten 0 (sentBytes 0 (w .sendings)) out
-            → CopiedBack p counts out₁ commands commands′
+        commands-finished : (out commands′ : List ℕ) → out ≡ overwritten 0 (sentBytes 0 (w .sendings)) commands
+            → commands′ ≡ overwritten (counts .at) (last p counts) out
             → commands′ ≡ overwritten 0 (stepBytes old (argsOf c)) commands
-        commands-finished out out₁ commands′ room o e =
-            front-written (sentBytes 0 (w .sendings)) (last p counts) (stepBytes old (argsOf c)) out out₁ commands commands′ (counts .at)
-            bytes-are at-is (let m = step-bytes-most old c well width not-refused-call in omega arith) o e
+        commands-finished out commands′ o e =
+            front-written (sentBytes 0 (w .sendings)) (last p counts) (stepBytes old (argsOf c)) commands out commands′ (counts .at)
+            bytes-are at-is (omega (arith, step-bytes-most old c well width not-refused-call, given-facts .commandsSize)) o e
 
         answer-finished : (answer : calls.Answer)
             → answer ≡ answered p counts
@@ -251,17 +246,17 @@ module _ (area commands : List ℕ) (c : calls.Call) (p : Plan) (g : givenRefusa
             e ∙ same-answer (outcome-is old c p f) retried′ fresh′ abandoned′ forgotten′ pending′ evicted′ end-is
 
         -- Both areas and the answer.
-        pub finishes : (head : Head) → head ≡ headIn area → (image out out₁ state′ commands′ : List ℕ) (answer : calls.Answer)
+        pub finishes : (head : Head) → head ≡ headIn area → (image out state′ commands′ : List ℕ) (answer : calls.Answer)
             → take regionAt image ≡ take regionAt area
             → drop regionAt image ≡ regionOf (w .pending) (w .evicted)
-            → areaSize ≤ length out → out₁ ≡ overwritten 0 (sentBytes 0 (w .sendings)) out
+            → out ≡ overwritten 0 (sentBytes 0 (w .sendings)) commands
             → ImageSettled p counts (head .stalled) image state′
-            → CopiedBack p counts out₁ commands commands′
+            → commands′ ≡ overwritten (counts .at) (last p counts) out
             → answer ≡ answered p counts
             → record { answer = answer; state = state′; commands = commands′ } ≡ step area commands c
-        finishes head h image out out₁ state′ commands′ answer front back room o s k a =
+        finishes head h image out state′ commands′ answer front back o s k a =
             let as-many : length (old .sync .stalledPeers) ≡ head .stalled = stalled-before ∙ sym (ap (λ (x : Head). x .stalled) h) in
             let s′ : state′ ≡ encode new = s (old .sync .stalledPeers) as-many (places-kept image front back) ∙ image-finished image front back in
-            let k′ : commands′ ≡ overwritten 0 (stepBytes old (argsOf c)) commands = commands-finished out out₁ commands′ room o k in
+            let k′ : commands′ ≡ overwritten 0 (stepBytes old (argsOf c)) commands = commands-finished out commands′ o k in
             let a′ : answer ≡ stepAnswer old (argsOf c) = answer-finished answer a in
             same-result a′ s′ k′ ∙ sym (ends-finished area commands c g seen tracked stalled-few)

@@ -7,7 +7,7 @@ use native.Mathlib.Omega.{arith}
 use lib.ListN.{length, take, drop, length-drop, drop-of-length-le}
 use lib.Seq.{take-all, drop-at, length-take-le}
 use lib.Dec.{eqb, leb}
-use borrow.Author.Tests.{eqb-true, leb-true}
+use borrow.Author.Tests.{eqb-true, leb-true, le-leb}
 use borrow.Rule.Slice.PartMut.{midOf, putMid, take-put}
 use Rattle.fields.specs.Facts.{Bytes}
 use Rattle.fields.specs.Number.{fromBe}
@@ -47,6 +47,11 @@ module _ (n : ℕ) (x y : List ℕ) (h : n ≤ length x) where
 
 -- ---- what is given
 
+-- with the room of a command area 3 is not given
+pub given-alone : (area : List ℕ) (room : ℕ) (c : calls.Call) → givenRefusal area room c ≡ 0 → givenRefusal area areaSize c ≡ 0
+unfolding givenRefusal
+given-alone area room c g = rw (le-leb areaSize room (given area room c g .commandsSize)) at g
+
 module _ (call : Call) (ids continuation stored peers view : List ℕ) where
   abbrev c : calls.Call
   c = callOf call ids continuation stored peers view
@@ -65,15 +70,12 @@ module _ (call : Call) (ids continuation stored peers view : List ℕ) where
   in-width a b d e f g i j k l m =
       record { clock = a; height = b; peer = d; typeid = e; fork = f; tip = g; ids = i; continuation = j; stored = k; peers = l; view = m }
 
-  module _ (area commands : List ℕ) (g : givenRefusal area (length commands) c ≡ 0) where
-    facts : Given area (length commands) c
-    facts = given area (length commands) c g
+  module _ (area : List ℕ) (room : ℕ) (g : givenRefusal area room c ≡ 0) where
+    facts : Given area room c
+    facts = given area room c g
 
     pub area-long : length area ≡ areaSize
     area-long = facts .stateSize
-
-    pub commands-long : areaSize ≤ length commands
-    commands-long = facts .commandsSize
 
     pub lists-whole : (length ids % idSize ≡ 0) × ((length ids ≤ idListSize) × (continuationFits continuation ≡ true))
     unfolding callOf idsFit listFits
@@ -107,7 +109,7 @@ module _ (call : Call) (ids continuation stored peers view : List ℕ) where
           × ((head .stalled ≤ 256) × ((head .send .last ≤ call .clock) × (head .progress ≤ call .clock)))
       unfolding callOf
       plan-ready =
-          let r : Ready area c = ready area (length commands) c facts in
+          let r : Ready area c = ready area room c facts in
           let n : length (take 2048 (drop 512 area)) ≡ 2048 = length-take-le 2048 (drop 512 area) (rw (length-drop 512 area) (omega (arith, area-long))) in
           rw h ((view-fits, (r .ids, n)), (r .stalledFew, (r .lastSend, r .lastProgress)))
 
@@ -117,5 +119,5 @@ module _ (call : Call) (ids continuation stored peers view : List ℕ) where
           → Follows (decode area) c plan
       unfolding callOf numbersOf
       plan-follows plan f =
-          let r : Ready area c = ready area (length commands) c facts in
+          let r : Ready area c = ready area room c facts in
           f (decode area) c (r .head ∙ sym h) refl refl refl refl (rw h (r .stalled))

@@ -1,9 +1,8 @@
-// What a step answers, and what a finished step writes: its sync info, the image after it, and both areas.
+// What a step answers, and what a finished step writes: its sync info and the image after it.
 //
-// It costs the header and the stalled places where they change; for a step on copies also a copy of the image to the state area
-// and one of the commands' bytes.
+// It costs the header and the stalled places where they change.
 ghost use mathlib.Core.Path.{_≡_};
-ghost use mathlib.Core.List.{List, _++_};
+ghost use mathlib.Core.List.{List};
 ghost use Prim.Native.Nat.{ℕ, _+_, _≤_, _<_, _^_};
 ghost use lib.ListN.{length, take, drop};
 ghost use Rattle.fields.specs.Overwrite.{overwritten};
@@ -13,7 +12,7 @@ ghost use Rattle.commands.specs.Sent.{sentBytes};
 ghost use Rattle.step.specs.Answers.{answerOf};
 ghost use Rattle.step.specs.Stalling.{placesOf, stalledThen, stalledCountThen};
 ghost use Rattle.step.specs.Finished.{said, counted, completed};
-ghost use Rattle.model.specs.Layout.{areaSize, mostBytes};
+ghost use Rattle.model.specs.Layout.{areaSize, commandHeader, mostBytes};
 ghost use Rattle.model.specs.Protocol.{trackedLimit};
 use plan::Plan;
 use work::Counts;
@@ -77,7 +76,7 @@ pub fn settle(
     counts: Counts,
     none: &[u8],
 ) -> Answer
-    requires { ⌜ (length (now image) ≡ areaSize) × (areaSize ≤ length (now out)) ⌝ }
+    requires { ⌜ (length (now image) ≡ areaSize) × (counts .at + commandHeader ≤ length (now out)) ⌝ }
     requires { ⌜ (length (now none) ≡ 0) × ((stalledCountThen (plan .stalling) count ≤ 256) × (counts .at ≤ mostBytes)) ⌝ }
     requires { ⌜ (counts .pending ≤ trackedLimit) × ((counts .evicted ≤ trackedLimit) × ((counts .retried ≤ trackedLimit) × ((counts .fresh ≤ trackedLimit) × ((counts .abandoned ≤ trackedLimit) × (counts .forgotten ≤ trackedLimit))))) ⌝ }
     ensures { λ _. ⌜ ((old : List ℕ) → length old ≡ count → take 2048 (drop 512 (now (image .entry))) ≡ placesOf old → now (image .exit) ≡ completed (counted (plan .head) (counts .pending) (counts .evicted)) (placesOf (stalledThen (plan .stalling) old)) (now (image .entry))) ⌝ }
@@ -90,28 +89,4 @@ pub fn settle(
     let end = crate::parts::say(out, says, counts.at, counts.batch, none);
     crate::parts::complete(image, count, stalling, head, counts);
     finished(plan.outcome, counts, end)
-}
-
-// A step settled on copies, then both areas. `none` is an empty list.
-pub fn finish(
-    state: &mut [u8],
-    commands: &mut [u8],
-    image: &mut [u8],
-    out: &mut [u8],
-    count: usize,
-    plan: Plan,
-    counts: Counts,
-    none: &[u8],
-) -> Answer
-    requires { ⌜ (length (now state) ≡ areaSize) × ((length (now image) ≡ areaSize) × ((areaSize ≤ length (now commands)) × (areaSize ≤ length (now out)))) ⌝ }
-    requires { ⌜ (length (now none) ≡ 0) × ((stalledCountThen (plan .stalling) count ≤ 256) × (counts .at ≤ mostBytes)) ⌝ }
-    requires { ⌜ (counts .pending ≤ trackedLimit) × ((counts .evicted ≤ trackedLimit) × ((counts .retried ≤ trackedLimit) × ((counts .fresh ≤ trackedLimit) × ((counts .abandoned ≤ trackedLimit) × (counts .forgotten ≤ trackedLimit))))) ⌝ }
-    ensures { λ _. ⌜ ((old : List ℕ) → length old ≡ count → take 2048 (drop 512 (now (image .entry))) ≡ placesOf old → now (state .exit) ≡ completed (counted (plan .head) (counts .pending) (counts .evicted)) (placesOf (stalledThen (plan .stalling) old)) (now (image .entry))) ⌝ }
-    ensures { λ _. ⌜ now (commands .exit) ≡ take (counts .at + length (sentBytes (counts .batch) (said (listedPeer (plan .says))))) (overwritten (counts .at) (sentBytes (counts .batch) (said (listedPeer (plan .says)))) (now (out .entry))) ++ drop (counts .at + length (sentBytes (counts .batch) (said (listedPeer (plan .says))))) (now (commands .entry)) ⌝ }
-    ensures { λ r. ⌜ answerOf r ≡ record { number = 0; outcome = plan .outcome; retried = counts .retried; fresh = counts .fresh; abandoned = counts .abandoned; forgotten = counts .forgotten; pending = counts .pending; evicted = counts .evicted; length = counts .at + length (sentBytes (counts .batch) (said (listedPeer (plan .says)))) } ⌝ }
-{
-    let answer = settle(image, out, count, plan, counts, none);
-    spans::copying::copy(image, state);
-    spans::copying::copy_prefix(out, answer.length as usize, commands);
-    answer
 }

@@ -5,10 +5,12 @@
 // that its rules read and the bytes that it writes; on copies also a copy of the state area and one back.
 pub mod copied;
 pub mod copies;
-pub mod direct;
 pub mod finish;
+pub mod forecast;
 mod parts;
+pub mod rooms;
 pub mod stalling;
+pub mod working;
 
 ghost use mathlib.Core.Path.{_≡_};
 ghost use lib.ListN.{length};
@@ -52,7 +54,7 @@ pub fn run(
     let after = plan.head;
     let copies = crate::copies::works_on_copies(work, announces);
     if copies | (256 < after.stalled) {
-        return crate::copied::work_out(
+        return crate::copied::step_on_copies(
             state,
             commands,
             head,
@@ -65,7 +67,7 @@ pub fn run(
             view,
         );
     }
-    crate::direct::step_directly(
+    crate::working::work_out(
         state,
         commands,
         head,

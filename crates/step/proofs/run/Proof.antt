@@ -1,19 +1,21 @@
--- The plan follows the model's: `plan-follows`; 9 by `unseen`.
+-- The plan follows the model's: `plan-follows`.
 use lib.Dec.{ltb}
-use borrow.Author.Tests.{not-true, not-false, ltb-false}
+use borrow.Author.Tests.{ltb-false, not-true, not-false}
 use Rattle.model.specs.Image.{decode}
 use Rattle.model.specs.Calls as calls
 use Rattle.plan.specs.declared.Plan.{Plan}
 use Rattle.plan.specs.Plans.{callOf, Follows}
+use Rattle.refusals.proofs.RefusalLaws.{given}
 use Rattle.step.specs.Planned.{Lists, lists, Planned}
+use Rattle.step.proofs.PlannedLaws.{room-most}
 use Rattle.step.proofs.StepLaws.{unseen}
-use Rattle.step.proofs.WorkLaws.{area-long, plan-ready, plan-follows}
+use Rattle.step.proofs.WorkLaws.{given-alone, plan-ready, plan-follows}
 use borrow.Author.Needs.{needs}
 use native.Mathlib.Omega.{arith}
-use Prim.Native.Nat.{ℕ}
+use Prim.Native.Nat.{ℕ, _≤_}
 use mathlib.Core.Path.{_≡_, refl, sym, ap, _∙_}
 use mathlib.Core.Bool.{Bool, true, false, _||_, false≢true}
-use mathlib.Core.List.{List}
+use mathlib.Core.List.{List, [], append-nil}
 use lib.ListN.{length}
 use Rattle.step.proofs.run.Statement.{statement}
 use Rattle.step.proofs.run.Tie as tie
@@ -39,9 +41,10 @@ module _ (s : tie.Start) where
   call = callOf (s .args .call) (s .args .ids .now) (s .args .continuation .now) (s .args .stored .now) (s .args .peers .now) (s .args .view .now)
 
   long : length area ≡ areaSize
-  long =
-      area-long (s .args .call) (s .args .ids .now) (s .args .continuation .now) (s .args .stored .now) (s .args .peers .now) (s .args .view .now)
-      area commands (s .pre)
+  long = given area (length commands) call (s .pre) .stateSize
+
+  more : areaSize ≤ length commands
+  more = given area (length commands) call (s .pre) .commandsSize
 
 -- ---- the header read
 
@@ -62,13 +65,14 @@ module _ (c : tie.After-plan-step) where
   follows =
       let a = start header .args in
       plan-follows (a .call) (a .ids .now) (a .continuation .now) (a .stored .now) (a .peers .now) (a .view .now)
-      (a .state .now) (a .commands .now) (start header .pre)
+      (a .state .now) (length (a .commands .now)) (start header .pre)
       (header .read-head .result) (header .read-head .ensures) plan (c .plan-step .ensures)
 
-  planned : plan .seen ≡ true
-      → Planned (area (start header)) (commands (start header)) (header .read-head .result) plan (start header .args .call)
-      (lent (start header))
-  planned seen = record { given = start header .pre; read = header .read-head .ensures; follows = follows; seen = seen }
+  planned : plan .seen ≡ true → Planned (area (start header)) (header .read-head .result) plan (start header .args .call) (lent (start header))
+  planned seen =
+      let s = start header in
+      let given = given-alone (area s) (length (commands s)) (call s) (s .pre) in
+      record { given = given; read = header .read-head .ensures; follows = follows; seen = seen }
 
 -- ---- the needs
 
@@ -90,7 +94,7 @@ plan-step-requires c κs =
     let s = start h in
     let a = s .args in
     plan-ready (a .call) (a .ids .now) (a .continuation .now) (a .stored .now) (a .peers .now) (a .view .now)
-    (area s) (commands s) (s .pre) (h .read-head .result) (h .read-head .ensures)
+    (area s) (length (commands s)) (s .pre) (h .read-head .result) (h .read-head .ensures)
 
 refused-requires : tie.Need-refused-requires
 refused-requires c κs = search needs
@@ -108,11 +112,11 @@ returns c =
 works-on-copies-requires : tie.Need-works-on-copies-requires
 works-on-copies-requires c κs = search needs
 
-work-out-requires : tie.Need-work-out-requires
-work-out-requires c κs =
+step-on-copies-requires : tie.Need-step-on-copies-requires
+step-on-copies-requires c κs =
     let k : tie.After-plan-step = search in
     let past : tie.Else1 = search in
-    planned k (not-false (plan k .seen) (past .if1 .left))
+    (planned k (not-false (plan k .seen) (past .if1 .left)), more (start (header k)))
 
 same-length-2 : tie.Need-same-length-2
 same-length-2 c = search needs
@@ -123,16 +127,12 @@ same-length-3 c = search needs
 returns-2 : tie.Need-returns-2
 returns-2 c = search needs
 
-step-directly-requires : tie.Need-step-directly-requires
-step-directly-requires c κs =
+work-out-requires : tie.Need-work-out-requires
+work-out-requires c κs =
     let k : tie.After-plan-step = search in
     let past : tie.Else1 = search in
-    let asked : tie.After-works-on-copies = search in
-    let direct : tie.Else2 = search in
-    let both = neither (asked .works-on-copies .result) (ltb 256 (plan k .head .stalled)) (direct .if2 .left) in (
-      planned k (not-false (plan k .seen) (past .if1 .left)),
-      (sym (asked .works-on-copies .ensures) ∙ both .0, ltb-false 256 (plan k .head .stalled) (both .1)),
-    )
+    let its = planned k (not-false (plan k .seen) (past .if1 .left)) in
+    (its, omega (arith, room-most its, more (start (header k))))
 
 same-length-4 : tie.Need-same-length-4
 same-length-4 c = search needs
@@ -141,7 +141,17 @@ same-length-5 : tie.Need-same-length-5
 same-length-5 c = search needs
 
 returns-3 : tie.Need-returns-3
-returns-3 c = search needs
+returns-3 c =
+    let k : tie.After-plan-step = search in
+    let asked : tie.After-works-on-copies = search in
+    let direct : tie.Else2 = search in
+    let worked : tie.After-work-out = search in
+    let s = start (header k) in
+    let both = neither (asked .works-on-copies .result) (ltb 256 (plan k .head .stalled)) (direct .if2 .left) in
+    let works = worked .work-out .ensures .0 [] (rw (append-nil (commands s)) (more s)) in
+    rw (append-nil (commands s), append-nil (worked .work-out .last .1 .0)) at (
+    works .inPlace (sym (asked .works-on-copies .ensures) ∙ both .0) (ltb-false 256 (plan k .head .stalled) (both .1))
+    )
 
 pub run-spec : {M : Type 1} → statement M
 run-spec =
@@ -156,11 +166,11 @@ run-spec =
     same-length
     returns
     works-on-copies-requires
-    work-out-requires
+    step-on-copies-requires
     same-length-2
     same-length-3
     returns-2
-    step-directly-requires
+    work-out-requires
     same-length-4
     same-length-5
     returns-3)
