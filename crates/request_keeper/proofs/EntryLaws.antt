@@ -15,7 +15,11 @@ use Rattle.model.proofs.FinishedLaws.{held}
 use Rattle.refusals.specs.Refusals.{givenRefusal}
 use Rattle.refusals.proofs.RefusalLaws.{refusal-split}
 use Rattle.model.specs.Calls.{isFlag, Call, Answer, Result, refused, stepRefusal, step, Opening, Opened, open', Asked, questionRefusal, questionPairs, question}
+use Rattle.model.specs.Forecast.{Forecast, forecastRefusal, noFigures, forecast}
 use Rattle.model.specs.Layout.{areaSize}
+use Rattle.model.proofs.ForecastLaws.{same-refusal}
+use Rattle.fields.specs.Zero.{zeros}
+use Rattle.fields.proofs.ZeroLaws.{length-zeros}
 
 pub not-opened : (state : List ℕ) (o : Opening)
     → eqb (length state) areaSize ≡ false
@@ -38,6 +42,19 @@ pub not-stepped : (state area : List ℕ) (call : Call) (number : ℕ) (answer :
 unfolding step
 not-stepped state area call number answer e t a =
     let whole : stepRefusal state area call ≡ number = refusal-split state area call ∙ rw (sym e, t) in
+    rw (whole, t, a)
+
+pub not-forecast : (state : List ℕ) (call : Call) (number : ℕ) {f : Forecast}
+    → number ≡ givenRefusal state areaSize call
+    → eqb number 0 ≡ false
+    → f ≡ noFigures number
+    → f ≡ forecast state call
+unfolding forecast
+not-forecast state call number e t a =
+    let area : List ℕ = zeros areaSize in
+    let long : length area ≡ areaSize = length-zeros areaSize in
+    let whole : forecastRefusal state call ≡ number =
+    sym (same-refusal state area call long) ∙ refusal-split state area call ∙ rw (long, sym e, t) in
     rw (whole, t, a)
 
 module _ (state area : List ℕ) (flag number : ℕ) (e : number ≡ questionRefusal state area flag) where
