@@ -16,6 +16,7 @@ drill --judge COMMAND.. holds a pupil's keeper, started by COMMAND, against the 
 
   --svg                 also draws it, into FILE with the ending .svg
   --svg OUT.svg         also draws it, into OUT.svg
+  --forecast            also shows what the core says of each step right before it
   --quiet               prints only the last line of each timeline, and the expectations that are not met
   --help                this text
   --version             the version
@@ -32,6 +33,8 @@ struct Asked {
     files: Vec<String>,
     /// Whether to draw, and where to.
     svg: Option<Option<PathBuf>>,
+    /// Whether to show the forecasts.
+    forecast: bool,
     quiet: bool,
     list: bool,
     help: bool,
@@ -48,6 +51,7 @@ fn asked(words: impl Iterator<Item = String>) -> Result<Asked, Vec<String>> {
             "--help" | "-h" => asked.help = true,
             "--version" | "-V" => asked.version = true,
             "--list" => asked.list = true,
+            "--forecast" => asked.forecast = true,
             "--quiet" => asked.quiet = true,
             "--svg" => {
                 let out = words.next_if(|word| word.ends_with(".svg"));
@@ -168,6 +172,8 @@ fn drill(file: &str, asked: &Asked) -> Result<u8, String> {
     };
     if asked.quiet {
         print(&format!("{file}: {}\n", timeline::unmet(&played)))?;
+    } else if asked.forecast {
+        print(&timeline::with_forecasts(&played))?;
     } else {
         print(&timeline::timeline(&played))?;
     }

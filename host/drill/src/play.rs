@@ -8,7 +8,7 @@ use crate::sending::{sent, SendFate, Sending, Sent};
 use crate::standing::Standing;
 use crate::verdict::{judge, Verdict};
 use crate::world::World;
-use request_keeper::{Answer, Refusal, RequestKeeper, Settings, Surroundings, View};
+use request_keeper::{Answer, Forecast, Refusal, RequestKeeper, Settings, Surroundings, View};
 use std::rc::Rc;
 
 /// A scenario that was played.
@@ -42,6 +42,8 @@ pub struct Moment {
     pub chain_height: u32,
     pub before: Rc<Standing>,
     pub after: Rc<Standing>,
+    /// What the core said of the step right before it.
+    pub forecast: Result<Forecast, Refusal>,
     pub result: Result<Answer, Refusal>,
     pub sendings: Vec<Sending>,
     /// The sync info of an entry failed: send failure has to be the next step.
@@ -152,11 +154,19 @@ fn last_moment(items: &mut [Item]) -> Option<&mut Moment> {
 /// The core's answer with what was sent, or its refusal; and whether send failure has to be the next step.
 type Ran = Result<(Answer, Vec<Sending>, bool), Refusal>;
 
-/// Hands a step in with what the world lends it, and sends its commands.
-fn run(keeper: &mut RequestKeeper, world: &World, clock: u64, wake: &Wake) -> Ran {
+/// Asks for a step's forecast with what the world lends it, hands the step in with the same, and sends its commands.
+fn run(
+    keeper: &mut RequestKeeper,
+    world: &World,
+    clock: u64,
+    wake: &Wake,
+) -> (Result<Forecast, Refusal>, Ran) {
     let view = world.view(wake, keeper.downloaded_height());
     let none = View::EMPTY;
-    let stored = world.stored_pairs(wake, keeper)?;
+    let stored = match world.stored_pairs(wake, keeper) {
+        Ok(stored) => stored,
+        Err(refusal) => return (Err(refusal), Err(refusal)),
+    };
     let now = Surroundings {
         clock,
         gate_open: world.gate_open,
@@ -165,16 +175,20 @@ fn run(keeper: &mut RequestKeeper, world: &World, clock: u64, wake: &Wake) -> Ra
         stored: &stored,
         view: view.as_ref().unwrap_or(&none),
     };
+    let forecast = keeper.forecast(wake.step(), &now);
     if let Err(malformed) = view {
         // The crate makes no such view, so the core can't refuse it: what comes before it in the order is asked for.
-        let earlier = keeper.clone().step(wake.step(), &now).err();
+        let earlier = forecast.err();
         let first = earlier.filter(|refusal| refusal.number() < malformed.number());
-        return Err(first.unwrap_or(malformed));
+        let refusal = first.unwrap_or(malformed);
+        return (Err(refusal), Err(refusal));
     }
-    let finished = keeper.step(wake.step(), &now)?;
-    let answer = finished.answer;
-    let (sendings, entry_failed) = sent(finished, &world.fails);
-    Ok((answer, sendings, entry_failed))
+    let ran = keeper.step(wake.step(), &now).map(|finished| {
+        let answer = finished.answer;
+        let (sendings, entry_failed) = sent(finished, &world.fails);
+        (answer, sendings, entry_failed)
+    });
+    (forecast, ran)
 }
 
 /// One step, and all that is to be known of it.
@@ -186,7 +200,8 @@ fn step(
     names: &Names,
 ) -> Moment {
     let before = &past.standing;
-    let (result, sendings, entry_failed) = match run(keeper, world, clock, wake) {
+    let (forecast, ran) = run(keeper, world, clock, wake);
+    let (result, sendings, entry_failed) = match ran {
         Ok((answer, sendings, entry_failed)) => (Ok(answer), sendings, entry_failed),
         Err(refusal) => (Err(refusal), Vec::new(), false),
     };
@@ -199,6 +214,7 @@ fn step(
         chain_height: world.chain_height,
         before: Rc::clone(before),
         after: Rc::clone(before),
+        forecast,
         result,
         sendings,
         entry_failed,

@@ -1,7 +1,7 @@
 //! The scenarios that come with the player, by name.
 
 /// Name and text of each.
-pub const SCENARIOS: [(&str, &str); 9] = [
+pub const SCENARIOS: [(&str, &str); 10] = [
     ("a-day", include_str!("../scenarios/a-day.drill")),
     (
         "reorg-eviction-lost-peer",
@@ -12,6 +12,10 @@ pub const SCENARIOS: [(&str, &str); 9] = [
         include_str!("../scenarios/evicted-and-on-order.drill"),
     ),
     ("shut-gate", include_str!("../scenarios/shut-gate.drill")),
+    (
+        "one-area-for-two-nodes",
+        include_str!("../scenarios/one-area-for-two-nodes.drill"),
+    ),
     (
         "a-stalled-peer-passed-over",
         include_str!("../scenarios/a-stalled-peer-passed-over.drill"),

@@ -2,7 +2,7 @@
 
 use crate::scenario::{show_type, Names};
 use crate::sending::{SendFate, Sending, Sent};
-use request_keeper::Mode;
+use request_keeper::{Forecast, Mode, Refusal};
 
 /// A number with its thousands parted: 10,000.
 pub fn grouped(number: impl Into<u64>) -> String {
@@ -40,4 +40,19 @@ pub fn sending(sending: &Sending, names: &Names) -> String {
         SendFate::Dropped => " -- dropped: a send of its batch had failed",
     };
     format!("to {}: {what}{fate}", names.show_peer(sending.to))
+}
+
+/// What was foretold of a step, in the words of `expect forecast`.
+pub fn forecast(forecast: &Result<Forecast, Refusal>) -> String {
+    match forecast {
+        Ok(forecast) => format!(
+            "finished, outcome {:?}, pending {}, evicted {}, commands {}, bytes {}",
+            forecast.outcome,
+            grouped(forecast.pending),
+            grouped(forecast.evicted),
+            grouped(forecast.commands),
+            grouped(forecast.command_bytes)
+        ),
+        Err(refusal) => refusal.to_string(),
+    }
 }

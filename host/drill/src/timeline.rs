@@ -4,7 +4,7 @@ use crate::fate_words::{words, Told};
 use crate::fates::{Became, Fate};
 use crate::play::{Item, Moment, Played};
 use crate::scenario::show_type;
-use crate::text::{grouped, mode_word, sending};
+use crate::text::{forecast, grouped, mode_word, sending};
 use request_keeper::{Id, PendingRequest};
 
 /// Lines are broken at blanks to stay within this.
@@ -18,7 +18,19 @@ const PLACE: usize = 13;
 
 /// The whole timeline.
 pub fn timeline(played: &Played) -> String {
-    let mut text = Text::default();
+    whole(played, Text::default())
+}
+
+/// The whole timeline, and in each step what was foretold of it.
+pub fn with_forecasts(played: &Played) -> String {
+    let text = Text {
+        forecasts: true,
+        ..Text::default()
+    };
+    whole(played, text)
+}
+
+fn whole(played: &Played, mut text: Text) -> String {
     text.head(played);
     for item in &played.items {
         match item {
@@ -81,6 +93,8 @@ fn counted(count: usize, what: &str) -> String {
 #[derive(Default)]
 struct Text {
     lines: Vec<String>,
+    /// Whether forecasts are shown.
+    forecasts: bool,
     /// Whether the last lines were remarks or changes.
     aside: bool,
 }
@@ -154,6 +168,9 @@ impl Text {
         let place = place(moment, played);
         self.lines
             .push(format!("{step:<OUTCOME$} {outcome:<PLACE$} {place}"));
+        if self.forecasts {
+            self.entry("forecast", &forecast(&moment.forecast));
+        }
         if let Err(refusal) = &moment.result {
             self.entry("refused", &format!("{refusal}; nothing has changed"));
             for (label, why) in &moment.reasons {

@@ -1,10 +1,10 @@
 //! Whether what was expected of a step is what it came to.
 
 use crate::play::Moment;
-use crate::scenario::{show_type, Expectation, Line, Names, Record, SentWhat};
+use crate::scenario::{show_type, Expectation, Figures, Foretold, Line, Names, Record, SentWhat};
 use crate::sending::{SendFate, Sending, Sent};
-use crate::text::{grouped, mode_word};
-use request_keeper::{Answer, Id, Peer, PendingRequest};
+use crate::text::{self, grouped, mode_word};
+use request_keeper::{Answer, Forecast, Id, Peer, PendingRequest, Refusal};
 
 /// An expectation, judged.
 #[derive(Debug, Clone, PartialEq, Eq)]
@@ -57,6 +57,7 @@ fn found_instead(expectation: &Expectation, moment: &Moment, names: &Names) -> O
     let after = &moment.after;
     match expectation {
         Expectation::Refused(number) => refused(*number, moment),
+        Expectation::Forecast(expected) => foretold(expected, &moment.forecast),
         Expectation::Outcome(outcome) => counted(moment, |answer| {
             unless(outcome, &answer.outcome, |found| format!("{found:?}"))
         }),
@@ -103,6 +104,26 @@ fn refused(number: u32, moment: &Moment) -> Option<String> {
         Ok(answer) => Some(format!("finished with {:?}", answer.outcome)),
         Err(refusal) => unless(&number, &refusal.number(), |_| refusal.to_string()),
     }
+}
+
+fn foretold(expected: &Foretold, found: &Result<Forecast, Refusal>) -> Option<String> {
+    let holds = match (expected, found) {
+        (Foretold::Refused(number), Err(refusal)) => *number == refusal.number(),
+        (Foretold::Finished(figures), Ok(found)) => as_foretold(figures, found),
+        _ => false,
+    };
+    (!holds).then(|| text::forecast(found))
+}
+
+fn as_foretold(expected: &Figures, found: &Forecast) -> bool {
+    let is = |expected: Option<u32>, found| expected.is_none_or(|expected| expected == found);
+    expected
+        .outcome
+        .is_none_or(|outcome| outcome == found.outcome)
+        && is(expected.pending, found.pending)
+        && is(expected.evicted, found.evicted)
+        && is(expected.commands, found.commands)
+        && is(expected.bytes, found.command_bytes)
 }
 
 /// What only a finished step has.
@@ -181,7 +202,7 @@ fn list_of(sendings: &[Sending], names: &Names) -> String {
     }
     let all: Vec<String> = sendings
         .iter()
-        .map(|sending| crate::text::sending(sending, names))
+        .map(|sending| text::sending(sending, names))
         .collect();
     all.join("; ")
 }

@@ -36,6 +36,18 @@ fn help_and_version_are_printed_where_asked() {
     );
 }
 
+#[test]
+fn forecasts_are_printed_where_asked() {
+    let forecast = "\n            forecast   finished, outcome Synced, pending 1, evicted 0, commands 1, bytes 48\n";
+    let plain = run(&["shut-gate"]);
+    assert!(plain.status.success() && !text(&plain.stdout).contains("forecast"));
+    let shown = run(&["--forecast", "shut-gate"]);
+    assert!(shown.status.success() && shown.stderr.is_empty());
+    assert!(text(&shown.stdout).contains(forecast), "{shown:?}");
+    let quiet = run(&["shut-gate", "--forecast", "--quiet"]);
+    assert_eq!(text(&quiet.stdout).lines().count(), 1, "{quiet:?}");
+}
+
 /// Each fault of the arguments has a line of its own, and the usage is not printed with it.
 #[test]
 fn faults_have_a_line_each() {

@@ -56,6 +56,22 @@ fn each_kind_is_met_or_not() {
         ("abandoned 0", "abandoned 1"),
         ("forgotten 0", "forgotten 1"),
         ("outcome continue", "refused 9"),
+        ("forecast finished", "forecast refused 9"),
+        (
+            "forecast finished outcome Continue",
+            "forecast finished outcome Stalled",
+        ),
+        ("forecast finished pending 1", "forecast finished pending 0"),
+        ("forecast finished evicted 0", "forecast finished evicted 1"),
+        (
+            "forecast finished commands 1",
+            "forecast finished commands 2",
+        ),
+        ("forecast finished bytes 48", "forecast finished bytes 16"),
+        (
+            "forecast finished outcome Continue pending 1 evicted 0 commands 1 bytes 48",
+            "forecast finished pending 1 bytes 47",
+        ),
     ];
     for (met, unmet) in pairs {
         assert!(with(met).as_expected(), "{met}");

@@ -101,6 +101,42 @@ fn each_malformed_line_is_named() {
             "`12` is not a refusal's number, 1 to 11",
         ),
         (
+            "expect forecast",
+            "`finished` or `refused NUMBER` was expected",
+        ),
+        (
+            "expect forecast rain",
+            "`rain` was not expected here, but `finished` or `refused NUMBER`",
+        ),
+        (
+            "expect forecast refused",
+            "a refusal's number, 1 to 11 was expected",
+        ),
+        (
+            "expect forecast refused 12",
+            "`12` is not a refusal's number, 1 to 11",
+        ),
+        (
+            "expect forecast refused 9 bytes 0",
+            "`bytes` was not expected: the line should end before it",
+        ),
+        (
+            "expect forecast finished sends 1",
+            "`sends` was not expected here, but outcome, pending, evicted, commands or bytes",
+        ),
+        (
+            "expect forecast finished outcome Fine",
+            "`Fine` is not an outcome (Continue, Synced",
+        ),
+        (
+            "expect forecast finished bytes",
+            "a number of bytes was expected",
+        ),
+        (
+            "expect forecast finished commands many",
+            "`many` is not a number of commands",
+        ),
+        (
             "expect request a colour red",
             "`colour` was not expected here, but peer, type",
         ),

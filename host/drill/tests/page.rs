@@ -1,38 +1,56 @@
-//! docs/DRILL.md: its example is a scenario, and is told as the page says; every word of the format stands there.
+//! docs/DRILL.md: its example is a scenario, and is told as the page says, with forecasts and without; every word of the
+//! format stands there.
 
-use drill::play::play;
+use drill::play::{play, Played};
 use drill::scenario::read;
 use drill::shipped::SCENARIOS;
 use drill::timeline;
 
 const PAGE: &str = include_str!("../../../docs/DRILL.md");
 
-/// The indented blocks of the section "An example".
-fn blocks() -> Vec<String> {
-    let (_, section) = PAGE.split_once("## An example").expect("the section");
+/// A section of the page.
+fn section(title: &str) -> &'static str {
+    let (_, section) = PAGE
+        .split_once(&format!("\n## {title}\n"))
+        .expect("the section");
     let (section, _) = section.split_once("\n## ").expect("a next section");
-    let mut blocks = Vec::new();
-    for part in section.split("It prints:") {
-        let lines = part
-            .lines()
-            .filter(|line| line.starts_with("    ") || line.is_empty());
-        let text: Vec<&str> = lines
-            .map(|line| line.strip_prefix("    ").unwrap_or(line))
-            .collect();
-        blocks.push(text.join("\n").trim().to_string());
-    }
-    blocks
+    section
+}
+
+/// The indented block of a part of the page.
+fn block(part: &str) -> String {
+    let lines = part
+        .lines()
+        .filter(|line| line.starts_with("    ") || line.is_empty());
+    let text: Vec<&str> = lines
+        .map(|line| line.strip_prefix("    ").unwrap_or(line))
+        .collect();
+    text.join("\n").trim().to_string()
+}
+
+/// The example as it is played, and what the page says that it prints.
+fn example() -> (Played, String) {
+    let (scenario, printed) = section("An example")
+        .split_once("It prints:")
+        .expect("two blocks");
+    let scenario = read(&block(scenario)).expect("well formed");
+    (play(&scenario).expect("opened"), block(printed))
 }
 
 #[test]
 fn the_example_is_told_as_the_page_says() {
-    let blocks = blocks();
-    let [scenario, expected] = blocks.as_slice() else {
-        panic!("{} blocks", blocks.len());
-    };
-    let played = play(&read(scenario).expect("well formed")).expect("opened");
+    let (played, expected) = example();
     let told = timeline::timeline(&played);
     assert!(told.trim() == expected, "it is told otherwise:\n{told}");
+}
+
+#[test]
+fn its_forecasts_are_told_as_the_page_says() {
+    let (played, _) = example();
+    let told = timeline::with_forecasts(&played);
+    let expected = block(section("The forecast"));
+    assert!(expected.contains("\n            forecast   "), "{expected}");
+    assert!(told.contains(&expected), "it is told otherwise:\n{told}");
 }
 
 #[test]

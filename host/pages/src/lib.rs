@@ -54,7 +54,7 @@ fn declared(text: &str) -> Vec<(String, HashSet<String>)> {
     let mut all: Vec<(String, HashSet<String>)> = Vec::new();
     let mut within = false;
     for line in text.lines() {
-        let mut parts = line.trim_start().split_whitespace();
+        let mut parts = line.split_whitespace();
         if line.starts_with(' ') {
             let name = |word: &&str| *word != "pub" && !word.starts_with("--");
             if let (true, Some((_, last))) = (within && line.contains(':'), all.last_mut()) {

@@ -10,6 +10,8 @@ pub enum Expectation {
     Outcome(Outcome),
     /// The refusal's number.
     Refused(u32),
+    /// Asked right before it, the step was foretold to come to this.
+    Forecast(Foretold),
     Mode(Mode),
     /// `None`: there is none.
     SyncPeer(Option<Peer>),
@@ -34,6 +36,26 @@ pub enum Expectation {
     Forgotten(u32),
 }
 
+/// What is to have been foretold of a step.
+#[derive(Debug, Clone, Copy, PartialEq, Eq)]
+pub enum Foretold {
+    /// The refusal's number.
+    Refused(u32),
+    Finished(Figures),
+}
+
+/// What is said of a step foretold to be finished; what is left open may be anything.
+#[derive(Debug, Clone, Copy, PartialEq, Eq, Default)]
+pub struct Figures {
+    pub outcome: Option<Outcome>,
+    pub pending: Option<u32>,
+    pub evicted: Option<u32>,
+    /// How many commands.
+    pub commands: Option<u32>,
+    /// Their bytes.
+    pub bytes: Option<u32>,
+}
+
 /// What is said of a request on order; what is left open may be anything.
 #[derive(Debug, Clone, Copy, PartialEq, Eq, Default)]
 pub struct Record {
@@ -52,8 +74,8 @@ pub enum SentWhat {
     SyncInfo,
 }
 
-const EXPECTATIONS: &str = "outcome, refused, mode, sync-peer, downloaded, known-tip, pending, request, evicted, stalled, \
-sent, nothing, sends, failed, dropped, retried, fresh, abandoned or forgotten";
+const EXPECTATIONS: &str = "outcome, refused, forecast, mode, sync-peer, downloaded, known-tip, pending, request, evicted, \
+stalled, sent, nothing, sends, failed, dropped, retried, fresh, abandoned or forgotten";
 
 const OUTCOMES: [(&str, Outcome); 6] = [
     ("Continue", Outcome::Continue),
@@ -90,8 +112,9 @@ impl Expectation {
     pub fn read(words: &mut Words<'_>, names: &Names) -> Result<Self, Fault> {
         let word = words.expect(EXPECTATIONS)?;
         let expectation = match word {
-            "outcome" => Self::Outcome(one_of(words, "an outcome", &OUTCOMES)?),
+            "outcome" => Self::Outcome(outcome(words)?),
             "refused" => Self::Refused(refusal(words)?),
+            "forecast" => Self::Forecast(foretold(words)?),
             "mode" => Self::Mode(one_of(words, "a mode", &MODES)?),
             "sync-peer" => Self::SyncPeer(sync_peer(words, names)?),
             "downloaded" => Self::Downloaded(words.number("a height")?),
@@ -125,11 +148,43 @@ impl Expectation {
     }
 }
 
+fn outcome(words: &mut Words<'_>) -> Result<Outcome, Fault> {
+    one_of(words, "an outcome", &OUTCOMES)
+}
+
 fn refusal(words: &mut Words<'_>) -> Result<u32, Fault> {
     match words.number("a refusal's number, 1 to 11")? {
         number @ 1..=11 => Ok(number),
         number => Err(words.fault(format!("`{number}` is not a refusal's number, 1 to 11"))),
     }
+}
+
+fn foretold(words: &mut Words<'_>) -> Result<Foretold, Fault> {
+    const FORMS: &str = "`finished` or `refused NUMBER`";
+    match words.expect(FORMS)? {
+        "finished" => Ok(Foretold::Finished(figures(words)?)),
+        "refused" => Ok(Foretold::Refused(refusal(words)?)),
+        word => Err(words.fault(format!("`{word}` was not expected here, but {FORMS}"))),
+    }
+}
+
+fn figures(words: &mut Words<'_>) -> Result<Figures, Fault> {
+    let mut figures = Figures::default();
+    while let Some(word) = words.word() {
+        match word {
+            "outcome" => figures.outcome = Some(outcome(words)?),
+            "pending" => figures.pending = Some(words.number("a number of requests")?),
+            "evicted" => figures.evicted = Some(words.number("a number of ids")?),
+            "commands" => figures.commands = Some(words.number("a number of commands")?),
+            "bytes" => figures.bytes = Some(words.number("a number of bytes")?),
+            _ => {
+                return Err(words.fault(format!(
+                    "`{word}` was not expected here, but outcome, pending, evicted, commands or bytes with its value"
+                )))
+            }
+        }
+    }
+    Ok(figures)
 }
 
 fn sync_peer(words: &mut Words<'_>, names: &Names) -> Result<Option<Peer>, Fault> {

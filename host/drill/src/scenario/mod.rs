@@ -9,7 +9,7 @@ mod wakes;
 mod words;
 
 pub use changes::{Change, Sections};
-pub use expectations::{Expectation, Record, SentWhat};
+pub use expectations::{Expectation, Figures, Foretold, Record, SentWhat};
 pub use names::{show_type, Names};
 pub use read::read;
 pub use wakes::{Info, Wake};
