@@ -1,6 +1,6 @@
 //! A keeper's two areas and a call on them, with what every call owes whatever it answers.
 
-use keeper_play::FILL;
+use keeper_play::{foretold, FILL};
 use keeper_reference::{image, PLAIN};
 use keeper_streams::Opening;
 use keeper_values::{Answer, Arguments, Keeper, State, COMMAND_BYTES, STATE_BYTES};
@@ -37,9 +37,14 @@ impl Areas {
         image::read(&PLAIN, &self.state).ok_or_else(|| "malformed state area".to_string())
     }
 
-    /// Runs a step. A refusal has to leave both areas as they were, a finished step the bytes after its commands.
+    /// Asks for a step's forecast and runs it: it has to show what was foretold. A refusal has to leave both areas as they
+    /// were, a finished step the bytes after its commands.
     pub fn step(&mut self, keeper: &dyn Keeper, arguments: &Arguments) -> Result<Answer, String> {
         let before = self.state.clone();
+        let forecast = keeper.forecast(&self.state, arguments);
+        if self.state != before {
+            return Err("a forecast changed the state area".to_string());
+        }
         let answer = keeper.step(&mut self.state, &mut self.commands, arguments);
         let length = answer.length as usize;
         if answer.number != 0 {
@@ -51,6 +56,7 @@ impl Areas {
             }
         }
         self.unwritten_beyond(length)?;
+        foretold(forecast, &answer, &self.commands[..length])?;
         Ok(answer)
     }
 

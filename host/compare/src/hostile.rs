@@ -1,7 +1,7 @@
 //! Damaged calls and random bytes: a keeper against the reference, byte for byte.
 
 use crate::report::Report;
-use keeper_play::{Player, FILL};
+use keeper_play::{foretold, lent_whole, Player, FILL};
 use keeper_reference::{image, Reference, PLAIN};
 use keeper_streams::damage::{damage, several, Damaged};
 use keeper_streams::noise::{self, noise};
@@ -19,6 +19,18 @@ fn run(keeper: &dyn Keeper, damaged: &Damaged, image: &[u8]) -> Left {
     let mut commands = vec![FILL; damaged.commands_length];
     let answer = keeper.step(&mut state, &mut commands, &damaged.arguments);
     (answer, state, commands)
+}
+
+/// The forecast of a call: the reference's, and what the step shows with a whole command area.
+fn forecast(keeper: &dyn Keeper, damaged: &Damaged, image: &[u8]) -> Result<(), String> {
+    let state = damaged.state(image);
+    let forecast = keeper.forecast(&state, &damaged.arguments);
+    let reference = Reference::plain().forecast(&state, &damaged.arguments);
+    if forecast != reference || state != damaged.state(image) {
+        return Err(format!("{forecast:?} against {reference:?}"));
+    }
+    let (answer, written) = lent_whole(keeper, &state, &damaged.arguments);
+    foretold(forecast, &answer, &written)
 }
 
 /// One call on both; what a refusal or a finished step owes is looked at besides.
@@ -41,6 +53,7 @@ pub fn compare(keeper: &dyn Keeper, damaged: &Damaged, image: &[u8]) -> Result<A
     {
         return Err(format!("refused as {}, and not only that", answer.number));
     }
+    forecast(keeper, damaged, image)?;
     for flag in [0, 1, 2, 255] {
         let ask = |keeper: &dyn Keeper| {
             let state = damaged.state(image);

@@ -1,11 +1,32 @@
 //! The proved core as a keeper, on the bytes of its boundary, to be held against oracle and reference.
 
-use keeper_values::{Answer, Arguments, Keeper, MapCall, Settings};
+use keeper_values::{Answer, Arguments, Forecast, Keeper, MapCall, Settings};
 use request_keeper::boundary;
 
 /// The entries of the static library.
 #[derive(Debug, Clone, Copy, Default)]
 pub struct Core;
+
+/// A step's arguments as the boundary takes them.
+fn call(arguments: &Arguments) -> boundary::Arguments<'_> {
+    boundary::Arguments {
+        kind: arguments.kind,
+        clock: arguments.clock,
+        gate: arguments.gate,
+        height: arguments.height,
+        peer: arguments.peer,
+        typeid: arguments.type_id,
+        fork: arguments.fork,
+        parsed: arguments.parsed,
+        hastip: arguments.has_tip,
+        tip: arguments.tip,
+        ids: &arguments.ids,
+        continuation: &arguments.continuation,
+        stored: &arguments.stored,
+        peers: &arguments.peers,
+        view: &arguments.view,
+    }
+}
 
 impl Keeper for Core {
     fn open(&self, state: &mut [u8], settings: Settings, clock: u64, height: u32) -> u32 {
@@ -21,24 +42,7 @@ impl Keeper for Core {
     }
 
     fn step(&self, state: &mut [u8], commands: &mut [u8], arguments: &Arguments) -> Answer {
-        let call = boundary::Arguments {
-            kind: arguments.kind,
-            clock: arguments.clock,
-            gate: arguments.gate,
-            height: arguments.height,
-            peer: arguments.peer,
-            typeid: arguments.type_id,
-            fork: arguments.fork,
-            parsed: arguments.parsed,
-            hastip: arguments.has_tip,
-            tip: arguments.tip,
-            ids: &arguments.ids,
-            continuation: &arguments.continuation,
-            stored: &arguments.stored,
-            peers: &arguments.peers,
-            view: &arguments.view,
-        };
-        let answer = boundary::step(state, commands, &call);
+        let answer = boundary::step(state, commands, &call(arguments));
         Answer {
             number: answer.number,
             outcome: answer.outcome,
@@ -49,6 +53,18 @@ impl Keeper for Core {
             pending: answer.pending,
             evicted: answer.evicted,
             length: answer.length,
+        }
+    }
+
+    fn forecast(&self, state: &[u8], arguments: &Arguments) -> Forecast {
+        let forecast = boundary::forecast(state, &call(arguments));
+        Forecast {
+            number: forecast.number,
+            outcome: forecast.outcome,
+            pending: forecast.pending,
+            evicted: forecast.evicted,
+            commands: forecast.commands,
+            length: forecast.length,
         }
     }
 

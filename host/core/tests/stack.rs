@@ -1,4 +1,5 @@
-//! A call stays within 360 KiB of stack: on a thread that has no more, full windows and the directed streams are played.
+//! A call stays within 360 KiB of stack, a forecast as well as the step that it foretells: on a thread that has no more, full
+//! windows and the directed streams are played.
 
 use keeper_core::Core;
 use keeper_reference::image;
@@ -16,7 +17,9 @@ const BESIDE: usize = 8 << 10;
 
 fn run(state: &mut [u8], call: &Call) {
     let mut commands = vec![0; COMMAND_BYTES];
-    Core.step(state, &mut commands, &call.to_arguments());
+    let arguments = call.to_arguments();
+    Core.forecast(state, &arguments);
+    Core.step(state, &mut commands, &arguments);
     for flag in [0, 1] {
         Core.question(state, &mut commands, flag);
     }

@@ -1,10 +1,10 @@
-//! The typed crate against the reference on random streams: the same answers, commands and bytes of state.
+//! The typed crate against the reference on random streams: the same forecasts, answers, commands and bytes of state.
 
 use keeper_reference::{image, Reference, PLAIN};
 use keeper_streams::random::Random;
 use keeper_streams::Opening;
 use keeper_values::numbers::kinds;
-use keeper_values::{Answer, Call, Keeper, Mode, Row, COMMAND_BYTES};
+use keeper_values::{Answer, Call, Forecast, Keeper, Mode, Row, COMMAND_BYTES};
 use request_keeper::{
     ModifierType, Peer, Question, Refusal, RequestKeeper, Section, Settings, Step, StoredPairs,
     Surroundings, SyncInfo, View,
@@ -104,7 +104,9 @@ fn view(call: &Call) -> Result<View, Refusal> {
 /// One call on both sides.
 fn compare(keeper: &mut RequestKeeper, state: &mut Vec<u8>, step: Step<'_>, call: &Call) {
     let mut commands = vec![0; COMMAND_BYTES];
-    let expected = Reference::plain().step(state, &mut commands, &call.to_arguments());
+    let arguments = call.to_arguments();
+    let foretold = Reference::plain().forecast(state, &arguments);
+    let expected = Reference::plain().step(state, &mut commands, &arguments);
     let pairs = call
         .stored
         .iter()
@@ -118,6 +120,18 @@ fn compare(keeper: &mut RequestKeeper, state: &mut Vec<u8>, step: Step<'_>, call
         stored: &pairs.collect::<StoredPairs>(),
         view: &view(call).expect("rows that can be said"),
     };
+    let forecast = match keeper.forecast(step, &now) {
+        Err(refusal) => Forecast::refused(refusal.number()),
+        Ok(forecast) => Forecast {
+            number: 0,
+            outcome: forecast.outcome.number(),
+            pending: forecast.pending,
+            evicted: forecast.evicted,
+            commands: forecast.commands,
+            length: forecast.command_bytes,
+        },
+    };
+    assert_eq!(forecast, foretold, "{step:?}");
     let answer = match keeper.step(step, &now) {
         Err(refusal) => Answer::refused(refusal.number()),
         Ok(finished) => {

@@ -11,9 +11,9 @@ use std::collections::BTreeSet;
 /// Numbers that a pupil can meet. The other refusals are given for malformed areas, lists and views.
 const MET: [u32; 7] = [0, 4, 5, 6, 9, 10, 11];
 
-/// Whether only bytes, a state or a map show the fault that no pupil's keeper meets.
+/// Whether only bytes, a state, a map or a forecast show the fault that no pupil's keeper meets.
 fn not_asked(variant: &Variant) -> bool {
-    const PLACES: [&str; 8] = [
+    const PLACES: [&str; 9] = [
         "refusal 1",
         "refusal 2",
         "refusal 3",
@@ -22,6 +22,7 @@ fn not_asked(variant: &Variant) -> bool {
         "refusal 8",
         "order of refusals",
         keeper_variants::MAP,
+        keeper_variants::FORECAST,
     ];
     const FLAGS: [&str; 2] = [
         "flags of a sync info are looked at in a sync info only",

@@ -3,7 +3,7 @@
 use keeper_reference::{image, map, PLAIN};
 use keeper_streams::damage::Damaged;
 use keeper_streams::text::Line;
-use keeper_values::{read_commands, Answer, Arguments, Keeper, MapCall, Settings, State};
+use keeper_values::{read_commands, Answer, Arguments, Forecast, Keeper, MapCall, Settings, State};
 use keeper_values::{COMMAND_BYTES, MAP_BYTES, STATE_BYTES};
 use std::panic::{catch_unwind, set_hook, take_hook, AssertUnwindSafe};
 
@@ -25,6 +25,27 @@ pub fn read(text: &str) -> Result<Vec<Line>, usize> {
     meant
         .map(|(index, line)| Line::read(line).ok_or(index + 1))
         .collect()
+}
+
+/// Whether a forecast was right: by what it answered and wrote, the step has shown the same.
+pub fn foretold(forecast: Forecast, answer: &Answer, written: &[u8]) -> Result<(), String> {
+    let commands = read_commands(written).ok_or("the commands end within one")?;
+    let shown = Forecast::of(answer, commands.len() as u32);
+    if forecast == shown {
+        return Ok(());
+    }
+    Err(format!(
+        "forecast {forecast:?}, and the step shows {shown:?}"
+    ))
+}
+
+/// What a step answers and writes with a whole command area, on a copy of the state.
+pub fn lent_whole(keeper: &dyn Keeper, state: &[u8], call: &Arguments) -> (Answer, Vec<u8>) {
+    let mut state = state.to_vec();
+    let mut commands = vec![FILL; COMMAND_BYTES];
+    let answer = keeper.step(&mut state, &mut commands, call);
+    commands.truncate(answer.length as usize);
+    (answer, commands)
 }
 
 fn state_line(mut state: State) -> Line {
@@ -123,11 +144,22 @@ impl<'k> Player<'k> {
     fn step(&mut self, call: &Arguments) -> Result<Vec<Line>, String> {
         let (mut area, mut commands) = self.lent(call);
         let before = area.clone();
+        let forecast = self.keeper.forecast(&area, call);
+        if area != before {
+            return Err("a forecast changed the state area".to_string());
+        }
         let answer = self.keeper.step(&mut area, &mut commands, call);
         let written = commands.get(..answer.length as usize).unwrap_or_default();
         let after = commands.get(answer.length as usize..).unwrap_or_default();
         if written.len() != answer.length as usize || after.iter().any(|byte| *byte != FILL) {
             return Err(format!("wrote beyond its {} command bytes", answer.length));
+        }
+        if commands.len() < COMMAND_BYTES {
+            // The forecast knows of no area that could be too short.
+            let (answer, written) = lent_whole(self.keeper, &before, call);
+            foretold(forecast, &answer, &written)?;
+        } else {
+            foretold(forecast, &answer, written)?;
         }
         let mut lines = vec![Line::answer(answer)];
         if answer.number != 0 {
@@ -299,6 +331,10 @@ mod tests {
 
         fn step(&self, state: &mut [u8], commands: &mut [u8], arguments: &Arguments) -> Answer {
             Reference::plain().step(state, commands, arguments)
+        }
+
+        fn forecast(&self, state: &[u8], arguments: &Arguments) -> Forecast {
+            Reference::plain().forecast(state, arguments)
         }
 
         fn question(&self, state: &[u8], commands: &mut [u8], flag: u8) -> (u32, u32) {

@@ -1,4 +1,4 @@
-//! The three entries on a core, with every refusal in its order (docs/LAYOUT.md, "Entries" and "Refusals").
+//! Opening, step and question on a core, with every refusal in its order (docs/LAYOUT.md, "Entries" and "Refusals").
 
 use crate::commands::Commands;
 use crate::inputs::Inputs;

@@ -1,4 +1,4 @@
-//! The reference: document 01, F-1 and F-2 of document 02 and docs/LAYOUT.md read as plain Rust on bytes. Small and
+//! The reference: document 01, F-1 to F-3 of document 02 and docs/LAYOUT.md read as plain Rust on bytes. Small and
 //! obvious rather than fast.
 //!
 //! In the oracle's domain it equals the original Rust; outside, on any bytes, it is what a core is held against. Every
@@ -23,6 +23,7 @@
 pub mod commands;
 pub mod delivery;
 pub mod entries;
+pub mod forecast;
 pub mod image;
 pub mod inputs;
 pub mod map;
@@ -31,7 +32,7 @@ pub mod run;
 pub mod steps;
 pub mod sync;
 
-use keeper_values::{Answer, Arguments, Keeper, MapCall, Settings};
+use keeper_values::{Answer, Arguments, Forecast, Keeper, MapCall, Settings};
 pub use rules::{Rules, PLAIN};
 pub use run::{Refusal, Run};
 
@@ -55,6 +56,10 @@ impl Keeper for Reference {
 
     fn step(&self, state: &mut [u8], commands: &mut [u8], arguments: &Arguments) -> Answer {
         entries::step(&self.rules, state, commands, arguments)
+    }
+
+    fn forecast(&self, state: &[u8], arguments: &Arguments) -> Forecast {
+        (self.rules.forecast)(&self.rules, state, arguments)
     }
 
     fn question(&self, state: &[u8], commands: &mut [u8], flag: u8) -> (u32, u32) {

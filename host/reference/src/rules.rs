@@ -1,4 +1,4 @@
-//! Every decision of the reference as a field. [`PLAIN`] is document 01 with F-1 and F-2; a variant is
+//! Every decision of the reference as a field. [`PLAIN`] is document 01 with F-1 to F-3; a variant is
 //! `Rules { one: .., ..PLAIN }`.
 
 use crate::delivery::{Check, Retry};
@@ -6,9 +6,9 @@ use crate::entries::Before;
 use crate::map::{Cell, Map, Mapped};
 use crate::steps::Outcome;
 use crate::sync::Stored;
-use crate::{delivery, entries, image, inputs, map, steps, sync, Refusal, Run};
+use crate::{delivery, entries, forecast, image, inputs, map, steps, sync, Refusal, Run};
 use keeper_values::numbers::limits;
-use keeper_values::{Arguments, Id, Mode, Row, Settings, State};
+use keeper_values::{Arguments, Forecast, Id, Mode, Row, Settings, State};
 use std::collections::{BTreeMap, BTreeSet};
 use std::ops::RangeInclusive;
 
@@ -70,6 +70,10 @@ rules! {
         arguments_fit: fn(&Rules, &State, &Arguments) -> Result<(), Refusal>,
         result_fits: fn(&Before, &State) -> Result<(), Refusal>,
         pairs: fn(&State, u8) -> BTreeSet<(u8, Id)>,
+    }
+    forecast {
+        count_commands: fn(&[u8]) -> u32,
+        forecast: fn(&Rules, &[u8], &Arguments) -> Forecast,
     }
     delivery {
         expired: fn(&Settings, u64, u64) -> bool,

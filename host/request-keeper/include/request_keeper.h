@@ -1,11 +1,11 @@
-/* The request keeper's eight entries for a host in C. Every byte and number is in docs/LAYOUT.md.
+/* The request keeper's nine entries for a host in C. Every byte and number is in docs/LAYOUT.md.
  *
  * Link target/staticlib/librequest_keeper.a, which `rt staticlib request_keeper` writes.
  *
  * A list is a pointer and then its length in bytes. Any number and any bytes are answered. Of its pointers a caller
  * owes what C can't say otherwise: none is null, also where the length is 0; all the bytes of its length are there; the
  * areas that a call writes overlap nothing else that it is given; and nobody else writes to any of them meanwhile.
- * A step uses up to 350 KiB of stack.
+ * A step or a forecast uses up to 350 KiB of stack.
  */
 #ifndef REQUEST_KEEPER_H
 #define REQUEST_KEEPER_H
@@ -67,6 +67,16 @@ struct request_keeper_answer {
     uint32_t length;    /* bytes of commands from the start of the command area */
 };
 
+/* A forecast: what the step would answer, lent 65,536 command bytes. number: 0, or the refusal, with all else 0. */
+struct request_keeper_foretold {
+    uint32_t number;
+    uint32_t outcome;
+    uint32_t pending;   /* after the step */
+    uint32_t evicted;   /* after the step */
+    uint32_t commands;  /* how many commands */
+    uint32_t length;    /* their bytes */
+};
+
 /* A question's answer: its number, and the bytes of pairs from the start of the command area. */
 struct request_keeper_pairs {
     uint32_t number;
@@ -102,6 +112,25 @@ struct request_keeper_answer request_keeper_step(
     uint32_t fork,       /* fork point of a reorg */
     uint8_t parsed,      /* 1: the sync info could be parsed */
     uint8_t hastip,      /* 1: it has a tip */
+    uint32_t tip,
+    const uint8_t *ids, size_t ids_length,
+    const uint8_t *continuation, size_t continuation_length,
+    const uint8_t *stored, size_t stored_length,
+    const uint8_t *peers, size_t peers_length,
+    const uint8_t *view, size_t view_length);
+
+/* What a step would answer, given all of its arguments but the command area. Nothing is written, and 3 is no answer. */
+struct request_keeper_foretold request_keeper_forecast(
+    const uint8_t *state, size_t state_length,
+    uint8_t kind,
+    uint64_t clock,
+    uint8_t gate,
+    uint32_t height,
+    uint64_t peer,
+    uint8_t typeid_,
+    uint32_t fork,
+    uint8_t parsed,
+    uint8_t hastip,
     uint32_t tip,
     const uint8_t *ids, size_t ids_length,
     const uint8_t *continuation, size_t continuation_length,

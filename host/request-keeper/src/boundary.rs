@@ -1,4 +1,4 @@
-//! The eight entries of the static library on bytes (docs/LAYOUT.md, "Entries"): three of the core, five of the map of the
+//! The nine entries of the static library on bytes (docs/LAYOUT.md, "Entries"): four of the core, five of the map of the
 //! window. The only module with unsafe code, and the only place where the boundary is declared in Rust;
 //! `include/request_keeper.h` declares it in C.
 //!
@@ -7,7 +7,52 @@
 //! that hold bytes of their own, or bad ones.
 
 mod exported {
-    use super::{MapAnswer, QuestionAnswer, StepAnswer};
+    use super::{Forecast, MapAnswer, QuestionAnswer, StepAnswer};
+
+    /// Declares entries that are given a step's arguments behind their areas.
+    macro_rules! given_a_step {
+        ($($entry:ident($($area:ident: $type:ty,)+) -> $answer:ty;)+) => {
+            extern "C" {
+                $(pub fn $entry(
+                    $($area: $type,)+
+                    kind: u8,
+                    clock: u64,
+                    gate: u8,
+                    height: u32,
+                    peer: u64,
+                    typeid: u8,
+                    fork: u32,
+                    parsed: u8,
+                    hastip: u8,
+                    tip: u32,
+                    ids: *const u8,
+                    ids_length: usize,
+                    continuation: *const u8,
+                    continuation_length: usize,
+                    stored: *const u8,
+                    stored_length: usize,
+                    peers: *const u8,
+                    peers_length: usize,
+                    view: *const u8,
+                    view_length: usize,
+                ) -> $answer;)+
+            }
+        };
+    }
+
+    given_a_step! {
+        request_keeper_step(
+            state: *mut u8,
+            state_length: usize,
+            commands: *mut u8,
+            commands_length: usize,
+        ) -> StepAnswer;
+
+        request_keeper_forecast(
+            state: *const u8,
+            state_length: usize,
+        ) -> Forecast;
+    }
 
     extern "C" {
         pub fn request_keeper_open(
@@ -20,33 +65,6 @@ mod exported {
             clock: u64,
             height: u32,
         ) -> u32;
-
-        pub fn request_keeper_step(
-            state: *mut u8,
-            state_length: usize,
-            commands: *mut u8,
-            commands_length: usize,
-            kind: u8,
-            clock: u64,
-            gate: u8,
-            height: u32,
-            peer: u64,
-            typeid: u8,
-            fork: u32,
-            parsed: u8,
-            hastip: u8,
-            tip: u32,
-            ids: *const u8,
-            ids_length: usize,
-            continuation: *const u8,
-            continuation_length: usize,
-            stored: *const u8,
-            stored_length: usize,
-            peers: *const u8,
-            peers_length: usize,
-            view: *const u8,
-            view_length: usize,
-        ) -> StepAnswer;
 
         pub fn request_keeper_question(
             state: *const u8,
@@ -126,6 +144,18 @@ pub struct StepAnswer {
     pub length: u32,
 }
 
+/// The six numbers of a forecast.
+#[repr(C)]
+#[derive(Debug, Clone, Copy, PartialEq, Eq, Default)]
+pub struct Forecast {
+    pub number: u32,
+    pub outcome: u32,
+    pub pending: u32,
+    pub evicted: u32,
+    pub commands: u32,
+    pub length: u32,
+}
+
 /// The two numbers of a question.
 #[repr(C)]
 #[derive(Debug, Clone, Copy, PartialEq, Eq, Default)]
@@ -167,38 +197,57 @@ pub fn open(
     }
 }
 
+/// Calls an entry with its areas and, behind them, a step's arguments: each list as its pointer and its length.
+macro_rules! handed_over {
+    ($entry:ident($($area:expr),+), $call:expr) => {
+        exported::$entry(
+            $($area,)+
+            $call.kind,
+            $call.clock,
+            $call.gate,
+            $call.height,
+            $call.peer,
+            $call.typeid,
+            $call.fork,
+            $call.parsed,
+            $call.hastip,
+            $call.tip,
+            $call.ids.as_ptr(),
+            $call.ids.len(),
+            $call.continuation.as_ptr(),
+            $call.continuation.len(),
+            $call.stored.as_ptr(),
+            $call.stored.len(),
+            $call.peers.as_ptr(),
+            $call.peers.len(),
+            $call.view.as_ptr(),
+            $call.view.len(),
+        )
+    };
+}
+
 /// Runs a step.
 pub fn step(state: &mut [u8], commands: &mut [u8], call: &Arguments<'_>) -> StepAnswer {
     // SAFETY: each pointer stands before the length of its own whole slice. The two that are written are borrowed
     // alone, so that none of the seven overlaps them. No number is out of bounds.
     unsafe {
-        exported::request_keeper_step(
-            state.as_mut_ptr(),
-            state.len(),
-            commands.as_mut_ptr(),
-            commands.len(),
-            call.kind,
-            call.clock,
-            call.gate,
-            call.height,
-            call.peer,
-            call.typeid,
-            call.fork,
-            call.parsed,
-            call.hastip,
-            call.tip,
-            call.ids.as_ptr(),
-            call.ids.len(),
-            call.continuation.as_ptr(),
-            call.continuation.len(),
-            call.stored.as_ptr(),
-            call.stored.len(),
-            call.peers.as_ptr(),
-            call.peers.len(),
-            call.view.as_ptr(),
-            call.view.len(),
+        handed_over!(
+            request_keeper_step(
+                state.as_mut_ptr(),
+                state.len(),
+                commands.as_mut_ptr(),
+                commands.len()
+            ),
+            call
         )
     }
+}
+
+/// Asks what a step would answer and write, with a command area of 65,536 bytes.
+pub fn forecast(state: &[u8], call: &Arguments<'_>) -> Forecast {
+    // SAFETY: each pointer stands before the length of its own whole slice; all six are only read. No number is out of
+    // bounds.
+    unsafe { handed_over!(request_keeper_forecast(state.as_ptr(), state.len()), call) }
 }
 
 /// Asks which stored pairs a check (flag 0) or a lost peer (flag 1) may read.

@@ -1,7 +1,9 @@
 use crate::boundary;
 use crate::refusal::numbered;
 use crate::surroundings::Pairs;
-use crate::{Answer, Finished, Mode, Outcome, Peer, Refusal, Settings, Step, Surroundings};
+use crate::{
+    Answer, Finished, Forecast, Mode, Outcome, Peer, Refusal, Settings, Step, Surroundings,
+};
 use std::fmt::{self, Debug, Display, Formatter};
 
 /// Bytes of a stored keeper.
@@ -83,16 +85,8 @@ impl RequestKeeper {
         now: &Surroundings<'_>,
     ) -> Result<Finished<'_>, Refusal> {
         self.peers.clear();
-        for peer in now.peers {
-            self.peers.extend_from_slice(&peer.0.to_be_bytes());
-        }
-        let mut call = step.arguments();
-        call.clock = now.clock;
-        call.gate = u8::from(now.gate_open);
-        call.height = now.chain_height;
-        call.stored = now.stored.as_bytes();
-        call.peers = &self.peers;
-        call.view = now.view.as_bytes();
+        list_peers(&mut self.peers, now.peers);
+        let call = arguments(step, now, &self.peers);
         let answer = boundary::step(&mut self.state, &mut self.commands, &call);
         numbered(answer.number)?;
         let length = answer.length;
@@ -113,6 +107,43 @@ impl RequestKeeper {
         ))
     }
 
+    /// What [`step`](Self::step) would answer, without taking it: the outcome, the counts afterwards, and how many commands
+    /// it would write, with their bytes. A refusal is the step's. Changes nothing.
+    ///
+    /// ```
+    /// use request_keeper::{Outcome, Peer, Refusal, RequestKeeper, Settings, Step, Surroundings};
+    ///
+    /// let mut keeper = RequestKeeper::open(Settings::default(), 1_000, 400)?;
+    /// let now = Surroundings { peers: &[Peer(4)], ..Surroundings::at(2_000) };
+    /// assert_eq!(keeper.forecast(Step::Pick, &now), Err(Refusal::WrongStep));
+    /// let _ = keeper.step(Step::Start, &now)?;
+    ///
+    /// // A pick would send one sync info, of 16 bytes.
+    /// let forecast = keeper.forecast(Step::Pick, &now)?;
+    /// assert_eq!((forecast.outcome, forecast.pending), (Outcome::Continue, 0));
+    /// assert_eq!((forecast.commands, forecast.command_bytes), (1, 16));
+    ///
+    /// // The step then shows the same.
+    /// let picked = keeper.step(Step::Pick, &now)?;
+    /// assert_eq!((picked.answer.outcome, picked.answer.pending), (Outcome::Continue, 0));
+    /// assert_eq!(picked.commands().count(), 1);
+    /// assert_eq!(picked.commands().as_bytes().len(), 16);
+    /// # Ok::<(), Refusal>(())
+    /// ```
+    pub fn forecast(&self, step: Step<'_>, now: &Surroundings<'_>) -> Result<Forecast, Refusal> {
+        let mut peers = Vec::new();
+        list_peers(&mut peers, now.peers);
+        let forecast = boundary::forecast(&self.state, &arguments(step, now, &peers));
+        numbered(forecast.number)?;
+        Ok(Forecast {
+            outcome: Outcome::of(forecast.outcome),
+            pending: forecast.pending,
+            evicted: forecast.evicted,
+            commands: forecast.commands,
+            command_bytes: forecast.length,
+        })
+    }
+
     /// The pairs that the next check or lost peer may read, so that the node need ask its store for no others. Changes
     /// nothing.
     pub fn question(&mut self, question: Question) -> Result<Pairs<'_>, Refusal> {
@@ -123,6 +154,30 @@ impl RequestKeeper {
         let answer = boundary::question(&self.state, &mut self.commands, flag);
         numbered(answer.number)?;
         Ok(Pairs::read(written(&self.commands, answer.length)))
+    }
+}
+
+/// Writes the bytes of a peer list.
+fn list_peers(bytes: &mut Vec<u8>, peers: &[Peer]) {
+    for peer in peers {
+        bytes.extend_from_slice(&peer.0.to_be_bytes());
+    }
+}
+
+/// A step's arguments, of its own and of its surroundings.
+fn arguments<'a>(
+    step: Step<'a>,
+    now: &Surroundings<'a>,
+    peers: &'a [u8],
+) -> boundary::Arguments<'a> {
+    boundary::Arguments {
+        clock: now.clock,
+        gate: u8::from(now.gate_open),
+        height: now.chain_height,
+        stored: now.stored.as_bytes(),
+        peers,
+        view: now.view.as_bytes(),
+        ..step.arguments()
     }
 }
 

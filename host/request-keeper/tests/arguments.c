@@ -100,7 +100,18 @@ struct call {
     struct list ids, continuation, stored, peers, view;
 };
 
+static void forecast(struct call c) {
+    struct request_keeper_foretold f = request_keeper_forecast(
+        state, sizeof state, c.kind, BASE + c.after, c.gate, c.height, c.peer, c.type, c.fork, c.parsed, c.hastip, c.tip,
+        c.ids.bytes, c.ids.length, c.continuation.bytes, c.continuation.length, c.stored.bytes, c.stored.length,
+        c.peers.bytes, c.peers.length, c.view.bytes, c.view.length);
+    printf("forecast [%" PRIu32 ", %" PRIu32 ", %" PRIu32 ", %" PRIu32 ", %" PRIu32 ", %" PRIu32 "]\n",
+           f.number, f.outcome, f.pending, f.evicted, f.commands, f.length);
+    print_state();
+}
+
 static void step(struct call c) {
+    forecast(c);
     struct request_keeper_answer a = request_keeper_step(
         state, sizeof state, commands, sizeof commands, c.kind, BASE + c.after, c.gate, c.height, c.peer, c.type, c.fork,
         c.parsed, c.hastip, c.tip, c.ids.bytes, c.ids.length, c.continuation.bytes, c.continuation.length,

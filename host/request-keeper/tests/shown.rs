@@ -1,9 +1,9 @@
 //! Every public value can be shown: its ids in hexadecimal digits, and in a few words for a log.
 
 use request_keeper::{
-    Answer, Command, Hex, Id, Message, Mode, ModifierType, Outcome, Peer, PendingRequest, Question,
-    Refusal, RequestKeeper, Section, Sends, Settings, Step, StoredPairs, Surroundings, SyncInfo,
-    View, WindowMap,
+    Answer, Command, Forecast, Hex, Id, Message, Mode, ModifierType, Outcome, Peer, PendingRequest,
+    Question, Refusal, RequestKeeper, Section, Sends, Settings, Step, StoredPairs, Surroundings,
+    SyncInfo, View, WindowMap,
 };
 use std::fmt::Debug;
 
@@ -125,6 +125,13 @@ fn in_a_few_words() {
         pending: 5,
         evicted: 6,
     };
+    let forecast = Forecast {
+        outcome: Outcome::Synced,
+        pending: 1,
+        evicted: 2,
+        commands: 3,
+        command_bytes: 4,
+    };
     let sends = Sends {
         sent: 1,
         failed: 2,
@@ -175,6 +182,10 @@ fn in_a_few_words() {
             answer.to_string(),
             "Continue; retried 1, fresh 2, abandoned 3, forgotten 4; pending 5, evicted 6"
                 .to_string(),
+        ),
+        (
+            forecast.to_string(),
+            "Synced; pending 1, evicted 2; commands 3, bytes 4".to_string(),
         ),
         (
             sends.to_string(),

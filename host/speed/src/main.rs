@@ -11,6 +11,7 @@ mod bound;
 mod case;
 mod cases;
 mod data;
+mod forecast;
 mod growth;
 mod hostile;
 mod ids;
@@ -60,6 +61,7 @@ fn show_all(areas: &mut Areas) -> Vec<String> {
         over.extend(shown(title, columns, cases, areas));
     }
     over.extend(map::show(areas));
+    over.extend(forecast::show(areas));
     over.extend(growth::show(areas));
     over.extend(hostile::show(areas));
     over

@@ -80,12 +80,49 @@ impl Answer {
     }
 }
 
-/// The entries on areas of any length and content: three of a core, and those of F-1's map. The reference, its faulty
+/// What a step would answer and write, with 65,536 command bytes (F-3).
+#[derive(Debug, Clone, Copy, PartialEq, Eq, Default)]
+pub struct Forecast {
+    pub number: u32,
+    pub outcome: u32,
+    pub pending: u32,
+    pub evicted: u32,
+    /// How many commands.
+    pub commands: u32,
+    /// Their bytes.
+    pub length: u32,
+}
+
+impl Forecast {
+    /// What a step has shown that answered this and wrote so many commands.
+    pub fn of(answer: &Answer, commands: u32) -> Self {
+        Self {
+            number: answer.number,
+            outcome: answer.outcome,
+            pending: answer.pending,
+            evicted: answer.evicted,
+            commands,
+            length: answer.length,
+        }
+    }
+
+    pub fn refused(number: u32) -> Self {
+        Self {
+            number,
+            ..Self::default()
+        }
+    }
+}
+
+/// The entries on areas of any length and content: four of a core, and those of F-1's map. The reference, its faulty
 /// variants and any core that is to be held against them are keepers.
 pub trait Keeper {
     fn open(&self, state: &mut [u8], settings: Settings, clock: u64, height: u32) -> u32;
 
     fn step(&self, state: &mut [u8], commands: &mut [u8], arguments: &Arguments) -> Answer;
+
+    /// What the step would show.
+    fn forecast(&self, state: &[u8], arguments: &Arguments) -> Forecast;
 
     /// The number and the length.
     fn question(&self, state: &[u8], commands: &mut [u8], flag: u8) -> (u32, u32);

@@ -8,7 +8,7 @@ mod map;
 pub mod numbers;
 mod state;
 
-pub use arguments::{Answer, Arguments, Keeper, COMMAND_BYTES, STATE_BYTES};
+pub use arguments::{Answer, Arguments, Forecast, Keeper, COMMAND_BYTES, STATE_BYTES};
 pub use call::{Call, Place, Row, View};
 pub use command::{read_commands, Command};
 pub use map::{MapCall, MAP_BYTES};

@@ -5,6 +5,7 @@ mod calls;
 mod checks;
 mod control;
 mod delivery;
+mod forecasts;
 mod heights;
 mod losses;
 mod maps;
@@ -22,6 +23,9 @@ pub const MAP: &str = "F-1";
 
 /// The place of those that choose a retry's target among stalled peers.
 pub const TARGETS: &str = "F-2";
+
+/// The place of the forecast's variants.
+pub const FORECAST: &str = "F-3";
 
 /// A keeper with one fault.
 #[derive(Clone, Copy)]
@@ -57,6 +61,7 @@ pub fn all() -> Vec<Variant> {
         results::variants(),
         maps::variants(),
         targets::variants(),
+        forecasts::variants(),
     ]
     .concat()
 }

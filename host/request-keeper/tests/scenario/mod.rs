@@ -75,16 +75,36 @@ impl Scenario {
         writeln!(self.transcript, "state {hash:016x}").expect("a string takes all");
     }
 
-    /// A step, noted in the transcript.
+    /// The forecast of a step, noted in the transcript.
+    fn forecast(&mut self, step: Step<'_>, now: &Surroundings<'_>) -> [u32; 6] {
+        let numbers = match self.keeper.forecast(step, now) {
+            Ok(forecast) => [
+                0,
+                forecast.outcome.number(),
+                forecast.pending,
+                forecast.evicted,
+                forecast.commands,
+                forecast.command_bytes,
+            ],
+            Err(refusal) => [refusal.number(), 0, 0, 0, 0, 0],
+        };
+        writeln!(self.transcript, "forecast {numbers:?}").expect("a string takes all");
+        self.state();
+        numbers
+    }
+
+    /// A step and its forecast, noted in the transcript. The figures of both are the same.
     pub fn step(
         &mut self,
         step: Step<'_>,
         now: Surroundings<'_>,
     ) -> Result<(Answer, Vec<u8>), Refusal> {
-        let finished = self
-            .keeper
-            .step(step, &now)
-            .map(|finished| (finished.answer, finished.commands().as_bytes().to_vec()));
+        let forecast = self.forecast(step, &now);
+        let mut count = 0;
+        let finished = self.keeper.step(step, &now).map(|finished| {
+            count = finished.commands().count() as u32;
+            (finished.answer, finished.commands().as_bytes().to_vec())
+        });
         let numbers = match &finished {
             Ok((answer, commands)) => [
                 0,
@@ -99,6 +119,9 @@ impl Scenario {
             ],
             Err(refusal) => [refusal.number(), 0, 0, 0, 0, 0, 0, 0, 0],
         };
+        let [number, outcome, .., pending, evicted, length] = numbers;
+        let shown = [number, outcome, pending, evicted, count, length];
+        assert_eq!(forecast, shown, "{step:?}");
         writeln!(self.transcript, "{numbers:?}").expect("a string takes all");
         let commands = finished.as_ref().map(|(_, commands)| commands.as_slice());
         hex(&mut self.transcript, commands.unwrap_or_default());
