@@ -6,6 +6,7 @@ use native.Mathlib.Nat.{add-zero, zero-add, add-mul, mul-assoc, pow-succ', pow-l
 use native.Mathlib.Numerals.{add-one}
 use native.Mathlib.Omega.{arith}
 use lib.ListN.{length, take, drop, getD, length-append, length-drop, drop-of-length-le}
+use lib.Bits.{bitAnd, and-mask, mask-lt}
 use lib.Seq.{drop-cons, drop-drop, take-add, length-take-le, getD-take, getD-drop}
 use Rattle.fields.specs.Facts.{Bytes}
 use Rattle.fields.specs.Number.{fromBe, fromBeAfter, toBe, toLe}
@@ -148,14 +149,25 @@ low-one s at b h l e =
     let m : b % 256 ≡ getD s at 0 = omega arith in
     rw (drop-cons s at 0 h, m)
 
+-- the low byte as code takes it, by a mask; what it shifts out leaves n / 256 by computation
+abbrev pub lowByte : ℕ → ℕ
+lowByte n = bitAnd n 255
+
+pub low-byte : (n : ℕ) → lowByte n ≡ n % 256
+low-byte n = and-mask n 8
+
+pub low-byte-fits : (n : ℕ) → lowByte n < 256
+low-byte-fits n = mask-lt n 8
+
 -- one more byte of v: the low byte of what is left
 pub toLe-next : (width i v : ℕ) → i < width → toLe (width - i) v ≡ v % 256 ∷ toLe (width - (i + 1)) (v / 256)
 toLe-next width i v h =
     let e : width - i ≡ suc (width - (i + 1)) = omega arith in
     rw e
 
-pub turned-turn : (width i v high : ℕ) → i < width → fromBeAfter high (toLe (width - i) v) ≡ fromBeAfter (high * 256 + v % 256) (toLe (width - (i + 1)) (v / 256))
-turned-turn width i v high h = rw (toLe-next width i v h)
+pub turned-turn : (width i v high : ℕ) → i < width
+    → fromBeAfter high (toLe (width - i) v) ≡ fromBeAfter (high * 256 + lowByte v) (toLe (width - (i + 1)) (v / 256))
+turned-turn width i v high h = rw (toLe-next width i v h, low-byte v)
 
 pub turned-end : (width i v high : ℕ) → width ≤ i → fromBeAfter high (toLe (width - i) v) ≡ high
 turned-end width i v high h =

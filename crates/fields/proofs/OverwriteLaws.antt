@@ -9,7 +9,7 @@ use lib.ListN.{length, take, drop, getD, set, length-append, length-drop, take-a
 use lib.Seq.{take-append-le, drop-append-le, take-at, drop-at, getD-at, set-at, drop-drop, take-take, take-add, take-suc, drop-cons, length-take-le, getD-take, drop-append-add, take-nil, take-all, set-split}
 use Rattle.fields.specs.Number.{fromBe, toBe, toLe}
 use Rattle.fields.specs.Overwrite.{overwritten}
-use Rattle.fields.proofs.NumberLaws.{length-toBe, length-toLe, toLe-next, toLe-turned}
+use Rattle.fields.proofs.NumberLaws.{length-toBe, length-toLe, lowByte, low-byte, toLe-next, toLe-turned}
 
 pub overwritten-nil : (at : ℕ) (s : List ℕ) → overwritten at [] s ≡ s
 unfolding overwritten
@@ -147,12 +147,12 @@ module _ (s : List ℕ) (at width n j v : ℕ) (h : at + width ≤ length s) (l 
       sym (getD-take (suc j) (toBe width n) j 0 (omega arith)) ∙ ap (λ (bs : List ℕ). getD bs j 0) q
       ∙ getD-at (toBe j (v / 256)) (v % 256) [] 0 j (length-toBe j (v / 256))
 
-  pub write-turn : set (overwritten (at + suc j) (drop (suc j) (toBe width n)) s) (at + j) (v % 256) ≡ overwritten (at + j) (drop j (toBe width n)) s
+  pub write-turn : set (overwritten (at + suc j) (drop (suc j) (toBe width n)) s) (at + j) (lowByte v) ≡ overwritten (at + j) (drop j (toBe width n)) s
   write-turn =
       let m : j < length (toBe width n) = rw length-toBe l in
       let e : at + suc j ≡ suc (at + j) = omega arith in
       let g : suc (at + j) + length (drop (suc j) (toBe width n)) ≤ length s = simp (length-drop, length-toBe) (omega arith) in
-      rw (e, turn-down (at + j) (v % 256) (drop (suc j) (toBe width n)) s g, drop-cons (toBe width n) j 0 m, write-byte)
+      rw (low-byte v, e, turn-down (at + j) (v % 256) (drop (suc j) (toBe width n)) s g, drop-cons (toBe width n) j 0 m, write-byte)
 
 pub write-none : (at width n : ℕ) (s : List ℕ) → overwritten (at + width) (drop width (toBe width n)) s ≡ s
 write-none at width n s =
@@ -171,9 +171,9 @@ module _ (s : List ℕ) (at width n i v : ℕ) (h : at + width ≤ length s) (l 
       let e : drop (suc i) (toLe width n) ≡ toLe (width - (i + 1)) (v / 256) = cc low-next in
       ap (λ (k : ℕ). drop k (toLe width n)) (add-one i) ∙ e
 
-  pub low-turn : set (overwritten at (take i (toLe width n)) s) (at + i) (v % 256) ≡ overwritten at (take (i + 1) (toLe width n)) s
+  pub low-turn : set (overwritten at (take i (toLe width n)) s) (at + i) (lowByte v) ≡ overwritten at (take (i + 1) (toLe width n)) s
   low-turn =
-      let e : v % 256 ≡ getD (toLe width n) i 0 = cc low-next in
+      let e : lowByte v ≡ getD (toLe width n) i 0 = low-byte v ∙ cc low-next in
       rw e (turn-up at i (toLe width n) s (rw length-toLe h) inside)
 
 pub low-all : (at width n i : ℕ) (s : List ℕ) → width ≤ i → overwritten at (take i (toLe width n)) s ≡ overwritten at (toLe width n) s

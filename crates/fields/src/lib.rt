@@ -30,7 +30,8 @@ pub fn read(s: &[u8], at: usize, width: usize) -> u64
     v
 }
 
-// The low `width` bytes of n written from `at` on.
+// The low `width` bytes of n written from `at` on. Here and below bytes are taken off by mask and shift: what writes a command
+// divides nothing (F-4).
 pub fn write(s: &mut [u8], at: usize, width: usize, n: u64)
     requires { ⌜ at + width ≤ length (now s) ⌝ }
     ensures { λ _. ⌜ now (s .exit) ≡ overwritten at (toBe width n) (now (s .entry)) ⌝ }
@@ -39,8 +40,8 @@ pub fn write(s: &mut [u8], at: usize, width: usize, n: u64)
     let mut j = width;
     while 0 < j {
         j -= 1;
-        s[at + j] = (v % 256) as u8;
-        v = v / 256;
+        s[at + j] = (v & 255) as u8;
+        v = v >> 8;
     }
 }
 
@@ -98,8 +99,8 @@ fn write_low_first(s: &mut [u8], at: usize, n: u64)
     let mut rest = n;
     let mut j = 0;
     while j < 8 {
-        s[at + j] = (rest % 256) as u8;
-        rest = rest / 256;
+        s[at + j] = (rest & 255) as u8;
+        rest = rest >> 8;
         j += 1;
     }
 }
@@ -112,8 +113,8 @@ fn turned(n: u64) -> u64
     let mut low = n;
     let mut i: usize = 0;
     while i < 8 {
-        high = high * 256 + low % 256;
-        low = low / 256;
+        high = high * 256 + (low & 255);
+        low = low >> 8;
         i += 1;
     }
     high

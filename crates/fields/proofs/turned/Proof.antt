@@ -1,10 +1,10 @@
 -- The loop's invariant: the number read so far goes on with the bytes of what is left of n.
 use borrow.Author.Needs.{needs}
 use native.Mathlib.Omega.{arith}
-use Prim.Native.Nat.{_-_, _%_, _^_, _≤_, _<_}
+use Prim.Native.Nat.{_-_, _^_, _≤_, _<_}
 use mathlib.Core.Path.{_≡_, refl, sym, _∙_}
 use Rattle.fields.specs.Number.{fromBe, fromBeAfter, toLe}
-use Rattle.fields.proofs.NumberLaws.{fits-more, turned-turn, turned-end}
+use Rattle.fields.proofs.NumberLaws.{lowByte, low-byte-fits, fits-more, turned-turn, turned-end}
 use Rattle.fields.proofs.turned.Statement.{statement}
 use Rattle.fields.proofs.turned.Tie as tie
 
@@ -21,7 +21,7 @@ mul-high : tie.Need-mul-high Inv-loop μ-loop
 mul-high c = let l = c .before .loop in omega (arith, fits-more (l .i) (l .high) 0 (omega arith) (l .inv .1 .0) (omega arith) .1)
 
 add-high : tie.Need-add-high Inv-loop μ-loop
-add-high c = let l = c .before .loop in omega (arith, fits-more (l .i) (l .high) (l .low % 256) (omega arith) (l .inv .1 .0) (omega arith) .1)
+add-high c = let l = c .before .loop in omega (arith, fits-more (l .i) (l .high) (lowByte (l .low)) (omega arith) (l .inv .1 .0) (low-byte-fits (l .low)) .1)
 
 add-i : tie.Need-add-i Inv-loop μ-loop
 add-i c = search needs
@@ -34,7 +34,7 @@ loop-again c =
     let l = c .before .loop in (
       omega arith,
       (
-        fits-more (l .i) (l .high) (l .low % 256) (omega arith) (l .inv .1 .0) (omega arith) .0,
+        fits-more (l .i) (l .high) (lowByte (l .low)) (omega arith) (l .inv .1 .0) (low-byte-fits (l .low)) .0,
         l .inv .1 .1 ∙ turned-turn 8 (l .i) (l .low) (l .high) (omega arith),
       ),
     )

@@ -8,7 +8,7 @@ use lib.ListN.{length, take, drop, length-set}
 use lib.Seq.{take-all}
 use Rattle.fields.specs.Number.{toBe}
 use Rattle.fields.specs.Overwrite.{overwritten}
-use Rattle.fields.proofs.NumberLaws.{length-toBe}
+use Rattle.fields.proofs.NumberLaws.{length-toBe, low-byte-fits}
 use Rattle.fields.proofs.OverwriteLaws.{write-none, write-left, write-turn}
 use Rattle.fields.proofs.write.Statement.{statement}
 use Rattle.fields.proofs.write.Tie as tie
@@ -28,7 +28,7 @@ sub-j : tie.Need-sub-j Inv-loop μ-loop
 sub-j c = search needs
 
 cast-s : tie.Need-cast-s Inv-loop μ-loop
-cast-s c = search needs
+cast-s c = record { fits = low-byte-fits (c .before .loop .v) }
 
 add-s : tie.Need-add-s Inv-loop μ-loop
 add-s c = search needs

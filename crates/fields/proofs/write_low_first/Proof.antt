@@ -6,6 +6,7 @@ use mathlib.Core.Path.{_≡_, refl, sym, _∙_}
 use lib.ListN.{length, take, drop, length-set}
 use Rattle.fields.specs.Number.{toLe}
 use Rattle.fields.specs.Overwrite.{overwritten}
+use Rattle.fields.proofs.NumberLaws.{low-byte-fits}
 use Rattle.fields.proofs.OverwriteLaws.{overwritten-nil, low-left, low-turn, low-all}
 use Rattle.fields.proofs.write_low_first.Statement.{statement}
 use Rattle.fields.proofs.write_low_first.Tie as tie
@@ -20,7 +21,7 @@ loop-holds : tie.Need-loop-holds Inv-loop μ-loop
 loop-holds c = (omega arith, (refl, (refl, sym (overwritten-nil (c .args .at) (c .args .s .now)))))
 
 cast-s : tie.Need-cast-s Inv-loop μ-loop
-cast-s c = search needs
+cast-s c = record { fits = low-byte-fits (c .before .loop .rest) }
 
 add-s : tie.Need-add-s Inv-loop μ-loop
 add-s c = search needs
