@@ -22,9 +22,12 @@ pub ids-wide : (ids : List Id) → All WellId ids → Wide idSize ids
 ids-wide [] h = tt
 ids-wide (id ∷ ids) h = (h .0 .long, ids-wide ids (h .1))
 
-pub length-command : (c : Command) → All WellId (c .ids) → length (commandBytes c) ≡ commandHeader + length (c .ids) * idSize
+pub command-long : (c : Command) → Wide idSize (c .ids) → length (commandBytes c) ≡ commandHeader + length (c .ids) * idSize
 unfolding commandBytes
-length-command c w = rw (length-joined idSize (c .ids) (ids-wide (c .ids) w)) (omega arith)
+command-long c w = rw (length-joined idSize (c .ids) w) (omega arith)
+
+pub length-command : (c : Command) → All WellId (c .ids) → length (commandBytes c) ≡ commandHeader + length (c .ids) * idSize
+length-command c w = command-long c (ids-wide (c .ids) w)
 
 module _ (c : Command) (w : WellCommand c) where
   -- the number of ids, whatever follows

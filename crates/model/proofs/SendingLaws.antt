@@ -9,6 +9,7 @@ use Rattle.fields.specs.Facts.{All}
 use Rattle.fields.specs.Filter.{kept}
 use Rattle.fields.proofs.AllLaws.{all-append, all-map, all-take, all-drop}
 use Rattle.fields.proofs.FilterLaws.{length-kept}
+use Rattle.fields.proofs.EntriesLaws.{Wide}
 use Rattle.fields.proofs.TotalLaws.{total, total-append, total-map}
 use Rattle.model.specs.Protocol.{Id, headerType, requestSize}
 use Rattle.model.specs.Delivery.{Request, isPending}
@@ -20,7 +21,7 @@ use Rattle.model.proofs.Well.{WellId}
 use Rattle.model.proofs.Widths.{WellItem, WellList, WellBatch, WellSending, WellAct, WellCommand}
 use Rattle.model.proofs.PendingLaws.{wanted-well}
 use Rattle.model.proofs.BatchLaws.{batches-well, idCount, batches-ids, batches-count}
-use Rattle.model.proofs.CommandLaws.{length-command}
+use Rattle.model.proofs.CommandLaws.{ids-wide, command-long, length-command}
 use Rattle.model.specs.Layout.{commandHeader, idSize}
 
 -- ---- sendings within their widths
@@ -80,7 +81,7 @@ bytes-append [] ds = omega arith
 bytes-append (c ∷ cs) ds = rw (length-append (commandBytes c) (allCommandBytes (cs ++ ds)), length-append (commandBytes c) (allCommandBytes cs), bytes-append cs ds) (omega arith)
 
 -- a run has an id at least, so that a request's header counts for half an id
-runs-bytes : (n typeId batch peer : ℕ) (ids : List Id) → All WellId ids
+pub runs-bytes : (n typeId batch peer : ℕ) (ids : List Id) → Wide idSize ids
     → length (allCommandBytes (map (λ (run : List Id). record { kind = 1; typeId = typeId; batch = batch; peer = peer; ids = run }) (runsWithin n ids))) ≤ 48 * length ids
 runs-bytes zero typeId batch peer ids w = omega arith
 runs-bytes (suc n) typeId batch peer [] w = omega arith
@@ -89,8 +90,10 @@ runs-bytes (suc n) typeId batch peer (id ∷ ids) w =
     let others : List Command = map (λ (run : List Id). record { kind = 1; typeId = typeId; batch = batch; peer = peer; ids = run }) (runsWithin n (drop requestSize (id ∷ ids))) in
     let t = length-take requestSize (id ∷ ids) in
     let d = length-drop requestSize (id ∷ ids) in
-    let f : length (commandBytes first) ≡ commandHeader + length (first .ids) * idSize = length-command first (all-take WellId requestSize (id ∷ ids) w) in
-    let r : length (allCommandBytes others) ≤ 48 * length (drop requestSize (id ∷ ids)) = runs-bytes n typeId batch peer (drop requestSize (id ∷ ids)) (all-drop WellId requestSize (id ∷ ids) w) in
+    let f : length (commandBytes first) ≡ commandHeader + length (first .ids) * idSize =
+    command-long first (all-take (λ (e : Id). length e ≡ idSize) requestSize (id ∷ ids) w) in
+    let r : length (allCommandBytes others) ≤ 48 * length (drop requestSize (id ∷ ids)) =
+    runs-bytes n typeId batch peer (drop requestSize (id ∷ ids)) (all-drop (λ (e : Id). length e ≡ idSize) requestSize (id ∷ ids) w) in
     rw (length-append (commandBytes first) (allCommandBytes others)) (omega arith)
 
 -- the bytes of a sending, at most
@@ -101,7 +104,7 @@ weight (syncInfo peer) = 16
 
 sending-bytes : (batch : ℕ) (s : Sending) → WellSending s → length (allCommandBytes (commandsOf batch s)) ≤ weight s
 unfolding runs
-sending-bytes batch (request typeId peer ids) w = runs-bytes (length ids) typeId batch peer ids (w .ids)
+sending-bytes batch (request typeId peer ids) w = runs-bytes (length ids) typeId batch peer ids (ids-wide ids (w .ids))
 sending-bytes batch (announcement peer ids) w =
     let c : Command = record { kind = 2; typeId = headerType; batch = batch; peer = peer; ids = ids } in
     let f : length (commandBytes c) ≡ commandHeader + length ids * idSize = length-command c (w .0 .ids) in

@@ -6,6 +6,7 @@ use mathlib.Core.List.{List, [], _∷_}
 use lib.ListN.{replicate}
 use Rattle.fields.specs.Facts.{All}
 use Rattle.model.specs.Calls.{Call}
+use Rattle.model.specs.Forecast.{Forecast}
 use Rattle.model.specs.Cases.{sameLists}
 
 infix 4 _gives_
@@ -60,3 +61,6 @@ plain kind clock gate = lends kind clock gate 0 [] [] [] [] (replicate 4 0)
 -- kind, parsed, hastip, at clock 1,000
 abbrev pub flagged : ℕ → ℕ → ℕ → Call
 flagged kind parsed hastip = callOf kind 1000 1 0 parsed hastip [] [] [] [] (replicate 4 0)
+
+abbrev pub forecastNumbers : Forecast → List ℕ
+forecastNumbers f = f .number ∷ f .outcome ∷ f .pending ∷ f .evicted ∷ f .commands ∷ f .length ∷ []

@@ -20,10 +20,10 @@ use Rattle.model.specs.Steps.{Step, Args, plan, after, commands}
 use Rattle.model.specs.Steps.{start, pick, progress, check, scheduledTick, sectionTick, sendFailure, endOfStream, otherMessage}
 use Rattle.model.specs.Steps.{neededModifier, reorg, announced, syncInfo, lostPeer, received, evicted}
 use Rattle.model.specs.Calls.{Call, Answer, stepOf, argsOf, callFits, callRefusal, stepAnswer, resultRefusal}
-use Rattle.model.specs.Forecast.{Forecast, figures}
+use Rattle.model.specs.Forecast.{figures}
 use Rattle.model.specs.Cases.{caseSettings, syncingState, argsAt, numbered}
 use Rattle.model.specs.Cases as starred
-use Rattle.model.specs.CaseTables.{Entry, _gives_, lends, plain, flagged}
+use Rattle.model.specs.CaseTables.{Entry, _gives_, lends, plain, flagged, forecastNumbers}
 
 -- Timeout 10,000, limit 2 where none is named, interval 200, stall timeout 60,000; last clock, last progress and last send 0; the
 -- sync peer, if there is one, is 7.
@@ -144,9 +144,6 @@ syncNumbers lastClock s =
 
 abbrev pub answerNumbers : Answer → List ℕ
 answerNumbers a = a .outcome ∷ a .retried ∷ a .fresh ∷ a .abandoned ∷ a .forgotten ∷ a .pending ∷ a .evicted ∷ a .length ∷ []
-
-abbrev pub forecastNumbers : Forecast → List ℕ
-forecastNumbers f = f .number ∷ f .outcome ∷ f .pending ∷ f .evicted ∷ f .commands ∷ f .length ∷ []
 
 abbrev pub optionNumbers : Option ℕ → List ℕ
 optionNumbers none = []

@@ -57,10 +57,6 @@ mapHeightsAt = 64
 
 -- ---- lists at their limits
 
--- 400 ids
-abbrev pub chunkSize : ℕ
-chunkSize = 12800
-
 -- 1,024 ids
 abbrev pub idListSize : ℕ
 idListSize = 32768

@@ -13,9 +13,9 @@ use Rattle.model.specs.Image.{bit, headerBytes, encode, decode, requestB
 use Rattle.model.specs.Lists.{idsIn, peersIn, pairsIn, viewOf, idsFit, continuationFits, peersFit, pairsFit, rowFits, viewFits}
 use Rattle.model.specs.Commands.{allCommandBytes, commandsIn}
 use Rattle.model.specs.Calls.{Call, questionPairs, stepRefusal}
-use Rattle.model.specs.Forecast.{Forecast, forecast}
+use Rattle.model.specs.Forecast.{forecast}
 use Rattle.model.specs.Cases.{syncingState}
-use Rattle.model.specs.CaseTables.{Entry, _gives_, plain}
+use Rattle.model.specs.CaseTables.{Entry, _gives_, plain, forecastNumbers}
 
 pub data Case : Type 0 where
   -- a state's header; parts of its whole area: an offset and at most so many bytes from there on, and so on
@@ -67,9 +67,6 @@ stateNumbers st =
     ∷ (st .settings .timeout ∷ st .settings .maxChecks ∷ st .settings .minSendInterval ∷ st .settings .stallTimeout ∷ [])
     ∷ (st .sync .lastProgress ∷ st .sync .sendClock .lastSend ∷ st .sync .syncPeer ∷ [])
     ∷ (st .sync .sendClock .sends ∷ st .sync .downloaded ∷ st .sync .knownTip ∷ []) ∷ []
-
-abbrev pub forecastNumbers : Forecast → List ℕ
-forecastNumbers f = f .number ∷ f .outcome ∷ f .pending ∷ f .evicted ∷ f .commands ∷ f .length ∷ []
 
 abbrev pub told : Bool → List (List ℕ)
 told test = (bit test ∷ []) ∷ []

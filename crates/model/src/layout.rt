@@ -28,8 +28,6 @@ pub const MAP_SIZE: usize = 512;
 
 pub const MAP_HEIGHTS_AT: usize = 64;
 
-pub const CHUNK_SIZE: usize = 12800;
-
 pub const ID_LIST_SIZE: usize = 32768;
 
 pub const PAIR_LIST_SIZE: usize = 33792;

@@ -1,14 +1,18 @@
 -- Batches and runs, kept: requests of 1 to 400 ids, batches numbered from 0 without a gap, no list in two batches.
-use Prim.Native.Nat.{ℕ, zero, suc, _≤_}
+use Prim.Native.Nat.{ℕ, zero, suc, _≤_, _<_}
 use mathlib.Core.Path.{_≡_, refl, sym, ap, _∙_, subst}
-use mathlib.Core.Bool.{Bool, true, false}
+use mathlib.Core.Bool.{Bool, true, false, _&&_}
 use mathlib.Core.Logic.{inl, inr}
-use mathlib.Core.List.{List, [], _∷_, _++_, map}
+use mathlib.Core.List.{List, [], _∷_, _++_, map, append-nil}
+use native.Mathlib.Nat.{le-refl, lt-irrefl}
 use native.Mathlib.Omega.{arith}
 use lib.ListN.{length, take, drop, length-take, length-drop}
-use borrow.Author.Tests.{ne-eqb}
+use lib.Dec.{eqb}
+use borrow.Author.Tests.{eq-eqb, ne-eqb, eqb-true, eqb-false}
 use Rattle.fields.specs.Facts.{All}
-use Rattle.fields.proofs.AllLaws.{all-append, all-map, all-both}
+use Rattle.fields.specs.Filter.{kept}
+use Rattle.fields.proofs.AllLaws.{all-append, all-map, all-both, all-weaker}
+use Rattle.fields.proofs.MarkLaws.{kept-all}
 use Rattle.model.specs.Protocol.{Id, headerType, requestSize}
 use Rattle.model.specs.Delivery.{Request, markRequested}
 use Rattle.model.specs.State.{State}
@@ -21,11 +25,11 @@ use Rattle.model.specs.Calls.{Call, stepOf, argsOf}
 use Rattle.model.specs.Promises.Numbers as numbers
 use Rattle.model.specs.Promises.Words.{peers}
 use Rattle.model.specs.Promises.Asked.{AsksFresh}
-use Rattle.model.specs.Promises.Batches.{Alike, Follows, EachNext, StartsAt, OneBatch, Uncut, Batches}
+use Rattle.model.specs.Promises.Batches.{Alike, Follows, EachNext, StartsAt, Cut, requestsOf, OneBatch, Uncut, Batches}
 use Rattle.model.proofs.Widths.{WellAct}
 use Rattle.model.proofs.RequestedLaws.{requested-commands}
 use Rattle.model.proofs.Promises.SeenLaws.{seenAs, Finished, is-check}
-use Rattle.model.proofs.Promises.ListLaws.{all-of, all-mapped, Pairwise, pairwise-map, pairwise-next}
+use Rattle.model.proofs.Promises.ListLaws.{all-of, all-mapped, kept-append, kept-none, Pairwise, pairwise-map, pairwise-next}
 use Rattle.model.proofs.Promises.ListLaws.{OfFirst, Neighbours, next-of, next-append, next-map}
 use Rattle.model.proofs.Promises.ItemLaws.{batches-each, BatchBelow, batches-rise, below-differ}
 use Rattle.model.proofs.Promises.AskedLaws.{unretried, acts-well}
@@ -226,6 +230,73 @@ module _ (P : Command → Command → Type 0) (Q : Sending → Sending → Type 
       (all-mapped (λ (c : Command). OfFirst (P c) (commandsFrom (suc batch) ss)) (headed batch s)
       (λ run. next-sending batch s ss run (q .0) (h .1)) (runsOf s)))
 
+-- ---- numbers rise from sending to sending
+
+commands-from : (batch : ℕ) (ss : List Sending) → All (λ (c : Command). batch ≤ c .batch) (commandsFrom batch ss)
+commands-from batch [] = tt
+commands-from batch (s ∷ ss) =
+    all-append (λ (c : Command). batch ≤ c .batch) (commandsOf batch s) (commandsFrom (suc batch) ss)
+    (rw (commands-headed batch s) (all-mapped (λ (c : Command). batch ≤ c .batch) (headed batch s) (λ run. le-refl batch) (runsOf s)))
+    (all-weaker (λ (c : Command). suc batch ≤ c .batch) (λ (c : Command). batch ≤ c .batch) (λ c h. omega arith)
+    (commandsFrom (suc batch) ss) (commands-from (suc batch) ss))
+
+after-last : (batch : ℕ) (ss : List Sending) → batch ≤ batchAfter batch ss
+after-last batch [] = le-refl batch
+after-last batch (s ∷ ss) = omega (arith, after-last (suc batch) ss)
+
+commands-before : (batch : ℕ) (ss : List Sending) → All (λ (c : Command). c .batch < batchAfter batch ss) (commandsFrom batch ss)
+commands-before batch [] = tt
+commands-before batch (s ∷ ss) =
+    all-append (λ (c : Command). c .batch < batchAfter (suc batch) ss) (commandsOf batch s) (commandsFrom (suc batch) ss)
+    (rw (commands-headed batch s)
+    (all-mapped (λ (c : Command). c .batch < batchAfter (suc batch) ss) (headed batch s) (λ run. after-last (suc batch) ss) (runsOf s)))
+    (commands-before (suc batch) ss)
+
+-- ---- the requests of one number are those of one list
+
+abbrev isOf : ℕ → Command → Bool
+isOf batch c = eqb (c .batch) batch && eqb (c .kind) numbers.aRequest
+
+not-of : (k : ℕ) (c : Command) → (c .batch ≡ k → ⊥) → isOf k c ≡ false
+not-of k c n = rw (ne-eqb (c .batch) k n)
+
+runs-cut : (batch : ℕ) (s : Sending) (all : List (List Id)) → All (λ (run : List Id). (1 ≤ length run) × (length run ≤ 400)) all
+    → Neighbours (λ (run next : List Id). length run ≡ 400) all → Cut (map (headed batch s) all)
+runs-cut batch s [] sized full = tt
+runs-cut batch s (run ∷ []) sized full = sized .0
+runs-cut batch s (run ∷ (next ∷ all)) sized full = (full .0, runs-cut batch s (next ∷ all) (sized .1) (full .1))
+
+sending-cut : (batch : ℕ) (s : Sending) → Cut (kept (isOf batch) (commandsOf batch s))
+unfolding runs
+sending-cut batch (request typeId peer ids) =
+    let list : Sending = request typeId peer ids in
+    let all : List (List Id) = runsWithin (length ids) ids in
+    let each = all-mapped (λ (c : Command). isOf batch c ≡ true) (headed batch list) (λ run. rw (eq-eqb batch batch refl)) all in
+    rw (kept-all (isOf batch) (map (headed batch list) all) each) (runs-cut batch list all (runs-sized (length ids) ids) (runs-full (length ids) ids))
+sending-cut batch (announcement peer ids) = rw (eq-eqb batch batch refl) tt
+sending-cut batch (syncInfo peer) = rw (eq-eqb batch batch refl) tt
+
+commands-cut : (k batch : ℕ) (ss : List Sending) → Cut (kept (isOf k) (commandsFrom batch ss))
+commands-cut k batch [] = tt
+commands-cut k batch (s ∷ ss) = go (eqb batch k) refl (commands-cut k (suc batch) ss)
+  where
+    go : (t : Bool) → eqb batch k ≡ t → Cut (kept (isOf k) (commandsFrom (suc batch) ss))
+        → Cut (kept (isOf k) (commandsOf batch s ++ commandsFrom (suc batch) ss))
+    go true e others =
+        let same : batch ≡ k = eqb-true batch k e in
+        let none : kept (isOf k) (commandsFrom (suc batch) ss) ≡ [] =
+        kept-none (isOf k) (commandsFrom (suc batch) ss)
+        (all-weaker (λ (c : Command). suc batch ≤ c .batch) (λ (c : Command). isOf k c ≡ false) (λ c h. not-of k c (λ q. lt-irrefl k (omega arith)))
+        (commandsFrom (suc batch) ss) (commands-from (suc batch) ss)) in
+        rw (kept-append (isOf k) (commandsOf batch s) (commandsFrom (suc batch) ss), none, append-nil)
+        (subst (λ (n : ℕ). Cut (kept (isOf n) (commandsOf batch s))) same (sending-cut batch s))
+    go false e others =
+        let none : kept (isOf k) (commandsOf batch s) ≡ [] =
+        kept-none (isOf k) (commandsOf batch s)
+        (rw (commands-headed batch s)
+        (all-mapped (λ (c : Command). isOf k c ≡ false) (headed batch s) (λ run. not-of k (headed batch s run) (eqb-false batch k e)) (runsOf s))) in
+        rw (kept-append (isOf k) (commandsOf batch s) (commandsFrom (suc batch) ss), none) others
+
 -- ---- a finished call
 
 starts-at : (batch : ℕ) (cs : List Command) → OfFirst (λ (c : Command). c .batch ≡ batch) cs → StartsAt batch cs
@@ -302,18 +373,24 @@ uncut st call f =
           each-next OneBatch (commandsFrom 0 again)
           (commands-together 0 again (retries-next (retried st (argsOf call))) (retries-send (retried st (argsOf call))));
       oneAnew = each-next OneBatch (commandsFrom behind anew) (commands-together behind anew (performed-next st call f) (performed-send st call f));
+      apart =
+          all-weaker (λ (c : Command). c .batch < behind) (λ (c : Command). All (λ (d : Command). c .batch < d .batch) (commandsFrom behind anew))
+          (λ c l. all-weaker (λ (d : Command). behind ≤ d .batch) (λ (d : Command). c .batch < d .batch) (λ d h. omega arith)
+          (commandsFrom behind anew) (commands-from behind anew))
+          (commandsFrom 0 again) (commands-before 0 again);
       elsewhere = none-again st call f;
       fresh = λ check gate.
           subst (AsksFresh (seenAs st call) (peers (seenAs st call))) (sym (requested-commands behind anew)) (fresh-performed st call f gate check);
     }
 
 pub batches-kept : (st : State) (call : Call) → Finished st call → Batches (seenAs st call)
-unfolding commands
+unfolding commands requestsOf
 batches-kept st call f =
     let all = sendings st call f in
     record {
       sizes = commands-sized 0 all;
       from = starts-at 0 (commandsFrom 0 all) (commands-start 0 all (sendings-send st call f));
       follows = each-next Follows (commandsFrom 0 all) (commands-follow 0 all (sendings-send st call f));
+      cut = λ batch. commands-cut batch 0 all;
       uncut = uncut st call f;
     }

@@ -59,6 +59,22 @@ pub all-mapped : {A B : Type 0} (P : B → Type 0) (f : A → B) → ((x : A) �
 all-mapped P f p [] = tt
 all-mapped P f p (x ∷ xs) = (p x, all-mapped P f p xs)
 
+-- ---- what a test keeps
+
+module _ {A : Type 0} (test : A → Bool) where
+  pub kept-append : (xs ys : List A) → kept test (xs ++ ys) ≡ kept test xs ++ kept test ys
+  kept-append [] ys = refl
+  kept-append (x ∷ xs) ys = go (test x) (kept-append xs ys)
+    where
+      go : (t : Bool) → kept test (xs ++ ys) ≡ kept test xs ++ kept test ys
+          → consIf t x (kept test (xs ++ ys)) ≡ consIf t x (kept test xs) ++ kept test ys
+      go true e = ap (λ (others : List A). x ∷ others) e
+      go false e = e
+
+  pub kept-none : (xs : List A) → All (λ (x : A). test x ≡ false) xs → kept test xs ≡ []
+  kept-none [] h = refl
+  kept-none (x ∷ xs) h = rw (h .0) (kept-none xs (h .1))
+
 -- ---- sorts
 
 module _ {A : Type 0} (below : A → A → Bool) where

@@ -1,9 +1,13 @@
 -- Batches and runs: how what is sent is cut and numbered.
-use Prim.Native.Nat.{ℕ, suc, _≤_}
+use Prim.Native.Nat.{ℕ, suc, _≤_, _<_}
 use mathlib.Core.Path.{_≡_}
+use mathlib.Core.Bool.{_&&_}
 use mathlib.Core.Logic.{_⊎_}
 use mathlib.Core.List.{List, [], _∷_, _++_}
 use lib.ListN.{length}
+use lib.Dec.{eqb}
+use Rattle.fields.specs.Facts.{All}
+use Rattle.fields.specs.Filter.{kept}
 use Rattle.model.specs.Requests.{Command}
 use Rattle.model.specs.Promises.Numbers
 use Rattle.model.specs.Book.{requestedIn}
@@ -31,6 +35,16 @@ abbrev pub StartsAt : ℕ → List Command → Type 0
 StartsAt batch [] = Unit {0}
 StartsAt batch (c ∷ commands) = c .batch ≡ batch
 
+-- F-4, of the requests for one list: "every request of a list but its last is proved to carry 400 ids", and the last 1 to 400.
+abbrev pub Cut : List Command → Type 0
+Cut [] = Unit {0}
+Cut (c ∷ []) = (1 ≤ length (c .ids)) × (length (c .ids) ≤ 400)
+Cut (c ∷ (d ∷ requests)) = (length (c .ids) ≡ 400) × Cut (d ∷ requests)
+
+-- the requests with one number: a list through rule 3, or a batch of retries
+unfoldable pub requestsOf : ℕ → List Command → List Command
+requestsOf batch commands = kept (λ (c : Command). eqb (c .batch) batch && eqb (c .kind) Numbers.aRequest) commands
+
 -- a list is not cut into two batches
 abbrev pub OneBatch : Command → Command → Type 0
 OneBatch c d = Alike c d → d .batch ≡ c .batch
@@ -42,6 +56,8 @@ pub record Uncut (s : Seen) : Type 0 where
   pub parts : s .sent ≡ again ++ anew
   pub oneAgain : EachNext OneBatch again
   pub oneAnew : EachNext OneBatch anew
+  -- and no number is that of a list of each
+  pub apart : All (λ (c : Command). All (λ (d : Command). c .batch < d .batch) anew) again
   -- only a check retries, and what it asks for anew are the fresh ids
   pub elsewhere : (s .call .kind ≡ Numbers.check → ⊥) → again ≡ []
   pub fresh : s .call .kind ≡ Numbers.check → s .call .gate ≡ 1 → AsksFresh s (peers s) (requestedIn anew)
@@ -52,4 +68,5 @@ pub record Batches (s : Seen) : Type 0 where
   -- "Batches are numbered from 0 within a step", without a gap
   pub from : StartsAt 0 (s .sent)
   pub follows : EachNext Follows (s .sent)
+  pub cut : (batch : ℕ) → Cut (requestsOf batch (s .sent))
   pub uncut : Uncut s
