@@ -9,12 +9,12 @@ use Rattle.fields.specs.Entries.{entries}
 use Rattle.fields.specs.Overwrite.{overwritten}
 use Rattle.fields.proofs.OverwriteLaws.{overwritten-nil, overwritten-next, length-overwritten}
 use Rattle.fields.proofs.EntriesLaws.{length-entries, take-entries, drop-entries, entries-take}
-use Rattle.model.specs.Protocol.{Id}
+use Rattle.model.specs.Protocol.{Id, requestSize, trackedLimit}
 use Rattle.model.specs.Requests.{request, runs, runsWithin, commandsOf}
 use Rattle.model.specs.Lists.{idsIn}
 use Rattle.model.specs.Commands.{commandBytes, allCommandBytes}
-use Rattle.commands.proofs.WriteLaws.{length-ids, commandFor, length-command}
-use Rattle.model.specs.Layout.{chunkSize, idListSize, idSize}
+use Rattle.commands.proofs.WriteLaws.{length-ids, counted-ids, commandFor, length-command}
+use Rattle.model.specs.Layout.{idSize}
 
 -- ---- runs of ids
 
@@ -37,6 +37,17 @@ runs-turn (id ∷ ids) h =
     let e : length (drop 400 (id ∷ ids)) ≡ length (id ∷ ids) - 400 = length-drop 400 (id ∷ ids) in
     let rest : List Id = drop 400 (id ∷ ids) in
     ap (λ (r : List (List Id)). take 400 (id ∷ ids) ∷ r) (within-more (length ids) (length rest) rest (omega arith) (omega arith))
+
+-- the next run, by its count
+runs-next : (ids : List Id) {n : ℕ} → 0 < length ids → n ≡ min requestSize (length ids) → runs ids ≡ take n ids ∷ runs (drop n ids)
+runs-next ids {n} h e = runs-turn ids h ∙ go (length ids - requestSize) refl
+  where
+    go : (over : ℕ) → length ids - requestSize ≡ over → take requestSize ids ∷ runs (drop requestSize ids) ≡ take n ids ∷ runs (drop n ids)
+    go zero q =
+        let none : drop requestSize ids ≡ drop n ids =
+        drop-of-length-le ids {i = requestSize} (omega arith) ∙ sym (drop-of-length-le ids {i = n} (omega arith)) in
+        rw (take-all requestSize ids (omega arith), take-all n ids (omega arith), none)
+    go (suc over) q = let full : n ≡ requestSize = omega arith in rw full
 
 -- ---- the first m ids and the others, by their bytes
 
@@ -113,99 +124,90 @@ module _ (typeId batch peer : ℕ) where
   unfolding runs idsIn
   requests-nil = refl
 
-  requests-turn : (bytes : List ℕ) → length bytes % idSize ≡ 0 → 0 < length bytes
+  requests-turn : (bytes : List ℕ) {left n : ℕ} → length bytes ≡ left * idSize → 0 < left → n ≡ min requestSize left
       → requestsFor typeId batch peer bytes
-      ≡ commandBytes (commandFor 1 typeId batch peer (take chunkSize bytes)) ++ requestsFor typeId batch peer (drop chunkSize bytes)
-  requests-turn bytes h l =
-      let n : 0 < length (idsIn bytes) = rw (length-ids bytes) (omega arith) in
-      rw (runs-turn (idsIn bytes) n, take-ids 400 bytes h, drop-ids 400 bytes h)
+      ≡ commandBytes (commandFor 1 typeId batch peer (take (n * idSize) bytes)) ++ requestsFor typeId batch peer (drop (n * idSize) bytes)
+  requests-turn bytes {left} {n} whole some e =
+      let l : length (idsIn bytes) ≡ left = counted-ids bytes whole in
+      rw (runs-next (idsIn bytes) {n = n} (rw l some) (rw l e), take-ids n bytes (omega arith), drop-ids n bytes (omega arith))
 
 -- ---- the list written
 
--- What stays the same: whole ids, and room for all their requests.
-pub record Run (typeId batch peer at : ℕ) (bytes d : List ℕ) : Type 0 where
-  pub whole : length bytes % idSize ≡ 0
-  pub few : length bytes ≤ idListSize
+-- What stays the same: so many ids, and room for all their requests.
+pub record Run (typeId batch peer at : ℕ) (bytes : List ℕ) (count : ℕ) (d : List ℕ) : Type 0 where
+  pub whole : length bytes ≡ count * idSize
+  pub few : count ≤ trackedLimit
   pub room : at + length (requestsFor typeId batch peer bytes) ≤ length d
 
--- What is left, written at `place`, gives the whole.
-pub record Putting (typeId batch peer at : ℕ) (bytes d out : List ℕ) (place done : ℕ) : Type 0 where
-  pub done-le : done ≤ length bytes
-  pub whole : done % idSize ≡ 0
+-- `left` ids are not cut yet; they, written at `place`, give the whole.
+pub record Putting (typeId batch peer at : ℕ) (bytes d out : List ℕ) (place done left : ℕ) : Type 0 where
+  pub cut : done + left * idSize ≡ length bytes
   pub long : length out ≡ length d
   pub to : place + length (requestsFor typeId batch peer (drop done bytes)) ≡ at + length (requestsFor typeId batch peer bytes)
   pub rest : overwritten place (requestsFor typeId batch peer (drop done bytes)) out ≡ overwritten at (requestsFor typeId batch peer bytes) d
 
-module _ {typeId batch peer at : ℕ} {bytes d : List ℕ} (all : Run typeId batch peer at bytes d) where
-  pub put-starts : Putting typeId batch peer at bytes d d at 0
-  put-starts = record { done-le = omega arith; whole = refl; long = refl; to = refl; rest = refl }
+module _ {typeId batch peer at : ℕ} {bytes : List ℕ} {count : ℕ} {d : List ℕ} (all : Run typeId batch peer at bytes count d) where
+  pub put-starts : Putting typeId batch peer at bytes d d at 0 count
+  put-starts = record { cut = omega (arith, all .whole); long = refl; to = refl; rest = refl }
 
-  module _ {out : List ℕ} {place done : ℕ} (s : Putting typeId batch peer at bytes d out place done) where
-    -- the next run of what is left
-    module _ (h : done < length bytes) {run : List ℕ} (e : run ≡ take chunkSize (drop done bytes)) where
-      abbrev this : List ℕ
-      this = commandBytes (commandFor 1 typeId batch peer run)
+  module _ {out : List ℕ} {place done left : ℕ} (s : Putting typeId batch peer at bytes d out place done left) where
+    left-whole : length (drop done bytes) ≡ left * idSize
+    left-whole = length-drop done bytes ∙ omega (arith, s .cut)
 
-      abbrev others : List ℕ
-      others = requestsFor typeId batch peer (drop chunkSize (drop done bytes))
+    -- the next n ids of what is left
+    module _ (some : 0 < left) {n : ℕ} (counted : n ≡ min requestSize left) where
+      -- some, and no more than are left
+      pub next-some : (0 < n) × (n ≤ left)
+      next-some = (omega arith, omega arith)
 
-      pub chunk-length : ((0 < length run) × (done + length run ≤ length bytes)) × ((length run % idSize ≡ 0) × (length run ≤ chunkSize))
-      chunk-length =
-          let l : length run ≡ min chunkSize (length bytes - done) = ap length e ∙ length-take chunkSize (drop done bytes) ∙ rw length-drop in
-          rw l (omega (arith, all .whole, s .whole))
+      pub next-within : done + n * idSize ≤ length bytes
+      next-within = omega (arith, next-some, s .cut)
 
-      left-whole : length (drop done bytes) % idSize ≡ 0
-      left-whole = rw (length-drop done bytes) (omega (arith, all .whole, s .whole))
+      pub next-few : n ≤ trackedLimit
+      next-few = omega arith
 
-      left-some : 0 < length (drop done bytes)
-      left-some = rw (length-drop done bytes) (omega arith)
+      module _ {run : List ℕ} (e : run ≡ take (n * idSize) (drop done bytes)) where
+        abbrev this : List ℕ
+        this = commandBytes (commandFor 1 typeId batch peer run)
 
-      this-first : requestsFor typeId batch peer (drop done bytes) ≡ this ++ others
-      this-first = requests-turn typeId batch peer (drop done bytes) left-whole left-some ∙ rw (← e)
+        abbrev others : List ℕ
+        others = requestsFor typeId batch peer (drop (n * idSize) (drop done bytes))
 
-      long-run : length this ≡ 16 + length run
-      long-run = length-command 1 typeId batch peer run (chunk-length .1 .0)
+        pub run-whole : length run ≡ n * idSize
+        run-whole = ap length e ∙ length-take-le (n * idSize) (drop done bytes) (omega (arith, next-some, left-whole))
 
-      long-left : length (requestsFor typeId batch peer (drop done bytes)) ≡ 16 + length run + length others
-      long-left = ap length this-first ∙ length-append this others ∙ rw long-run
+        this-first : requestsFor typeId batch peer (drop done bytes) ≡ this ++ others
+        this-first = requests-turn typeId batch peer (drop done bytes) left-whole some counted ∙ rw (← e)
 
-      -- what writing it asks
-      pub put-asks : (length run % idSize ≡ 0) × ((length run ≤ idListSize) × (place + 16 + length run ≤ length out))
-      put-asks = (chunk-length .1 .0, (omega (arith, chunk-length .1 .1), omega (arith, s .to, s .long, long-left, all .room)))
+        long-run : length this ≡ 16 + length run
+        long-run = length-command 1 typeId batch peer run n run-whole
 
-      behind : drop (done + length run) bytes ≡ drop chunkSize (drop done bytes)
-      behind = go (length bytes - done - chunkSize) refl
-        where
-          left : length (drop done bytes) ≡ length bytes - done
-          left = length-drop done bytes
+        long-left : length (requestsFor typeId batch peer (drop done bytes)) ≡ 16 + length run + length others
+        long-left = ap length this-first ∙ length-append this others ∙ rw long-run
 
-          go : (n : ℕ) → length bytes - done - chunkSize ≡ n → drop (done + length run) bytes ≡ drop chunkSize (drop done bytes)
-          go zero q =
-              let f : run ≡ drop done bytes = e ∙ take-all chunkSize (drop done bytes) (omega (arith, left)) in
-              let g : length run ≡ length bytes - done = ap length f ∙ left in
-              let none : drop chunkSize (drop done bytes) ≡ [] = drop-of-length-le (drop done bytes) {i = chunkSize} (omega (arith, left)) in
-              drop-of-length-le bytes {i = done + length run} (omega (arith, s .done-le)) ∙ sym none
-          go (suc n) q =
-              let f : length run ≡ chunkSize = ap length e ∙ length-take-le chunkSize (drop done bytes) (omega (arith, left)) in
-              rw (f, drop-drop)
+        -- what writing it asks
+        pub put-asks : (length run ≡ n * idSize) × ((n ≤ trackedLimit) × (place + 16 + length run ≤ length out))
+        put-asks = (run-whole, (next-few, omega (arith, s .to, s .long, long-left, all .room)))
 
-      pub put-turn : {o : List ℕ} {place′ : ℕ} → (o ≡ overwritten place this out) × (place′ ≡ place + 16 + length run)
-          → Putting typeId batch peer at bytes d o place′ (done + length run)
-      put-turn {o} {place′} w =
-          let r : place + length this + length others ≤ length out = omega (arith, s .to, s .long, long-left, long-run, all .room) in
-          let p : place′ ≡ place + length this = omega (arith, long-run, w .1) in
-          record {
-            done-le = chunk-length .0 .1;
-            whole = let a : length run % idSize ≡ 0 = chunk-length .1 .0 in omega (arith, s .whole);
-            long = rw (w .0) (length-overwritten place this out (omega arith)) ∙ s .long;
-            to = rw behind (omega (arith, s .to, long-left, w .1));
-            rest = rw (behind, w .0, p) (overwritten-next place this others out r ∙ rw (← this-first) (s .rest));
-          }
+        behind : drop (done + length run) bytes ≡ drop (n * idSize) (drop done bytes)
+        behind = rw (run-whole, drop-drop)
 
-    pub put-ends : length bytes ≤ done
+        pub put-turn : {o : List ℕ} {place′ : ℕ} → (o ≡ overwritten place this out) × (place′ ≡ place + 16 + length run)
+            → Putting typeId batch peer at bytes d o place′ (done + length run) (left - n)
+        put-turn {o} {place′} w =
+            let r : place + length this + length others ≤ length out = omega (arith, s .to, s .long, long-left, long-run, all .room) in
+            let p : place′ ≡ place + length this = omega (arith, long-run, w .1) in
+            record {
+              cut = omega (arith, s .cut, run-whole, next-some);
+              long = rw (w .0) (length-overwritten place this out (omega arith)) ∙ s .long;
+              to = rw behind (omega (arith, s .to, long-left, w .1));
+              rest = rw (behind, w .0, p) (overwritten-next place this others out r ∙ rw (← this-first) (s .rest));
+            }
+
+    pub put-ends : left ≤ 0
         → (out ≡ overwritten at (requestsFor typeId batch peer bytes) d) × (place ≡ at + length (requestsFor typeId batch peer bytes))
     put-ends h =
-        let z : drop done bytes ≡ [] = drop-of-length-le bytes {i = done} h in
+        let z : drop done bytes ≡ [] = drop-of-length-le bytes {i = done} (omega (arith, s .cut)) in
         let r : requestsFor typeId batch peer (drop done bytes) ≡ [] = rw z (requests-nil typeId batch peer) in
         let l : length (requestsFor typeId batch peer (drop done bytes)) ≡ 0 = ap length r in
         (sym (overwritten-nil place out) ∙ rw r at (s .rest), omega (arith, s .to))

@@ -1,5 +1,5 @@
 -- Writes one behind another are one write, and a command is six of them.
-use Prim.Native.Nat.{ℕ, _+_, _/_, _%_, _≤_}
+use Prim.Native.Nat.{ℕ, _+_, _*_, _≤_}
 use mathlib.Core.Path.{_≡_, refl, ap, _∙_}
 use mathlib.Core.List.{List, [], _∷_, _++_}
 use native.Mathlib.Omega.{arith}
@@ -27,11 +27,15 @@ two-written p a b d h =
 abbrev pub commandFor : ℕ → ℕ → ℕ → ℕ → List ℕ → Command
 commandFor kind typeId batch peer bytes = record { kind = kind; typeId = typeId; batch = batch; peer = peer; ids = idsIn bytes }
 
-module _ (kind typeId batch peer : ℕ) (bytes : List ℕ) (whole : length bytes % idSize ≡ 0) where
+-- ids that are counted
+pub counted-ids : (bytes : List ℕ) {count : ℕ} → length bytes ≡ count * idSize → length (idsIn bytes) ≡ count
+counted-ids bytes whole = length-ids bytes ∙ omega arith
+
+module _ (kind typeId batch peer : ℕ) (bytes : List ℕ) (count : ℕ) (whole : length bytes ≡ count * idSize) where
   command-split : commandBytes (commandFor kind typeId batch peer bytes)
-      ≡ ((((kind ∷ typeId ∷ []) ++ toBe 2 batch) ++ toBe 8 peer) ++ toBe 4 (length bytes / idSize)) ++ bytes
+      ≡ ((((kind ∷ typeId ∷ []) ++ toBe 2 batch) ++ toBe 8 peer) ++ toBe 4 count) ++ bytes
   unfolding commandBytes
-  command-split = rw (joined-ids bytes whole, length-ids bytes)
+  command-split = rw (joined-ids bytes (omega arith), counted-ids bytes whole)
 
   pub length-command : length (commandBytes (commandFor kind typeId batch peer bytes)) ≡ 16 + length bytes
   length-command = ap length command-split ∙ omega arith
@@ -39,14 +43,14 @@ module _ (kind typeId batch peer : ℕ) (bytes : List ℕ) (whole : length bytes
   -- its fields, one behind another
   pub command-written : (p : ℕ) (d : List ℕ) {o₁ o₂ o₃ o₄ o₅ : List ℕ} → p + 16 + length bytes ≤ length d
       → o₁ ≡ overwritten p (kind ∷ typeId ∷ []) d → o₂ ≡ overwritten (p + 2) (toBe 2 batch) o₁ → o₃ ≡ overwritten (p + 4) (toBe 8 peer) o₂
-      → o₄ ≡ overwritten (p + 12) (toBe 4 (length bytes / idSize)) o₃ → o₅ ≡ overwritten (p + 16) bytes o₄
+      → o₄ ≡ overwritten (p + 12) (toBe 4 count) o₃ → o₅ ≡ overwritten (p + 16) bytes o₄
       → o₅ ≡ overwritten p (commandBytes (commandFor kind typeId batch peer bytes)) d
   command-written p d {o₁} {o₂} {o₃} {o₄} {o₅} h e₁ e₂ e₃ e₄ e₅ =
       let b : List ℕ = (kind ∷ typeId ∷ []) ++ toBe 2 batch in
       let s₂ : o₂ ≡ overwritten p b d = written-next p 2 (kind ∷ typeId ∷ []) (toBe 2 batch) d o₁ o₂ refl (omega arith) e₁ e₂ in
       let s₃ : o₃ ≡ overwritten p (b ++ toBe 8 peer) d = written-next p 4 b (toBe 8 peer) d o₂ o₃ refl (omega arith) s₂ e₃ in
-      let s₄ : o₄ ≡ overwritten p ((b ++ toBe 8 peer) ++ toBe 4 (length bytes / idSize)) d =
-      written-next p 12 (b ++ toBe 8 peer) (toBe 4 (length bytes / idSize)) d o₃ o₄ refl (omega arith) s₃ e₄ in
-      let s₅ : o₅ ≡ overwritten p (((b ++ toBe 8 peer) ++ toBe 4 (length bytes / idSize)) ++ bytes) d =
-      written-next p 16 ((b ++ toBe 8 peer) ++ toBe 4 (length bytes / idSize)) bytes d o₄ o₅ refl (omega arith) s₄ e₅ in
+      let s₄ : o₄ ≡ overwritten p ((b ++ toBe 8 peer) ++ toBe 4 count) d =
+      written-next p 12 (b ++ toBe 8 peer) (toBe 4 count) d o₃ o₄ refl (omega arith) s₃ e₄ in
+      let s₅ : o₅ ≡ overwritten p (((b ++ toBe 8 peer) ++ toBe 4 count) ++ bytes) d =
+      written-next p 16 ((b ++ toBe 8 peer) ++ toBe 4 count) bytes d o₄ o₅ refl (omega arith) s₄ e₅ in
       s₅ ∙ rw command-split

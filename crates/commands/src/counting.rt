@@ -1,7 +1,8 @@
-// How many commands stand one behind another.
+// How many commands, and how many ids, stand one behind another.
 ghost use mathlib.Core.Path.{_≡_};
 ghost use lib.ListN.{length};
 ghost use Rattle.model.specs.Commands.{commandsIn};
+ghost use Rattle.model.specs.Lists.{idsIn};
 use model::layout::ID_SIZE;
 
 // Any bytes are answered: what is left at the end, if it is too short for a header, counts as one.
@@ -19,4 +20,17 @@ pub fn count_commands(bytes: &[u8]) -> usize
         at = at + 16 + ids * ID_SIZE;
     }
     count
+}
+
+// Ids, one by one; bytes left at the end that are no whole id count for none.
+pub fn count_ids(ids: &[u8]) -> usize
+    ensures { λ r. ⌜ r ≡ length (idsIn (now (ids .entry))) ⌝ }
+{
+    let mut whole = 0;
+    let mut at = 0;
+    while ID_SIZE <= ids.len() - at {
+        at += ID_SIZE;
+        whole += 1;
+    }
+    whole
 }

@@ -30,7 +30,7 @@ use Rattle.commands.specs.Sent.{sentBytes}
 use Rattle.mark_requested.specs.Marking.{markedAs, heldWithin}
 use Rattle.mark_requested.specs.declared.entering.Marked.{Marked}
 use Rattle.mark_requested.specs.declared.entering.Marked.the-variants as marked
-use Rattle.commands.proofs.WriteLaws.{length-ids}
+use Rattle.commands.proofs.WriteLaws.{length-ids, counted-ids}
 use Rattle.mark_requested.proofs.AnswerLaws.{marked-pending, marked-full, few-held}
 use Rattle.commands.proofs.RecordedLaws.{well-ids}
 use Rattle.commands.proofs.HoldingLaws.{length-requests, holding-same}
@@ -192,17 +192,14 @@ module _ {stored : List ℕ} {g : Given} {d rest : List ℕ} {n : ℕ} (e : Ente
 
   -- what `mark_and_send` asks
   pub send-asks : 1 ≤ n → g.at + length g.ids / idSize * commandSize ≤ length g.out → g.batch + 1 < 65536
-      → let ids = take (n * idSize) rest in
-      ((length ids % idSize ≡ 0)
-      × ((length ids ≤ idListSize) × ((g.count ≤ g.most) × ((g.most ≤ trackedLimit) × (g.most * recordSize ≤ length g.table)))))
+      → ((length (take (n * idSize) rest) ≡ n * idSize)
+      × ((n ≤ trackedLimit) × ((g.count ≤ g.most) × ((g.most ≤ trackedLimit) × (g.most * recordSize ≤ length g.table)))))
       × ((rising idSize (entries recordSize g.count g.table) ≡ true)
-      × ((0 < length ids) × ((g.at + length ids / idSize * commandSize ≤ length g.out) × (g.batch + 1 < 65536))))
-  send-asks more room number =
-      let l = front-long in
-      let few = few-wanted in (
-        (rw l (omega arith), (rw l (omega (arith, e .few, few)), (e .held, (e .limit, e .room)))),
-        (e .rise, (rw l (omega arith), (rw l (omega (arith, few)), number))),
-      )
+      × ((0 < n) × ((g.at + n * commandSize ≤ length g.out) × (g.batch + 1 < 65536))))
+  send-asks more room number = (
+    (front-long, (omega (arith, e .few, few-wanted), (e .held, (e .limit, e .room)))),
+    (e .rise, (omega arith, (omega (arith, few-wanted), number))),
+  )
 
   -- the wanted ids, marked and sent, are what rule 3 does
   pub wanted-sent : (gate : Bool) → not gate ≡ false → {answer : Requested} {table out : List ℕ}
@@ -228,15 +225,14 @@ sent-one batch typeId peer [] h = absurd (omega arith)
 sent-one batch typeId peer (id ∷ ids) h = (rw append-nil, refl)
 
 module _ {g : Given} (e : Entered g) where
-  -- what `put_requests` asks
-  pub put-asks : g.at + length g.ids / idSize * commandSize ≤ length g.out
-      → (length g.ids % idSize ≡ 0) × ((length g.ids ≤ idListSize) × (g.at + length (batchOf g) ≤ length g.out))
-  put-asks room =
+  -- room for so many ids is room for their requests
+  pub put-room : (number : ℕ) → length g.ids ≡ number * idSize → g.at + number * commandSize ≤ length g.out
+      → g.at + length (batchOf g) ≤ length g.out
+  put-room number whole room =
       let one = request g.typeid g.peer (idsIn g.ids) in
       let a = sendings-bytes g.batch (one ∷ []) (record { typeId = e .type-fits; peer = e .peer-fits; ids = well-ids g.ids (e .ids-bytes) }, tt) in
       let q : allCommandBytes (commandsOf g.batch one ++ []) ≡ batchOf g = rw append-nil in
-      let l = length-ids g.ids in
-      (e .whole, (e .few, omega (arith, ap length q)))
+      omega (arith, ap length q, counted-ids g.ids whole)
 
   module _ {answer : Marked} {table : List ℕ}
       (m : (answer ≡ markedAs g.most (markedOf g)) × (table ≡ heldWithin g.most g.count (markedOf g) g.table)) where

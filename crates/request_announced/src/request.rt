@@ -26,7 +26,7 @@ pub enum Requested {
     Full,
 }
 
-// "Mark the rest, then send": the ids that rule 3 leaves, one at least.
+// "Mark the rest, then send": the `number` ids that rule 3 leaves, one at least.
 fn mark_and_send(
     table: &mut [u8],
     count: usize,
@@ -35,13 +35,14 @@ fn mark_and_send(
     typeid: u8,
     peer: u64,
     ids: &[u8],
+    number: usize,
     out: &mut [u8],
     at: usize,
     batch: u16,
 ) -> Requested
-    requires { ⌜ (length (now ids) % idSize ≡ 0) × ((length (now ids) ≤ idListSize) × ((count ≤ most) × ((most ≤ trackedLimit) × (most * recordSize ≤ length (now table))))) ⌝ }
+    requires { ⌜ (length (now ids) ≡ number * idSize) × ((number ≤ trackedLimit) × ((count ≤ most) × ((most ≤ trackedLimit) × (most * recordSize ≤ length (now table))))) ⌝ }
     requires { ⌜ rising idSize (entries recordSize count (now table)) ≡ true ⌝ }
-    requires { ⌜ (0 < length (now ids)) × ((at + length (now ids) / idSize * commandSize ≤ length (now out)) × (batch + 1 < 65536)) ⌝ }
+    requires { ⌜ (0 < number) × ((at + number * commandSize ≤ length (now out)) × (batch + 1 < 65536)) ⌝ }
     ensures { λ r. ⌜ r ≡ requestedAs most at batch (requestAnnounced true clock typeid peer (idsIn (now (ids .entry))) (requestsIn count (now (table .entry)))) ⌝ }
     ensures { λ _. ⌜ now (table .exit) ≡ heldWithin most count (requestAnnounced true clock typeid peer (idsIn (now (ids .entry))) (requestsIn count (now (table .entry))) .pending) (now (table .entry)) ⌝ }
     ensures { λ _. ⌜ now (out .exit) ≡ sentWithin most at batch (requestAnnounced true clock typeid peer (idsIn (now (ids .entry))) (requestsIn count (now (table .entry)))) (now (out .entry)) ⌝ }
@@ -49,7 +50,7 @@ fn mark_and_send(
     match mark_requested::mark_requested(table, count, most, clock, typeid, peer, ids) {
         Marked::Full => Requested::Full,
         Marked::Pending(held) => {
-            let place = commands::writing::put_requests(out, at, typeid, batch, peer, ids);
+            let place = commands::writing::put_requests(out, at, typeid, batch, peer, ids, number);
             Requested::Done(Written {
                 count: held,
                 at: place,
@@ -100,6 +101,7 @@ pub fn request_announced(
         typeid,
         peer,
         &rest[..size],
+        number,
         out,
         at,
         batch,

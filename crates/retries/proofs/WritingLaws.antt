@@ -1,5 +1,5 @@
 -- The batches of a list, written one after another.
-use Prim.Native.Nat.{ℕ, suc, _+_, _-_, _*_, _%_, _≤_, _<_}
+use Prim.Native.Nat.{ℕ, suc, _+_, _-_, _*_, _≤_, _<_}
 use mathlib.Core.Path.{_≡_, refl, sym, ap, _∙_}
 use mathlib.Core.Bool.{Bool, true, false}
 use mathlib.Core.List.{List, _∷_}
@@ -24,7 +24,7 @@ use Rattle.retries.specs.declared.batches.Batch as declared
 use Rattle.retries.proofs.FillLaws.{batches-next, batches-end}
 use Rattle.retries.specs.Retried.{idsAt, sendingsOf}
 use Rattle.retries.proofs.GroupLaws.{Sent, first-bytes, sent-starts, sent-ends, batch-within, batch-room, sent-next, length-ids, next-item, batch-ids}
-use Rattle.model.specs.Layout.{idListSize, idSize}
+use Rattle.model.specs.Layout.{idSize}
 
 -- the ids of a batch, and its requests as bytes
 abbrev part-of : declared.Batch → List ℕ → List ℕ
@@ -110,7 +110,7 @@ pub record Turn (t places ids : List ℕ) (batch at : ℕ) (d out : List ℕ) (p
   pub within : r .first + r .count ≤ length places
   pub number-below : number < batch + length places
   pub ids-long : length ids ≡ length places * idSize
-  pub asks : (length (part-of r ids) % idSize ≡ 0) × ((length (part-of r ids) ≤ idListSize) × (place + length (bytes-of number r ids) ≤ length out))
+  pub asks : (length (part-of r ids) ≡ r .count * idSize) × ((r .count ≤ trackedLimit) × (place + length (bytes-of number r ids) ≤ length out))
   pub next : {o : List ℕ} {place′ : ℕ} → (o ≡ overwritten place (bytes-of number r ids) out) × (place′ ≡ place + length (bytes-of number r ids))
       → Writing t places batch at d o place′ (number + 1) (i + 1)
 
@@ -179,7 +179,7 @@ module _ {t places ids : List ℕ} {batch at : ℕ} {d : List ℕ} (a : Asking t
               within = inside;
               number-below = omega (arith, w .sent .number-le, place-within);
               ids-long = ids-length a (w .sent) place-within batch-is;
-              asks = (omega (arith, long), (omega (arith, long, inside, a .few), one-room a (w .sent) place-within batch-is));
+              asks = (long, (omega (arith, inside, a .few), one-room a (w .sent) place-within batch-is));
               next = λ {o} {place′} e. record {
                 f = w .f + r .count;
                 u = w .u - 1;

@@ -74,6 +74,7 @@ fn put_batches(
             number,
             one.target,
             &ids[from..end],
+            one.count,
         );
         number += 1;
         i += 1;

@@ -25,7 +25,7 @@ pub fn say(out: &mut [u8], says: Listed, at: usize, batch: u16, none: &[u8]) -> 
     let Listed::Peer(peer) = says else {
         return at;
     };
-    commands::writing::put_command(out, at, 3, 0, batch, peer, none)
+    commands::writing::put_command(out, at, 3, 0, batch, peer, none, 0)
 }
 
 // The image after a step, its region being worked on already: stalled places, and the header with the counts.

@@ -24,7 +24,7 @@ use Rattle.model.specs.Sections.{Item, Batch, join, adjacent, batchesOf, itemBe
 use Rattle.model.specs.Check.{retryOf, retries, retrySendings}
 use Rattle.model.specs.Image as image
 use Rattle.model.specs.Commands.{commandBytes, allCommandBytes}
-use Rattle.model.proofs.SendingLaws.{weight, bytes-append, performed-weight, retries-weight}
+use Rattle.model.proofs.SendingLaws.{weight, bytes-append, runs-bytes, performed-weight, retries-weight}
 use Rattle.commands.specs.Pending.{requestsIn}
 use Rattle.commands.specs.Sent.{sentBytes}
 use Rattle.model.specs.Layout.{commandHeader, commandSize, idSize, recordSize}
@@ -49,24 +49,6 @@ Whole (announcement peer ids) = ⊥
 Whole (syncInfo peer) = ⊥
 
 -- ---- their bytes
-
-command-long : (c : Command) → Wide idSize (c .ids) → length (commandBytes c) ≡ commandHeader + length (c .ids) * idSize
-unfolding commandBytes
-command-long c w = rw (length-joined idSize (c .ids) w) (omega arith)
-
-runs-bytes : (n typeId batch peer : ℕ) (ids : List Id) → Wide idSize ids
-    → length (allCommandBytes (map (λ (run : List Id). record { kind = 1; typeId = typeId; batch = batch; peer = peer; ids = run }) (runsWithin n ids)))
-    ≤ commandSize * length ids
-runs-bytes zero typeId batch peer ids w = omega arith
-runs-bytes (suc n) typeId batch peer [] w = omega arith
-runs-bytes (suc n) typeId batch peer (id ∷ ids) w =
-    let command : List Id → Command = λ (run : List Id). record { kind = 1; typeId = typeId; batch = batch; peer = peer; ids = run } in
-    let first : List Id = take requestSize (id ∷ ids) in
-    let rest : List Id = drop requestSize (id ∷ ids) in
-    let one = command-long (command first) (all-take WholeId requestSize (id ∷ ids) w) in
-    let others = runs-bytes n typeId batch peer rest (all-drop WholeId requestSize (id ∷ ids) w) in
-    rw (length-append (commandBytes (command first)) (allCommandBytes (map command (runsWithin n rest))))
-    (omega (arith, one, others, length-take requestSize (id ∷ ids), length-drop requestSize (id ∷ ids)))
 
 sent-light : (batch : ℕ) (ss : List Sending) → All Whole ss → length (sentBytes batch ss) ≤ total weight ss
 unfolding sentBytes runs

@@ -1,5 +1,5 @@
 -- Announcements as bytes, and work behind an announcement.
-use Prim.Native.Nat.{ℕ, _+_, _%_, _≤_, _<_}
+use Prim.Native.Nat.{ℕ, _+_, _*_, _%_, _≤_, _<_}
 use mathlib.Core.Path.{_≡_, refl, sym, _∙_, subst}
 use mathlib.Core.Bool.{true}
 use mathlib.Core.List.{List, [], _∷_, _++_, append-nil}
@@ -13,7 +13,7 @@ use borrow.Author.Tests.{eqb-true, leb-true}
 use Rattle.fields.specs.Overwrite.{overwritten}
 use Rattle.fields.proofs.OrderLaws.{and-left, and-right}
 use Rattle.fields.proofs.OverwriteLaws.{overwritten-nil, overwritten-next}
-use Rattle.model.specs.Protocol.{Id}
+use Rattle.model.specs.Protocol.{Id, continuationLimit}
 use Rattle.model.specs.State.{State}
 use Rattle.model.specs.Calls as calls
 use Rattle.model.specs.Requests.{Sending, Command, announcement}
@@ -29,16 +29,23 @@ use Rattle.plan.specs.declared.Plan.{Plan}
 use Rattle.work.specs.declared.Performed.{Performed}
 use Rattle.work.specs.Worked.{Worked, workedBy, fits, performedAs, Performs}
 use Rattle.work_asks.specs.Carried.{announced, carriedBy}
-use Rattle.model.specs.Layout.{chunkSize, idSize, mostBytes}
+use Rattle.model.specs.Layout.{idSize, mostBytes}
 
 -- ---- an announcement
 
-pub continuation-whole : (bytes : List ℕ) → continuationFits bytes ≡ true → (length bytes % idSize ≡ 0) × (length bytes ≤ chunkSize)
+abbrev mostContinued : ℕ
+mostContinued = continuationLimit * idSize
+
+pub continuation-whole : (bytes : List ℕ) → continuationFits bytes ≡ true → (length bytes % idSize ≡ 0) × (length bytes ≤ mostContinued)
 unfolding continuationFits listFits
 continuation-whole bytes h = (
-  eqb-true (length bytes % idSize) 0 (and-left (eqb (length bytes % idSize) 0) (leb (length bytes) chunkSize) h),
-  leb-true (length bytes) chunkSize (and-right (eqb (length bytes % idSize) 0) (leb (length bytes) chunkSize) h),
+  eqb-true (length bytes % idSize) 0 (and-left (eqb (length bytes % idSize) 0) (leb (length bytes) mostContinued) h),
+  leb-true (length bytes) mostContinued (and-right (eqb (length bytes % idSize) 0) (leb (length bytes) mostContinued) h),
 )
+
+-- counted one by one they are all of the bytes
+pub counted-all : (bytes : List ℕ) {count : ℕ} → continuationFits bytes ≡ true → count ≡ length (idsIn bytes) → length bytes ≡ count * idSize
+counted-all bytes h e = omega (arith, e, length-ids bytes, continuation-whole bytes h)
 
 no-ids : (bytes : List ℕ) → length bytes < 1 → idsIn bytes ≡ []
 unfolding idsIn

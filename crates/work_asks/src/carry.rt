@@ -41,7 +41,8 @@ fn announce(out: &mut [u8], announces: Listed, continuation: &[u8]) -> Placed
     if continuation.len() < 1 {
         return Placed { at: 0, batch: 0 };
     }
-    let at = commands::writing::put_command(out, 0, 2, 101, 0, peer, continuation);
+    let count = commands::counting::count_ids(continuation);
+    let at = commands::writing::put_command(out, 0, 2, 101, 0, peer, continuation, count);
     Placed { at, batch: 1 }
 }
 

@@ -1,7 +1,7 @@
 -- What is marked is sent as one batch: `marked-then-sent`; too many, and neither is done.
 use borrow.Author.Needs.{needs}
 use native.Mathlib.Omega.{arith}
-use Rattle.request_announced.proofs.RequestedLaws.{Given, Entered, put-asks, marked-too-many, marked-then-sent}
+use Rattle.request_announced.proofs.RequestedLaws.{Given, Entered, put-room, marked-too-many, marked-then-sent}
 use Rattle.request_announced.proofs.request.mark_and_send.Statement.{statement}
 use Rattle.request_announced.proofs.request.mark_and_send.Tie as tie
 
@@ -33,8 +33,8 @@ module _ (c : tie.After-slice-known2) where
       let ids : tie.After-shared-slice-known = search in
       let p = start .pre .0 in
       record {
-        whole = p .0;
-        few = p .1 .0;
+        whole = omega (arith, p .0);
+        few = omega (arith, p .0, p .1 .0);
         held = p .1 .1 .0;
         limit = p .1 .1 .1 .0;
         room = p .1 .1 .1 .1;
@@ -59,10 +59,11 @@ enum-known-held c = search needs
 put-requests-requires : tie.Need-put-requests-requires
 put-requests-requires c κs =
     let here : tie.After-slice-known2 = search in
-    put-asks (entered here) (start here .pre .1 .1 .1 .0)
+    let whole = start here .pre .0 .0 in
+    (whole, (start here .pre .0 .1 .0, put-room (entered here) (start here .args .number) whole (start here .pre .1 .1 .1 .0)))
 
-add-t19 : tie.Need-add-t19
-add-t19 c = search needs
+add-t20 : tie.Need-add-t20
+add-t20 c = search needs
 
 same-length : tie.Need-same-length
 same-length c = search needs
@@ -86,7 +87,8 @@ returns-2 c =
     let told : tie.After-held = search in
     let sent : tie.After-put-requests = search in
     let some = start here .pre .1 .1 .0 in
-    marked-then-sent (entered here) (marked .mark-requested .ensures) some (told .held .given .1) (sent .put-requests .ensures)
+    marked-then-sent (entered here) (marked .mark-requested .ensures) (omega (arith, start here .pre .0 .0, some)) (told .held .given .1)
+    (sent .put-requests .ensures)
 
 pub mark-and-send-spec : {M : Type 1} → statement M
 mark-and-send-spec =
@@ -96,7 +98,7 @@ mark-and-send-spec =
     enum-told
     enum-known-held
     put-requests-requires
-    add-t19
+    add-t20
     same-length
     returns
     same-length-2

@@ -1,5 +1,5 @@
 -- Nothing, or one command with the ids: `nobody-told`, `nothing-told`, `told`.
-use Rattle.work_asks.proofs.SentLaws.{continuation-whole, nobody-told, nothing-told, told}
+use Rattle.work_asks.proofs.SentLaws.{continuation-whole, counted-all, nobody-told, nothing-told, told}
 use Rattle.work_asks.proofs.RoomLaws.{told-room}
 use borrow.Author.Needs.{needs}
 use native.Mathlib.Omega.{arith}
@@ -26,13 +26,18 @@ returns-2 c =
     let listed = peer .announces .given in
     nothing-told (a .announces) (a .continuation .now) (a .out .now) (listed .0 .0) (listed .1) (omega (arith, c .if1 .taken))
 
+count-ids-requires : tie.Need-count-ids-requires
+count-ids-requires c κs = search needs
+
 put-command-requires : tie.Need-put-command-requires
 put-command-requires c κs =
     let s : tie.Start = search in
     let peer : tie.After-announces = search in
+    let number : tie.After-count-ids = search in
     let whole = continuation-whole (s .args .continuation .now) (s .pre .0) in
+    let counted = counted-all (s .args .continuation .now) (s .pre .0) (number .count-ids .ensures) in
     let room = told-room (peer .announces .given .1) (s .pre .1) in
-    (whole .0, (omega (arith, whole .1), omega (arith, whole .1, room)))
+    (counted, (omega (arith, counted, whole .1), omega (arith, whole .1, room)))
 
 same-length : tie.Need-same-length
 same-length c = search needs
@@ -57,6 +62,7 @@ announce-spec =
     enum-told
     returns
     returns-2
+    count-ids-requires
     put-command-requires
     same-length
     returns-3)
