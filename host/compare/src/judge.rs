@@ -6,7 +6,7 @@ use crate::report::Report;
 use keeper_oracle::{Observed, Oracle, Reason, Sent, Verdict};
 use keeper_reference::image;
 use keeper_streams::Opening;
-use keeper_values::numbers::{kinds, types};
+use keeper_values::numbers::{commands, kinds, limits, types};
 use keeper_values::{read_commands, Answer, Call, Command, Id, Keeper, Mode, State};
 use std::collections::BTreeSet;
 
@@ -47,6 +47,21 @@ fn shell_sends(commands: Vec<Command>, fails: &[usize], entry: bool) -> Vec<Sent
         }
     }
     sends
+}
+
+/// F-4: every request of a batch carries 400 ids but the last, which carries 1 to 400. Of those behind a failed send the Rust
+/// says nothing.
+fn whole_runs(written: &[Command]) -> Result<(), String> {
+    for batch in written.chunk_by(|one, next| one.batch == next.batch) {
+        let counts: Vec<usize> = batch.iter().map(|command| command.ids.len()).collect();
+        let whole = counts.split_last().is_some_and(|(last, others)| {
+            (1..=limits::RUN).contains(last) && others.iter().all(|count| *count == limits::RUN)
+        });
+        if batch[0].kind == commands::REQUEST && !whole {
+            return Err(format!("a batch of requests with {counts:?} ids"));
+        }
+    }
+    Ok(())
 }
 
 /// The refusals that the Rust has no say in, for a call that is well formed as bytes.
@@ -177,8 +192,10 @@ impl<'k> Trial<'k> {
         same("answer", &expected, answer)?;
         same("state", &observed.state, &unordered(&self.state))?;
         let commands = read_commands(written).ok_or("the commands end within one")?;
+        let whole = whole_runs(&commands);
         let sends = shell_sends(commands, &call.fails, observed.state.entry_mark);
         same("sends", &observed.sends, &sends)?;
+        whole?;
         if image::write(&self.state) != self.areas.state {
             return Err("the state area is not the one image of its state".to_string());
         }

@@ -1,5 +1,7 @@
-//! What the pages name, and the edits of the crates. The tests of this crate see that each name is there and each edit fits.
+//! What the pages name, and the edits of the crates. The tests of this crate see that each name is there and each edit fits,
+//! and that nothing is divided where ids are cut.
 
+pub mod division;
 pub mod edits;
 
 use std::collections::{HashMap, HashSet};
@@ -26,6 +28,11 @@ pub struct Tree {
 pub struct Missing {
     pub line: usize,
     pub name: String,
+}
+
+/// The repository's root.
+pub fn root() -> PathBuf {
+    Path::new(env!("CARGO_MANIFEST_DIR")).join("../..")
 }
 
 fn files(folder: &Path) -> io::Result<Vec<PathBuf>> {

@@ -2,13 +2,9 @@
 //! its crate.
 
 use keeper_pages::edits::misfit;
-use keeper_pages::{Missing, Tree};
+use keeper_pages::{root, Missing, Tree};
 use std::fs;
 use std::path::{Path, PathBuf};
-
-fn root() -> PathBuf {
-    Path::new(env!("CARGO_MANIFEST_DIR")).join("../..")
-}
 
 fn pages(root: &Path) -> Vec<PathBuf> {
     let mut pages = Vec::new();

@@ -1,7 +1,21 @@
 //! The commands of a step, as bytes (docs/LAYOUT.md, "Commands").
 
-use keeper_values::numbers::commands;
+use crate::Run;
+use keeper_values::numbers::{commands, limits};
 use keeper_values::Id;
+
+/// Rule 3: "each request carries a run of at most 400 consecutive ids of that list"; every one but the last carries 400 (F-4).
+pub fn runs(ids: &[Id]) -> Vec<&[Id]> {
+    ids.chunks(limits::RUN).collect()
+}
+
+/// A list as one batch of requests.
+pub fn requests(run: &mut Run, peer: u64, type_id: u8, ids: &[Id]) {
+    for ids in (run.rules.runs)(ids) {
+        run.commands.request(peer, type_id, ids);
+    }
+    run.commands.batches += 1;
+}
 
 /// What a step has written so far.
 #[derive(Debug, Clone, Default)]
@@ -19,12 +33,9 @@ impl Commands {
         self.bytes.extend(ids.iter().flatten());
     }
 
-    /// One batch of requests, in runs of at most `run` consecutive ids.
-    pub fn requests(&mut self, peer: u64, type_id: u8, ids: &[Id], run: usize) {
-        for ids in ids.chunks(run) {
-            self.command(commands::REQUEST, type_id, peer, ids);
-        }
-        self.batches += 1;
+    /// One request, of the batch that its list is.
+    pub fn request(&mut self, peer: u64, type_id: u8, ids: &[Id]) {
+        self.command(commands::REQUEST, type_id, peer, ids);
     }
 
     pub fn announcement(&mut self, peer: u64, type_id: u8, ids: &[Id]) {

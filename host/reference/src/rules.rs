@@ -1,4 +1,4 @@
-//! Every decision of the reference as a field. [`PLAIN`] is document 01 with F-1 to F-3; a variant is
+//! Every decision of the reference as a field. [`PLAIN`] is document 01 with F-1 to F-4; a variant is
 //! `Rules { one: .., ..PLAIN }`.
 
 use crate::delivery::{Check, Retry};
@@ -6,8 +6,8 @@ use crate::entries::Before;
 use crate::map::{Cell, Map, Mapped};
 use crate::steps::Outcome;
 use crate::sync::Stored;
-use crate::{delivery, entries, forecast, image, inputs, map, steps, sync, Refusal, Run};
-use keeper_values::numbers::limits;
+use crate::{commands, delivery, entries, forecast, image, inputs, map, steps, sync};
+use crate::{Refusal, Run};
 use keeper_values::{Arguments, Forecast, Id, Mode, Row, Settings, State};
 use std::collections::{BTreeMap, BTreeSet};
 use std::ops::RangeInclusive;
@@ -18,14 +18,11 @@ macro_rules! rules {
         #[derive(Clone, Copy)]
         pub struct Rules {
             $($($(#[$note])* pub $rule: $type,)*)*
-            /// Ids in one request.
-            pub run_length: usize,
         }
 
         /// The documents' own rules.
         pub const PLAIN: Rules = Rules {
             $($($rule: rules!(@value $module $rule $($name)?),)*)*
-            run_length: limits::RUN,
         };
     };
     (@value $module:ident $rule:ident) => { $module::$rule };
@@ -70,6 +67,10 @@ rules! {
         arguments_fit: fn(&Rules, &State, &Arguments) -> Result<(), Refusal>,
         result_fits: fn(&Before, &State) -> Result<(), Refusal>,
         pairs: fn(&State, u8) -> BTreeSet<(u8, Id)>,
+    }
+    commands {
+        runs: fn(&[Id]) -> Vec<&[Id]>,
+        requests: fn(&mut Run, u64, u8, &[Id]),
     }
     forecast {
         count_commands: fn(&[u8]) -> u32,

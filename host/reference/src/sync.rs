@@ -59,8 +59,7 @@ pub fn request_announced(run: &mut Run, peer: u64, type_id: u8, ids: &[Id], stor
         return;
     }
     (run.rules.mark_requested)(run, &needed, peer, type_id);
-    run.commands
-        .requests(peer, type_id, &needed, run.rules.run_length);
+    (run.rules.requests)(run, peer, type_id, &needed);
 }
 
 /// Rule 4: the window's last height, "min(downloaded + 192, chain height)", the sum exact.
@@ -153,8 +152,7 @@ pub fn send_retries(run: &mut Run, retries: &[Retry]) {
     }
     for (target, type_id, ids) in (run.rules.retry_batches)(run, retries) {
         (run.rules.mark_retried)(run, &ids, target);
-        run.commands
-            .requests(target, type_id, &ids, run.rules.run_length);
+        (run.rules.requests)(run, target, type_id, &ids);
     }
 }
 

@@ -8,6 +8,7 @@ mod heights;
 mod limits;
 mod messages;
 mod peers;
+mod runs;
 mod shapes;
 
 pub use delivery::d2;
@@ -16,6 +17,7 @@ pub use peers::d1;
 /// All directed streams.
 pub fn scripts() -> Vec<Script> {
     let mut scripts = delivery::scripts();
+    scripts.extend(runs::scripts());
     scripts.extend(messages::scripts());
     scripts.extend(peers::scripts());
     scripts.extend(heights::scripts());

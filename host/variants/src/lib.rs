@@ -12,6 +12,7 @@ mod maps;
 mod messages;
 mod requests;
 mod results;
+mod runs;
 mod targets;
 mod ticks;
 
@@ -26,6 +27,9 @@ pub const TARGETS: &str = "F-2";
 
 /// The place of the forecast's variants.
 pub const FORECAST: &str = "F-3";
+
+/// The place of those that count a list of ids off into requests.
+pub const RUNS: &str = "F-4";
 
 /// A keeper with one fault.
 #[derive(Clone, Copy)]
@@ -62,6 +66,7 @@ pub fn all() -> Vec<Variant> {
         maps::variants(),
         targets::variants(),
         forecasts::variants(),
+        runs::variants(),
     ]
     .concat()
 }

@@ -210,14 +210,14 @@ fn requests() -> Vec<Variant> {
         fault(
             "puts 401 ids into a request",
             Rules {
-                run_length: 401,
+                runs: |ids| ids.chunks(401).collect(),
                 ..PLAIN
             },
         ),
         fault(
             "puts 399 ids into a request",
             Rules {
-                run_length: 399,
+                runs: |ids| ids.chunks(399).collect(),
                 ..PLAIN
             },
         ),

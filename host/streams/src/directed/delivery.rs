@@ -5,7 +5,7 @@ use crate::Script;
 use keeper_values::numbers::kinds;
 use keeper_values::{Mode, Request, Settings, State};
 
-fn request(peer: u64, type_id: u8, stamp: u64, checks: u32) -> Request {
+pub(super) fn request(peer: u64, type_id: u8, stamp: u64, checks: u32) -> Request {
     Request {
         peer,
         type_id,
@@ -279,69 +279,6 @@ fn lost(scripts: &mut Vec<Script>) {
     }
 }
 
-/// Runs of 400 in each place that cuts them.
-fn runs(scripts: &mut Vec<Script>) {
-    for count in [399, 400, 401, 800, 801, 1_024] {
-        for fails in [vec![], vec![0], vec![1]] {
-            let name = format!("runs of {count}, failing {fails:?}");
-            scripts.push(
-                Build::begun(&name, CASES, 4)
-                    .call(kinds::ANNOUNCED, |c| {
-                        c.peer = 6;
-                        c.type_id = 102;
-                        c.ids = ids(1, count);
-                        c.fails = fails.clone();
-                    })
-                    .at(10_000)
-                    .call(kinds::CHECK, |c| {
-                        c.peers = vec![6, 4];
-                        c.fails = fails.clone();
-                    })
-                    .call(kinds::LOST_PEER, |c| {
-                        c.peer = 4;
-                        c.peers = vec![5];
-                        c.fails = fails.clone();
-                    })
-                    .done(),
-            );
-            scripts.push(
-                Build::begun(&format!("fresh: {name}"), CASES, 4)
-                    .call(kinds::EVICTED, |c| c.ids = ids(1, count))
-                    .call(kinds::CHECK, |c| {
-                        c.peers = vec![6, 4];
-                        c.fails = fails.clone();
-                    })
-                    .done(),
-            );
-        }
-    }
-    // One id over and over: sent as often, entered once.
-    scripts.push(
-        Build::begun("runs of one id 401 times", CASES, 4)
-            .announce(6, 102, vec![id(1); 401])
-            .done(),
-    );
-    // Two targets and two types, each batch of more than one run.
-    let mut mixed = pending(1, 401, request(4, 102, 0, 0));
-    mixed.extend(pending(500, 401, request(5, 101, 0, 0)));
-    mixed.extend(pending(1_000, 222, request(4, 101, 0, 0)));
-    for fails in [vec![], vec![0, 2]] {
-        let state = State {
-            pending: mixed.clone(),
-            ..syncing(CASES, 0)
-        };
-        scripts.push(
-            Build::put("retries of two targets", state)
-                .at(10_000)
-                .call(kinds::CHECK, |c| {
-                    c.peers = vec![4, 5];
-                    c.fails = fails;
-                })
-                .done(),
-        );
-    }
-}
-
 pub fn scripts() -> Vec<Script> {
     let mut scripts = Vec::new();
     timeouts(&mut scripts);
@@ -349,6 +286,5 @@ pub fn scripts() -> Vec<Script> {
     passed_over(&mut scripts);
     evictions(&mut scripts);
     lost(&mut scripts);
-    runs(&mut scripts);
     scripts
 }

@@ -3,7 +3,7 @@
 use crate::build::{id, missing, place, syncing, Build, CASES};
 use crate::Script;
 use keeper_values::numbers::kinds;
-use keeper_values::{Mode, Row, State, View};
+use keeper_values::{Mode, Place, Row, State, View};
 
 const RUNS_RULE_4: [u8; 4] = [
     kinds::PROGRESS,
@@ -77,6 +77,33 @@ fn windows(scripts: &mut Vec<Script>) {
                         c.peers = peers;
                         // Rule 5, where it runs, stops at the first row.
                         c.view = missing(6, rows.max(u32::from(kind != kinds::PROGRESS)));
+                    })
+                    .done(),
+            );
+        }
+    }
+}
+
+/// Windows that lack three sections of one type at a height: a list of more ids than one request carries.
+fn windows_of_one_type(scripts: &mut Vec<Script>) {
+    for count in [399, 400, 401, 576] {
+        let places: Vec<Place> = (1..=count)
+            .map(|number| place(102, number, false))
+            .collect();
+        let rows = places.chunks(3).map(|row| Row::Present(row.to_vec()));
+        let view = View {
+            first: 1,
+            rows: rows.collect(),
+        };
+        for kind in RUNS_RULE_4 {
+            let name = format!("window of {count} sections of one type, kind {kind}");
+            scripts.push(
+                Build::put(&name, from(0, mode_of(kind)))
+                    .call(kind, |c| {
+                        c.type_id = 101;
+                        c.height = view.rows.len() as u32;
+                        c.peers = vec![6, 4];
+                        c.view = view.clone();
                     })
                     .done(),
             );
@@ -256,6 +283,7 @@ fn top(scripts: &mut Vec<Script>) {
 pub fn scripts() -> Vec<Script> {
     let mut scripts = Vec::new();
     windows(&mut scripts);
+    windows_of_one_type(&mut scripts);
     window_edge(&mut scripts);
     advances(&mut scripts);
     reorgs(&mut scripts);
