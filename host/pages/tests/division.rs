@@ -12,9 +12,10 @@ const CUTTING: [&str; 2] = [
 ];
 
 /// What they call, all the way down: numbers as bytes, sizes, copies.
-const CALLED: [&str; 4] = [
+const CALLED: [&str; 5] = [
     "crates/fields/src/lib.rt",
     "crates/model/src/layout.rt",
+    "crates/model/src/lib.rt",
     "crates/spans/src/copying.rt",
     "crates/spans/src/moving.rt",
 ];
