@@ -65,7 +65,7 @@ fn a_hang_is_made_short_in_time() {
     let mistake = "hangs-in-a-reorg";
     let options = Options {
         patience: Duration::from_secs(2),
-        shrink: Duration::from_secs(4),
+        shrink: Duration::from_secs(10),
         ..few_streams()
     };
     let start = Instant::now();
@@ -73,5 +73,5 @@ fn a_hang_is_made_short_in_time() {
     let found = verdict.found.expect("it is found");
     page_says(mistake, found.stream.calls.len());
     assert!(report.contains("no whole answer within 2000 ms"));
-    assert!(start.elapsed() < Duration::from_secs(20));
+    assert!(start.elapsed() < Duration::from_secs(30));
 }
