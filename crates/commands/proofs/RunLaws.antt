@@ -3,7 +3,7 @@ use Prim.Native.Nat.{ℕ, zero, suc, _+_, _-_, _*_, _/_, _%_, _≤_, _<_, min}
 use mathlib.Core.Path.{_≡_, refl, sym, ap, _∙_}
 use mathlib.Core.List.{List, [], _∷_, _++_}
 use native.Mathlib.Omega.{arith}
-use lib.ListN.{length, take, drop, length-append, length-drop, length-take, drop-of-length-le}
+use lib.ListN.{length, take, drop, length-append, length-drop, drop-of-length-le}
 use lib.Seq.{drop-drop, take-all, length-take-le}
 use Rattle.fields.specs.Entries.{entries}
 use Rattle.fields.specs.Overwrite.{overwritten}
@@ -13,7 +13,7 @@ use Rattle.model.specs.Protocol.{Id, requestSize, trackedLimit}
 use Rattle.model.specs.Requests.{request, runs, runsWithin, commandsOf}
 use Rattle.model.specs.Lists.{idsIn}
 use Rattle.model.specs.Commands.{commandBytes, allCommandBytes}
-use Rattle.commands.proofs.WriteLaws.{length-ids, counted-ids, commandFor, length-command}
+use Rattle.commands.proofs.WriteLaws.{counted-ids, commandFor, length-command}
 use Rattle.model.specs.Layout.{idSize}
 
 -- ---- runs of ids

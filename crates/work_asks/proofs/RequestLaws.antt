@@ -1,33 +1,32 @@
 -- Requests as bytes: at most a command's size for each id, whatever their types and peers.
-use Prim.Native.Nat.{ℕ, zero, suc, _+_, _*_, _≤_}
+use Prim.Native.Nat.{ℕ, suc, _+_, _*_, _≤_}
 use mathlib.Core.Path.{_≡_}
 use mathlib.Core.Bool.{Bool, true, false, not, _&&_}
 use mathlib.Core.List.{List, [], _∷_, _++_, map}
 use native.Mathlib.Omega.{arith}
-use lib.ListN.{length, take, drop, length-append, length-take, length-drop}
+use lib.ListN.{length}
 use lib.Seq.{length-take-le}
 use lib.Dec.{eqb}
 use Rattle.fields.specs.Facts.{All}
 use Rattle.fields.specs.Filter.{kept}
 use Rattle.fields.specs.Sort.{sorted}
 use Rattle.fields.specs.Entries.{entries}
-use Rattle.fields.proofs.AllLaws.{all-append, all-kept, all-take, all-drop, all-map, either}
+use Rattle.fields.proofs.AllLaws.{all-append, all-kept, all-map, either}
 use Rattle.fields.proofs.SortLaws.{all-sorted}
 use Rattle.fields.proofs.TotalLaws.{total, total-append}
-use Rattle.fields.proofs.EntriesLaws.{Wide, entries-wide, length-joined}
-use Rattle.model.specs.Protocol.{Id, requestSize}
+use Rattle.fields.proofs.EntriesLaws.{Wide, entries-wide}
+use Rattle.model.specs.Protocol.{Id}
 use Rattle.model.specs.Settings.{Settings}
 use Rattle.model.specs.Delivery.{Request, verdict, verdictNumber, retried, judged, isPending}
-use Rattle.model.specs.Requests.{Pair, isStored, Sending, request, announcement, syncInfo, Command, runsWithin, runs, commandsOf, commandsFrom}
+use Rattle.model.specs.Requests.{Pair, isStored, Sending, request, announcement, syncInfo, runs, commandsOf, commandsFrom}
 use Rattle.model.specs.Requests.{ask, wanted, requestOf, performAll}
 use Rattle.model.specs.Sections.{Item, Batch, join, adjacent, batchesOf, itemBelow}
 use Rattle.model.specs.Check.{retryOf, retries, retrySendings}
 use Rattle.model.specs.Image as image
-use Rattle.model.specs.Commands.{commandBytes, allCommandBytes}
 use Rattle.model.proofs.SendingLaws.{weight, bytes-append, runs-bytes, performed-weight, retries-weight}
 use Rattle.commands.specs.Pending.{requestsIn}
 use Rattle.commands.specs.Sent.{sentBytes}
-use Rattle.model.specs.Layout.{commandHeader, commandSize, idSize, recordSize}
+use Rattle.model.specs.Layout.{commandSize, idSize, recordSize}
 
 -- an id of whole width, and what has such ids
 abbrev WholeId : Id → Type 0

@@ -5,9 +5,10 @@ use keeper_pages::root;
 use std::collections::BTreeMap;
 use std::fs;
 
-/// The files that cut: a list into runs, and runs into commands with their counts.
-const CUTTING: [&str; 2] = [
+/// The files that cut: a list into runs, runs into commands with their counts; and that count an announcement's ids.
+const CUTTING: [&str; 3] = [
     "crates/commands/src/chunk.rt",
+    "crates/commands/src/counting.rt",
     "crates/commands/src/writing.rt",
 ];
 

@@ -56,7 +56,7 @@ pub record Uncut (s : Seen) : Type 0 where
   pub parts : s .sent ≡ again ++ anew
   pub oneAgain : EachNext OneBatch again
   pub oneAnew : EachNext OneBatch anew
-  -- and no number is that of a list of each
+  -- and no number stands for a list of each
   pub apart : All (λ (c : Command). All (λ (d : Command). c .batch < d .batch) anew) again
   -- only a check retries, and what it asks for anew are the fresh ids
   pub elsewhere : (s .call .kind ≡ Numbers.check → ⊥) → again ≡ []
@@ -68,5 +68,6 @@ pub record Batches (s : Seen) : Type 0 where
   -- "Batches are numbered from 0 within a step", without a gap
   pub from : StartsAt 0 (s .sent)
   pub follows : EachNext Follows (s .sent)
+  -- F-4, whatever the number
   pub cut : (batch : ℕ) → Cut (requestsOf batch (s .sent))
   pub uncut : Uncut s
