@@ -1,7 +1,7 @@
 -- Decimal numbers digit by digit, and bytes in hex.
 use Prim.Native.Nat.{ℕ, ◌+◌, ◌-◌, ◌*◌, ◌≤◌, ◌<◌}
 use mathlib.Core.Path.{◌≡◌, refl, sym, ap, ◌∙◌}
-use mathlib.Core.Bool.{Bool, true, false, ◌&&◌, cond, and_false, false≢true}
+use mathlib.Core.Bool.{Bool, true, false, ◌&&◌, cond, and-false, false≢true}
 use mathlib.Core.List.{List, [], ◌∷◌}
 use mathlib.Core.Option.{Option, none, some}
 use lib.Dec.{leb, ltb}
@@ -27,7 +27,7 @@ within_below low high n l = rw (lt-leb low n l)
 
 pub within_above : (low high n : ℕ) → high < n → within low high n ≡ false
 unfolding within
-within_above low high n h = rw (lt-leb n high h, and_false (leb low n))
+within_above low high n h = rw (lt-leb n high h, and-false (leb low n))
 
 -- ---- decimal, digit by digit
 
@@ -56,7 +56,7 @@ value_grows n (byte ∷ bytes) = omega (arith, value_grows (n * 10 + (byte - 48)
 pub decimal_too_large : (limit n : ℕ) (bytes : List ℕ) → limit ≤ n → decimal_after limit n bytes ≡ none
 unfolding decimal_after
 decimal_too_large limit n bytes h =
-    rw (le-ltb (value_after n bytes) limit (omega (arith, value_grows n bytes)), and_false (all_digits bytes))
+    rw (le-ltb (value_after n bytes) limit (omega (arith, value_grows n bytes)), and-false (all_digits bytes))
 
 pub decimal_digit : (limit n i : ℕ) (s : List ℕ) → i < length s → 48 ≤ get_or s i 0 → get_or s i 0 ≤ 57
     → decimal_after limit n (drop i s) ≡ decimal_after limit (n * 10 + (get_or s i 0 - 48)) (drop (i + 1) s)

@@ -9,7 +9,7 @@ use mathlib.Core.Path.{◌≡◌, subst, sym}
 use Prim.Native.Nat.{ℕ}
 use mathlib.Core.List.{[], ◌∷◌, List}
 use seplogic.Ra.Ura.{Ura}
-use seplogic.Ra.TreeShare.{full_share}
+use base.Fraction.{full_share}
 use mir.Syntax.{Ty, Lifetime, Width, int_big}
 use mir.Val.{Val, Fits, vint}
 use base.Logic.{SProp, ent, sep, emp, via, fst∗, snd∗, emp∗, comm∗, mono_l, guard, guard_i}
@@ -19,7 +19,7 @@ use types.Logic.{Logic, sem}
 use contract.Monad.{fact, fact_i, fact_use}
 use types.Kit.{Item, Step, step, prop, ‵, ◌$◌, ◌∵◌, !, ◌⊛◌, qed, move, drop, use1, split, fsplit, fjoin, fpick, fpack, frame, check, done}
 use types.Run.{Opd}
-use denote.RattleType.{RattleType}
+use denote.RattleType.{RattleType, RowLaws}
 use denote.Laws.{Is, Makes, Tells, shows}
 use denote.Memory.{cell_at, part_at, part_of}
 use denote.Ref.{Bor}
@@ -73,10 +73,10 @@ module _ (ℓ₁ ℓ₂ : Lifetime) (κ₁ κ₂ : Lft) (R₁ R₂ : RattleType)
   abbrev pub slices_own : Fml
   slices_own = fsep ((ShrSlice ℓ₁ κ₁ R₁).own_val x₁ vs₁) (fsep ((ShrSlice ℓ₂ κ₂ R₂).own_val x₂ vs₂) ftrue)
 
-  pub slices_twice : {M : Type 1} {𝓤 : Ura M} (𝓛 : Logic 𝓤) → ent 𝓤 (sem 𝓛 slices_own) (sep 𝓤 (sem 𝓛 slices_own) (sem 𝓛 slices_own))
-  slices_twice 𝓛 =
-      qed 𝓛 (‵ slices_own ∷ []) ∵ fsplit ! $ use1 𝓛 (‵ ((ShrSlice ℓ₁ κ₁ R₁).own_val x₁ vs₁) ⊛ ‵ ((ShrSlice ℓ₁ κ₁ R₁).own_val x₁ vs₁)) ((shr_slice_copy 𝓛 ℓ₁ κ₁ R₁).twice x₁ vs₁) $ split ! $ move ! (2 ∷ []) $ fsplit ! $
-      use1 𝓛 (‵ ((ShrSlice ℓ₂ κ₂ R₂).own_val x₂ vs₂) ⊛ ‵ ((ShrSlice ℓ₂ κ₂ R₂).own_val x₂ vs₂)) ((shr_slice_copy 𝓛 ℓ₂ κ₂ R₂).twice x₂ vs₂) $ split ! $
+  pub slices_twice : {M : Type 1} {𝓤 : Ura M} (𝓛 : Logic 𝓤) → RowLaws R₁ → RowLaws R₂ → ent 𝓤 (sem 𝓛 slices_own) (sep 𝓤 (sem 𝓛 slices_own) (sem 𝓛 slices_own))
+  slices_twice 𝓛 L₁ L₂ =
+      qed 𝓛 (‵ slices_own ∷ []) ∵ fsplit ! $ use1 𝓛 (‵ ((ShrSlice ℓ₁ κ₁ R₁).own_val x₁ vs₁) ⊛ ‵ ((ShrSlice ℓ₁ κ₁ R₁).own_val x₁ vs₁)) ((shr_slice_copy 𝓛 ℓ₁ κ₁ R₁ L₁).twice x₁ vs₁) $ split ! $ move ! (2 ∷ []) $ fsplit ! $
+      use1 𝓛 (‵ ((ShrSlice ℓ₂ κ₂ R₂).own_val x₂ vs₂) ⊛ ‵ ((ShrSlice ℓ₂ κ₂ R₂).own_val x₂ vs₂)) ((shr_slice_copy 𝓛 ℓ₂ κ₂ R₂ L₂).twice x₂ vs₂) $ split ! $
       -- [the second's; the second's; true; the first's; the first's]
       move ! (0 ∷ 2 ∷ []) $ fjoin ! $ move ! (2 ∷ 0 ∷ []) $ fjoin ! $ frame ! $ nothing ! $ move ! (1 ∷ 0 ∷ []) $ fjoin ! $ move ! (1 ∷ 0 ∷ []) $ fjoin ! $ done !
 

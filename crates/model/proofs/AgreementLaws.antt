@@ -2,7 +2,7 @@
 use Prim.Native.Nat.{ℕ, ◌+◌, ◌≤◌}
 use mathlib.Core.Path.{◌≡◌, refl, sym, ap, ◌∙◌}
 use mathlib.Core.Bool.{Bool, true, false, cond, ◌&&◌, false≢true}
-use mathlib.Core.List.{List, [], ◌++◌, map, map_map}
+use mathlib.Core.List.{List, [], ◌++◌, map, map-map}
 use native.Mathlib.Omega.{arith}
 use lib.ListN.{length}
 use lib.Dec.{eqb, leb}
@@ -107,7 +107,7 @@ module _ (settings : Settings) (clock : ℕ) (check : Bool) (fate : Request → 
 
   again_ids : (target : ℕ → ℕ) → item_ids (again target) ≡ ids_of (restarting fate (open_requests stays))
   unfolding retry_of
-  again_ids target = map_map (λ (i : Item). i.id) (retry_of target) (restarting fate (open_requests stays))
+  again_ids target = map-map (λ (i : Item). i.id) (retry_of target) (restarting fate (open_requests stays))
 
   again_agrees : (target : ℕ → ℕ) → Distinct (open_ids stays) → All (Good settings) stays → Sound settings gone first
       → Agrees settings gone (mark_all_retried (again target) (open_requests first.open'))

@@ -2,7 +2,7 @@
 use Prim.Native.Nat.{ℕ, suc, ◌+◌}
 use mathlib.Core.Path.{◌≡◌, refl, ap}
 use mathlib.Core.Bool.{Bool, true, false, not, cond}
-use mathlib.Core.List.{List, [], ◌∷◌, map, map_map}
+use mathlib.Core.List.{List, [], ◌∷◌, map, map-map}
 use native.Mathlib.Omega.{arith}
 use lib.ListN.{length}
 use lib.Dec.{eqb}
@@ -23,7 +23,7 @@ abbrev pub open_ids : List Stay → List Id
 open_ids stays = map (λ (s : Stay). s.request.id) stays
 
 pub open_ids_lem : (stays : List Stay) → ids_of (open_requests stays) ≡ open_ids stays
-open_ids_lem stays = map_map (λ (r : Request). r.id) (λ (s : Stay). s.request) stays
+open_ids_lem stays = map-map (λ (r : Request). r.id) (λ (s : Stay). s.request) stays
 
 abbrev pub remains_by : ℕ → Fate → Request → List Request → List Request
 remains_by clock open' r rest = r ∷ rest

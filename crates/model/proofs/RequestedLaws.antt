@@ -2,7 +2,7 @@
 use Prim.Native.Nat.{ℕ, zero, suc, ◌≤◌}
 use mathlib.Core.Path.{◌≡◌, refl, sym, ap, ◌∙◌}
 use mathlib.Core.Bool.{Bool, true, false, cond, ◌&&◌}
-use mathlib.Core.List.{List, [], ◌∷◌, ◌++◌, map, map_append, append_assoc, append-nil}
+use mathlib.Core.List.{List, [], ◌∷◌, ◌++◌, map, map-append, append_assoc, append-nil}
 use native.Mathlib.Omega.{arith}
 use lib.Dec.{eqb}
 use lib.ListN.{length, drop, take-append-drop, length-drop}
@@ -49,7 +49,7 @@ requested_in_append (c ∷ a) b = rw (requested_in_append a b) (sym (append_asso
 requested_runs : (batch type_id peer : ℕ) (all : List (List Id))
     → requested_in (map (λ (run : List Id). record { kind = 1; type_id = type_id; batch = batch; peer = peer; ids = run }) all) ≡ map (requested type_id peer) (together all)
 requested_runs batch type_id peer [] = refl
-requested_runs batch type_id peer (run ∷ others) = rw (requested_runs batch type_id peer others) (sym (map_append (requested type_id peer) run (together others)))
+requested_runs batch type_id peer (run ∷ others) = rw (requested_runs batch type_id peer others) (sym (map-append (requested type_id peer) run (together others)))
 
 requested_one : (batch : ℕ) (s : Sending) → requested_in (commands_of batch s) ≡ requested_by_sendings (s ∷ [])
 unfolding runs

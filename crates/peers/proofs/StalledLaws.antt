@@ -2,7 +2,7 @@
 use Prim.Native.Nat.{ℕ, zero, suc, ◌+◌, ◌-◌, ◌*◌, ◌≤◌, ◌<◌}
 use mathlib.Core.Path.{◌≡◌, refl, sym, ap, ◌∙◌}
 use mathlib.Core.Bool.{true, false}
-use mathlib.Core.List.{List, [], ◌∷◌, ◌++◌, map, map_append, append_assoc}
+use mathlib.Core.List.{List, [], ◌∷◌, ◌++◌, map, map-append, append_assoc}
 use native.Mathlib.Nat.{add-zero, sub-zero, zero-add, suc-add, lt_irrefl}
 use native.Mathlib.Omega.{arith}
 use lib.ListN.{length, take, drop, get_or, set, length-map}
@@ -77,7 +77,7 @@ pub read_next : (i v : ℕ) (peers bytes : List ℕ) → i < length peers → el
     → v ≡ from_be (take 8 (drop (i * 8) bytes))
     → elements (i + 1) 0 (set peers i v) ≡ map from_be (entries 8 (i + 1) bytes)
 read_next i v peers bytes h e r =
-    rw (elements_joined i v peers h, entries_add 8 i 1 bytes, map_append from_be (entries 8 i bytes) (entries 8 1 (drop (i * 8) bytes)), e, r)
+    rw (elements_joined i v peers h, entries_add 8 i 1 bytes, map-append from_be (entries 8 i bytes) (entries 8 1 (drop (i * 8) bytes)), e, r)
 
 -- peers as their bytes, one after another
 abbrev pub peer_bytes : List ℕ → List ℕ
@@ -88,7 +88,7 @@ length_peer_bytes peers = length_joined 8 (map (to_be 8) peers) (numbers_wide 8 
 
 pub peer_bytes_snoc : (peers : List ℕ) (peer : ℕ) → peer_bytes (peers ++ (peer ∷ [])) ≡ peer_bytes peers ++ to_be 8 peer
 peer_bytes_snoc peers peer =
-    rw (map_append (to_be 8) peers (peer ∷ []), joined_append (map (to_be 8) peers) (to_be 8 peer ∷ [])) (simp append_assoc)
+    rw (map-append (to_be 8) peers (peer ∷ []), joined_append (map (to_be 8) peers) (to_be 8 peer ∷ [])) (simp append_assoc)
 
 -- the first i peers written over a list
 abbrev pub written : List ℕ → ℕ → List ℕ → List ℕ

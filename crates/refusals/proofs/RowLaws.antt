@@ -1,7 +1,7 @@
 -- Rows of a view: the bytes of one where they stand, its places, and all rows one by one.
 use Prim.Native.Nat.{ℕ, zero, suc, ◌+◌, ◌-◌, ◌*◌, ◌≤◌, ◌<◌}
 use mathlib.Core.Path.{◌≡◌, refl, sym, ap, ◌∙◌}
-use mathlib.Core.Bool.{Bool, true, false, not, cond, ◌&&◌, and_true, and_assoc}
+use mathlib.Core.Bool.{Bool, true, false, not, cond, ◌&&◌, and-true, and_assoc}
 use mathlib.Core.List.{List, [], ◌∷◌, ◌++◌}
 use native.Mathlib.Nat.{add-zero}
 use native.Mathlib.Numerals.{add-one}
@@ -82,7 +82,7 @@ three_flags row =
     get_or-take place_size second pair_size 0 (omega arith) ∙ get_or-drop place_size places pair_size 0 ∙ get_or-drop 1 row 67 0 in
     let c : get_or (take place_size third) pair_size 0 ≡ get_or row 102 0 =
     get_or-take place_size third pair_size 0 (omega arith) ∙ get_or-drop place_size second pair_size 0 ∙ get_or-drop place_size places 67 0 ∙ get_or-drop 1 row 101 0 in
-    rw (a, b, c, and_true (leb (get_or row 102 0) 1))
+    rw (a, b, c, and-true (leb (get_or row 102 0) 1))
 
 -- ---- a row
 

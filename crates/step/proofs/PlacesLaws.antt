@@ -1,7 +1,7 @@
 -- The stalled set read from its places, and written to them.
 use Prim.Native.Nat.{ℕ, ◌+◌, ◌-◌, ◌*◌, ◌≤◌, ◌<◌}
 use mathlib.Core.Path.{◌≡◌, refl, sym, ap, ◌∙◌}
-use mathlib.Core.List.{List, [], ◌∷◌, ◌++◌, map, map_append}
+use mathlib.Core.List.{List, [], ◌∷◌, ◌++◌, map, map-append}
 use native.Mathlib.Omega.{arith}
 use lib.ListN.{length, length-append, length-map}
 use Rattle.fields.specs.Number.{from_be, to_be}
@@ -62,9 +62,9 @@ module _ {held after places places' : List ℕ} {count n m : ℕ} (peer : ℕ)
       ∙ numbers_again 8 peers in
       let new : map (to_be 8) after ≡ map (to_be 8) (peers ++ (peer ∷ [])) =
       ap (map (to_be 8)) joins
-      ∙ map_append (to_be 8) held (peer ∷ [])
+      ∙ map-append (to_be 8) held (peer ∷ [])
       ∙ ap (λ (x : List (List ℕ)). x ++ (to_be 8 peer ∷ [])) old
-      ∙ sym (map_append (to_be 8) peers (peer ∷ [])) in
+      ∙ sym (map-append (to_be 8) peers (peer ∷ [])) in
       let k : length (peers ++ (peer ∷ [])) ≡ length peers + 1 = length-append peers (peer ∷ []) in
       places_written after (peers ++ (peer ∷ [])) places' m written new (omega arith)
 

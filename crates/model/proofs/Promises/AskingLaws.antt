@@ -77,6 +77,7 @@ module _ (clock : ℕ) where
         asked = requested type_id peer id ∷ []
 
         is_asked : (q : Requested) → Among q asked → requested type_id peer id ≡ q
+        is_asked q (inr x') = elim x' [ ]
         is_asked q (inl e) = sym e
 
         go : (t : Bool) → is_pending id rs ≡ t → Grows clock rs asked (cond t rs (inserted id_before (entering id) rs))
@@ -104,6 +105,7 @@ module _ (clock : ℕ) where
     so_after id g x so r a e = ⊎_elim (λ b. so r b e) (λ n. one n.requested) (g.comes r a)
       where
         one : Among (as_requested r) (requested type_id peer id ∷ []) → as_requested r ≡ requested type_id peer x
+        one (inr x'') = elim x'' [ ]
         one (inl f) = f ∙ ap (requested type_id peer) (sym (ap (λ (q : Requested). q.id) f) ∙ e)
 
     marks_grow : (ids : List Id) (rs : List Request) → All (AskedSo rs) ids

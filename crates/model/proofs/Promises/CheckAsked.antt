@@ -3,7 +3,7 @@ use Prim.Native.Nat.{ℕ, ◌≤◌}
 use mathlib.Core.Path.{◌≡◌, refl, sym, ap, ◌∙◌, subst}
 use mathlib.Core.Bool.{Bool, true, false, cond, ◌&&◌}
 use mathlib.Core.Logic.{◌⊎◌, inl, inr, ⊎_elim}
-use mathlib.Core.List.{List, [], ◌∷◌, ◌++◌, map, map_map}
+use mathlib.Core.List.{List, [], ◌∷◌, ◌++◌, map, map-map}
 use lib.Dec.{eqb}
 use borrow.Author.Tests.{eqb-true, eq-eqb}
 use Rattle.fields.specs.Facts.{All}
@@ -79,7 +79,7 @@ of_peer_retries target due rs peer type_id =
       kept_map (retry_of target) test (kept due rs),
       kept_kept (λ (r : Request). test (retry_of target r)) due rs,
     )
-    (map_map (λ (i : Item). i.id) (retry_of target) (kept (λ (r : Request). due r && test (retry_of target r)) rs))
+    (map-map (λ (i : Item). i.id) (retry_of target) (kept (λ (r : Request). due r && test (retry_of target r)) rs))
 
 -- ---- what goes out
 

@@ -2,7 +2,7 @@
 use Prim.Native.Nat.{ℕ}
 use mathlib.Core.Path.{◌≡◌, refl, ap, ◌∙◌}
 use mathlib.Core.Bool.{Bool, false}
-use mathlib.Core.List.{List, [], ◌∷◌, map, map_map}
+use mathlib.Core.List.{List, [], ◌∷◌, map, map-map}
 use lib.Dec.{eqb}
 use Rattle.fields.specs.Order.{same}
 use Rattle.fields.specs.Filter.{cons_if}
@@ -87,7 +87,7 @@ module _ (settings : Settings) (clock : ℕ) where
     unfolding judged retry_of
     not_among_again id rs n =
         let test : Request → Bool = λ (r : Request). eqb (verdict_number (verdict settings clock r)) (verdict_number Delivery.retried) in
-        rw (map_map (λ (i : Item). i.id) (retry_of target) (judged settings clock Delivery.retried rs)) (not_among_kept (λ (r : Request). r.id) test id rs n)
+        rw (map-map (λ (i : Item). i.id) (retry_of target) (judged settings clock Delivery.retried rs)) (not_among_kept (λ (r : Request). r.id) test id rs n)
 
     pub checked_again : (rs : List Request) → RisingIds (ids_of rs)
         → mark_all_retried (again rs) (check_timeouts settings clock rs) ≡ checked target rs

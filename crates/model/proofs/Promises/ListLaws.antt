@@ -14,6 +14,7 @@ use Rattle.model.specs.Promises.Words.{Among}
 
 module _ {A : Type 0} where
   pub among_front : (x : A) (xs ys : List A) → Among x xs → Among x (xs ++ ys)
+  among_front x [] ys x'' = elim x'' [ ]
   among_front x (z ∷ xs) ys (inl e) = inl e
   among_front x (z ∷ xs) ys (inr a) = inr (among_front x xs ys a)
 
@@ -38,10 +39,12 @@ module _ {A : Type 0} where
 
 module _ {A B : Type 0} (f : A → B) where
   pub among_map : (y : B) (xs : List A) → Among y (map f xs) → (x : A) × Among x xs × (y ≡ f x)
+  among_map y [] x' = elim x' [ ]
   among_map y (x ∷ xs) (inl e) = (x, inl refl, e)
   among_map y (x ∷ xs) (inr a) = let p = among_map y xs a in (p.0, inr p.1, p.2)
 
   pub map_among : (x : A) (xs : List A) → Among x xs → Among (f x) (map f xs)
+  map_among x [] x'' = elim x'' [ ]
   map_among x (y ∷ ys) (inl e) = inl (ap f e)
   map_among x (y ∷ ys) (inr a) = inr (map_among x ys a)
 
@@ -52,6 +55,7 @@ all_of P f [] = tt
 all_of P f (x ∷ xs) = (f x, all_of P f xs)
 
 pub all_among : {A : Type 0} (P : A → Type 0) (x : A) (xs : List A) → All P xs → Among x xs → P x
+all_among {A = A} P x [] h x3 = elim x3 [ ]
 all_among P x (y ∷ ys) h (inl e) = subst P (sym e) h.0
 all_among P x (y ∷ ys) h (inr a) = all_among P x ys h.1 a
 

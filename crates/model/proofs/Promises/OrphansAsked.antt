@@ -3,7 +3,7 @@ use Prim.Native.Nat.{ℕ, ◌<◌}
 use mathlib.Core.Path.{◌≡◌, refl, sym, ap, ◌∙◌, subst}
 use mathlib.Core.Bool.{Bool, true, not, ◌&&◌}
 use mathlib.Core.Logic.{◌⊎◌, inl, inr}
-use mathlib.Core.List.{List, map, map_map}
+use mathlib.Core.List.{List, map, map-map}
 use native.Mathlib.Nat.{lt_irrefl}
 use native.Mathlib.Omega.{arith}
 use lib.Dec.{eqb}
@@ -57,7 +57,7 @@ items_for peer rs = map (item_for peer) rs
 items_ids : (type_id peer : ℕ) (rs : List Request) → of_type type_id (items_for peer rs) ≡ ids_of (kept (λ (r : Request). eqb r.type_id type_id) rs)
 items_ids type_id peer rs =
     rw (kept_map (item_for peer) (λ (i : Item). eqb i.type_id type_id) rs)
-    (map_map (λ (i : Item). i.id) (item_for peer) (kept (λ (r : Request). eqb r.type_id type_id) rs))
+    (map-map (λ (i : Item). i.id) (item_for peer) (kept (λ (r : Request). eqb r.type_id type_id) rs))
 
 module _ (lost : ℕ) where
   -- an orphan of this type

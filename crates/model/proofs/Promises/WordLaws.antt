@@ -84,6 +84,7 @@ request_pending id rs r a e = subst (PendingId rs) e (map_among (λ (r : Request
 
 -- no two have one id
 pub one_request : (rs : List Request) → RisingIds (ids_of rs) → (q r : Request) → Among q rs → Among r rs → q.id ≡ r.id → q ≡ r
+one_request [] d q r x4 _ i = elim x4 [ ]
 one_request (s ∷ rs) d q r (inl e) (inl f) i = e ∙ sym f
 one_request (s ∷ rs) d q r (inl e) (inr b) i =
     absurd (not_again s.id (ids_of rs) d.0 (request_pending s.id rs r b (sym i ∙ ap (λ (x : Request). x.id) e)))
