@@ -78,7 +78,10 @@ requested_join i (b ∷ batches) = go (eqb i.type_id b.type_id) (eqb i.peer b.pe
     go : (p q : Bool) → eqb i.type_id b.type_id ≡ p → eqb i.peer b.peer ≡ q
         → requested_by_sendings (map batch_sending (cond (p && q) (record { type_id = b.type_id; peer = b.peer; ids = i.id ∷ b.ids } ∷ batches) (record { type_id = i.type_id; peer = i.peer; ids = i.id ∷ [] } ∷ (b ∷ batches))))
         ≡ requested_item i ∷ requested_by_sendings (map batch_sending (b ∷ batches))
-    go true true e f = rw (← eqb-true i.type_id b.type_id e, ← eqb-true i.peer b.peer f)
+    go true true e f =
+        let t : i.type_id ≡ b.type_id = eqb-true i.type_id b.type_id e in
+        let p : i.peer ≡ b.peer = eqb-true i.peer b.peer f in
+        cc
     go true false e f = refl
     go false q e f = refl
 
