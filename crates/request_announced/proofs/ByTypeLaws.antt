@@ -62,7 +62,7 @@ module _ (peer : ℕ) where
           ≡ record { type_id = get_or x 0 0; peer = peer; ids = ids_with x (y ∷ ys) } ∷ adjacent (map (pair_item peer) (behind x (y ∷ ys)))
       go true e q =
           let a : get_or x 0 0 ≡ get_or y 0 0 = eqb-true (get_or x 0 0) (get_or y 0 0) e in
-          rw (a, eq-eqb (get_or y 0 0) (get_or y 0 0) refl)
+          rw (ap (λ (type_id : ℕ). of_type type_id ys) a, a, eq-eqb (get_or y 0 0) (get_or y 0 0) refl)
       go false e q =
           let n : eqb (get_or y 0 0) (get_or x 0 0) ≡ false = ne_eqb (get_or y 0 0) (get_or x 0 0) (λ z. eqb-false (get_or x 0 0) (get_or y 0 0) e (sym z)) in
           rw (n, q)

@@ -56,6 +56,12 @@ module _ (x : Item) where
 abbrev batch_of : Item → List Id → Batch
 batch_of x ids = record { type_id = x.type_id; peer = x.peer; ids = ids }
 
+-- items of one type and target are alike to the same others
+span_alike : (x y : Item) → x.type_id ≡ y.type_id → x.peer ≡ y.peer → (zs : List Item) → span (alike x) zs ≡ span (alike y) zs
+unfolding alike
+span_alike x y a b [] = refl
+span_alike x y a b (z ∷ zs) = rw (a, b, span_alike x y a b zs) refl
+
 adjacent_turn : (x : Item) (xs : List Item) → adjacent (x ∷ xs) ≡ batch_of x (ids_with x xs) ∷ adjacent (behind x xs)
 unfolding alike
 adjacent_turn x [] = refl
@@ -68,7 +74,7 @@ adjacent_turn x (y ∷ ys) = rw (adjacent_turn y ys) (go (eqb x.type_id y.type_i
     go true e q =
         let a : x.type_id ≡ y.type_id = eqb-true x.type_id y.type_id (and_left (eqb x.type_id y.type_id) (eqb x.peer y.peer) e) in
         let b : x.peer ≡ y.peer = eqb-true x.peer y.peer (and_right (eqb x.type_id y.type_id) (eqb x.peer y.peer) e) in
-        rw (e, a, b)
+        rw (e, span_alike x y a b ys, a, b)
     go false e q = rw (e, q)
 
 commands_append : (cs ds : List Command) → all_command_bytes (cs ++ ds) ≡ all_command_bytes cs ++ all_command_bytes ds

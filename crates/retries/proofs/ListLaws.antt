@@ -11,7 +11,7 @@ use mathlib.Core.List.{[], ◌∷◌, List, map}
 use mathlib.Core.Path.{refl, ◌∙◌}
 use lib.ListN.{length-map}
 use seplogic.Ra.Ura.{Ura}
-use seplogic.Ra.TreeShare.{full_share}
+use base.Fraction.{full_share}
 use mir.Syntax.{w8, w64, ty_array}
 use mir.Val.{Val, vint, vstruct, vnil, vcons}
 use base.Logic.{ent, guard}
