@@ -3,6 +3,8 @@
 // Reading equals `from_be`, writing is `overwritten` with `to_be`. The crate's specs/ also hold what every other crate
 // shares: the order of byte lists, tables of entries of any width, filters and the plain sort. A write touches its own
 // bytes of the slice that it is lent. Either costs one load or store where the width is known.
+#![tactic(auto)]
+
 ghost use Rattle.std.specs.Prelude.{◌≡◌, ◌+◌, ◌*◌, ◌^◌, ◌≤◌, ◌<◌, length, take, drop};
 ghost use Rattle.fields.specs.Number.{from_be, to_be, to_le};
 ghost use Rattle.fields.specs.Overwrite.{overwritten};
