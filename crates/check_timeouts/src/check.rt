@@ -17,7 +17,7 @@ use model::layout::{ID_SIZE, RECORD_SIZE};
 use peers::aim::Aim;
 use settings::Settings;
 
-#[derive(Drop)]
+#[derive(Clone, Copy)]
 pub struct Checked {
     pub pending: usize,
     pub retried: usize,
@@ -26,7 +26,7 @@ pub struct Checked {
 }
 
 // What a check makes of one request.
-#[derive(Drop)]
+#[derive(Clone, Copy)]
 enum Verdict {
     Waiting,
     Retried,

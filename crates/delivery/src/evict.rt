@@ -10,7 +10,7 @@ ghost use Rattle.model.specs.Protocol.{tracked_limit};
 
 use model::layout::{ID_SIZE, RECORD_SIZE, TRACKED_LIMIT};
 
-#[derive(Drop)]
+#[derive(Clone, Copy)]
 pub enum Evicted {
     Pending(usize),
     Full,

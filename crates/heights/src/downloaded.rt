@@ -8,7 +8,7 @@ ghost use Rattle.model.specs.Lists.{view_of, view_fits};
 ghost use Rattle.heights.specs.Advanced.{advance_of};
 
 // The height reached, and whether every height that was read has a row.
-#[derive(Drop)]
+#[derive(Clone, Copy)]
 pub struct Advance {
     pub height: u32,
     pub seen: bool,

@@ -5,7 +5,7 @@ ghost use Rattle.image.specs.Heads.{head_in};
 
 use settings::{SendClock, Settings};
 
-#[derive(Drop)]
+#[derive(Clone, Copy)]
 pub struct Head {
     pub mode: u8,
     pub used: bool,

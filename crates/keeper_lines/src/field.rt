@@ -6,7 +6,7 @@ ghost use Rattle.keeper_lines.specs.Reading.{field_of, field_behind, end_behind}
 
 use crate::numerals::Number;
 
-#[derive(Drop)]
+#[derive(Clone, Copy)]
 pub enum Field {
     // value, end
     Read(u64, usize),

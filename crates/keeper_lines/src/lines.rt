@@ -8,7 +8,7 @@ ghost use Rattle.keeper_lines.specs.Reading.{fields_behind};
 
 use crate::field::Field;
 
-#[derive(Drop)]
+#[derive(Clone, Copy)]
 pub enum Line {
     // timeout, limit
     Settings(u32, u32),

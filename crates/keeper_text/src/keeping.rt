@@ -16,7 +16,7 @@ use request_announced::request::Requested;
 use settings::Settings;
 
 // What is kept from line to line, beside the table of pending requests.
-#[derive(Drop)]
+#[derive(Clone, Copy)]
 pub struct Keeper {
     // `t` was read
     pub begun: bool,
@@ -25,7 +25,7 @@ pub struct Keeper {
     pub count: usize,
 }
 
-#[derive(Drop)]
+#[derive(Clone, Copy)]
 pub enum Answer {
     // the keeper then, and where its answer ends
     Next(Keeper, usize),

@@ -13,7 +13,7 @@ ghost use Rattle.model.specs.Layout.{table_size};
 use crate::keeping::{Answer, Keeper};
 
 // How far some text was answered.
-#[derive(Drop)]
+#[derive(Clone, Copy)]
 pub struct Progress {
     pub keeper: Keeper,
     pub used: usize,

@@ -4,7 +4,7 @@ ghost use Rattle.fields.specs.Entries.{entries, entry, rising};
 ghost use Rattle.fields.specs.Order.{before, same};
 ghost use Rattle.keys.specs.Find.{found, Passed};
 
-#[derive(Drop)]
+#[derive(Clone, Copy)]
 pub enum Found {
     At(usize),
     Gap(usize),

@@ -4,7 +4,7 @@ ghost use Rattle.fields.specs.Number.{from_be};
 ghost use Rattle.keys.specs.Decide.{Decides};
 
 // A word of each run.
-#[derive(Drop)]
+#[derive(Clone, Copy)]
 pub struct Words {
     pub left: u64,
     pub right: u64,

@@ -27,7 +27,7 @@ pub extern "C" fn leaf_copy_prefix(src: &[u8], count: usize, dst: &mut [u8]) -> 
 }
 
 #[repr(C)]
-#[derive(Drop)]
+#[derive(Clone, Copy)]
 pub struct Area {
     pub bytes: [u8; 65536],
 }

@@ -13,7 +13,7 @@ ghost use Rattle.model.specs.Protocol.{tracked_limit};
 use model::layout::{ID_SIZE, RECORD_SIZE};
 
 // What comes next: the table's record, nothing since the id comes again or is pending, or the id's record.
-#[derive(Drop)]
+#[derive(Clone, Copy)]
 pub enum Choice {
     Keep,
     Skip,

@@ -15,7 +15,7 @@ use keys::find::Found;
 use model::layout::{ID_SIZE, RECORD_SIZE};
 
 // How many requests are pending, or that they would be too many.
-#[derive(Drop)]
+#[derive(Clone, Copy)]
 pub enum Marked {
     Pending(usize),
     Full,

@@ -21,7 +21,7 @@ use crate::entering::Marked;
 use model::layout::{ID_SIZE, RECORD_SIZE};
 
 // How far the pass is: records and ids dealt with, records in the room.
-#[derive(Drop)]
+#[derive(Clone, Copy)]
 pub struct Front {
     pub records: usize,
     pub ids: usize,

@@ -9,7 +9,7 @@ use crate::Listed;
 use crate::stalled::Stalled;
 
 // To their own peer, or to the first peer considered and, for what failed there, to another.
-#[derive(Drop)]
+#[derive(Clone, Copy)]
 pub enum Aim {
     Same,
     Other(u64, u64),

@@ -15,7 +15,7 @@ ghost use Rattle.peers.specs.Peers.{listed_peer};
 
 use crate::stalled::Stalled;
 
-#[derive(Drop)]
+#[derive(Clone, Copy)]
 pub enum Listed {
     Peer(u64),
     Nobody,

@@ -6,7 +6,7 @@ ghost use Rattle.fields.specs.Entries as bytes;
 ghost use Rattle.model.specs.Peers as model;
 ghost use Rattle.peers.specs.Stalled.{stalled_peers};
 
-#[derive(Drop)]
+#[derive(Clone, Copy)]
 pub struct Stalled {
     pub peers: [u64; 256],
     pub count: usize,

@@ -12,7 +12,7 @@ use peers::Listed;
 use peers::aim::Aim;
 
 // The numbers of a call.
-#[derive(Drop)]
+#[derive(Clone, Copy)]
 pub struct Call {
     pub kind: u8,
     pub clock: u64,
@@ -27,7 +27,7 @@ pub struct Call {
 }
 
 // What is taken out of pending and what is asked for, and of which peer.
-#[derive(Drop)]
+#[derive(Clone, Copy)]
 pub enum Work {
     Nothing,
     // rule 3, the listed ids
@@ -47,7 +47,7 @@ pub enum Work {
     CheckFresh(u64, Aim),
 }
 
-#[derive(Drop)]
+#[derive(Clone, Copy)]
 pub enum Stalling {
     Stay,
     Empty,
@@ -55,7 +55,7 @@ pub enum Stalling {
 }
 
 // In this order: continuation ids are announced, the work is done, a sync info goes out.
-#[derive(Drop)]
+#[derive(Clone, Copy)]
 pub struct Plan {
     pub outcome: u8,
     // the header after the step, but for the counts of pending and evicted

@@ -6,7 +6,7 @@ ghost use Rattle.model.specs.Events.{tip_outcome, raised_tip, not_above};
 ghost use Rattle.plan_messages.specs.Heard.{outcome_of};
 
 // What a sync info comes to.
-#[derive(Drop)]
+#[derive(Clone, Copy)]
 pub enum Heard {
     Continue,
     Synced,

@@ -13,14 +13,14 @@ use mark_requested::entering::Marked;
 use model::layout::ID_SIZE;
 
 // How many are pending, the place behind the commands, and the next batch's number.
-#[derive(Drop)]
+#[derive(Clone, Copy)]
 pub struct Written {
     pub count: usize,
     pub at: usize,
     pub batch: u16,
 }
 
-#[derive(Drop)]
+#[derive(Clone, Copy)]
 pub enum Requested {
     Done(Written),
     Full,

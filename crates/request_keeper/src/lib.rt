@@ -155,7 +155,7 @@ pub extern "C" fn request_keeper_forecast(
 
 // The question's two numbers, in the order of docs/LAYOUT.md.
 #[repr(C)]
-#[derive(Drop)]
+#[derive(Clone, Copy)]
 pub struct Asked {
     pub number: u32,
     pub length: u32,

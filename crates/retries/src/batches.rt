@@ -12,7 +12,7 @@ ghost use Rattle.model.specs.Protocol.{tracked_limit};
 use model::layout::{ID_SIZE, RECORD_SIZE};
 
 // "each a target, a type, a first place and a count"
-#[derive(Drop)]
+#[derive(Clone, Copy)]
 pub struct Batch {
     pub target: u64,
     pub typeid: u8,
@@ -21,7 +21,7 @@ pub struct Batch {
 }
 
 // The first `count` of the list are batches.
-#[derive(Drop)]
+#[derive(Clone, Copy)]
 pub struct Batches {
     pub list: [Batch; 1024],
     pub count: usize,

@@ -20,7 +20,7 @@ ghost use Rattle.model.specs.Protocol.{tracked_limit};
 use crate::batches::Batch;
 use model::layout::{ID_LIST_SIZE, ID_SIZE, RECORD_SIZE, TRACKED_LIMIT};
 
-#[derive(Drop)]
+#[derive(Clone, Copy)]
 pub struct Written {
     pub at: usize,
     pub batch: u16,

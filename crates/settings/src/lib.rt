@@ -11,7 +11,7 @@ ghost use Rattle.model.specs.Peers as peers;
 ghost use Rattle.settings.specs.Values.{settings_of, send_clock_of};
 
 // "Settings are 32-bit values held with their rules": timeout, `max_checks`, `min_sync_send_interval`, `stall_timeout`.
-#[derive(Drop)]
+#[derive(Clone, Copy)]
 pub struct Settings {
     pub timeout: u32,
     pub checks: u32,
@@ -73,13 +73,13 @@ impl Settings {
 }
 
 // "The send clock (last send, sends counted) is one small record".
-#[derive(Drop)]
+#[derive(Clone, Copy)]
 pub struct SendClock {
     pub last: u64,
     pub sends: u32,
 }
 
-#[derive(Drop)]
+#[derive(Clone, Copy)]
 pub struct Sent {
     pub clock: SendClock,
     pub sent: bool,

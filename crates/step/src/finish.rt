@@ -17,7 +17,7 @@ use work::Counts;
 
 // Nine numbers, in the order of docs/LAYOUT.md.
 #[repr(C)]
-#[derive(Drop)]
+#[derive(Clone, Copy)]
 pub struct Answer {
     pub number: u32,
     pub outcome: u32,

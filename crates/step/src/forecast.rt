@@ -21,7 +21,7 @@ use plan::{Call, Plan};
 
 // Six numbers, in the order of docs/LAYOUT.md.
 #[repr(C)]
-#[derive(Drop)]
+#[derive(Clone, Copy)]
 pub struct Forecast {
     pub number: u32,
     pub outcome: u32,

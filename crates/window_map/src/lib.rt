@@ -22,7 +22,7 @@ use model::layout::MAP_SIZE;
 
 // The number of a refusal or 0, and how many heights can be passed.
 #[repr(C)]
-#[derive(Drop)]
+#[derive(Clone, Copy)]
 pub struct Passable {
     pub number: u32,
     pub heights: u32,

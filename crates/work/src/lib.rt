@@ -16,7 +16,7 @@ ghost use Rattle.plan.specs.declared.Work.TheVariants as works;
 
 use image::head::Head;
 
-#[derive(Drop)]
+#[derive(Clone, Copy)]
 pub struct Counts {
     pub pending: usize,
     pub evicted: usize,
@@ -28,7 +28,7 @@ pub struct Counts {
     pub batch: u16,
 }
 
-#[derive(Drop)]
+#[derive(Clone, Copy)]
 pub enum Performed {
     Done(Counts),
     Full,

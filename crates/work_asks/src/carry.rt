@@ -20,7 +20,7 @@ use plan::{Call, Plan};
 use work::Performed;
 
 // The place behind some commands and the next batch.
-#[derive(Drop)]
+#[derive(Clone, Copy)]
 struct Placed {
     at: usize,
     batch: u16,
