@@ -3,6 +3,8 @@
 // What is written are the bytes of `commands_of` (model/specs/Requests.antt), from `at` on; no other byte is touched. A
 // command costs a copy of its ids. specs/ also say what a table of pending requests stands for: records, ids rising, at the
 // front of a slice.
+#![tactic(auto)]
+
 pub mod chunk;
 pub mod counting;
 pub mod writing;

@@ -4,6 +4,8 @@
 // Received, evicted, purged and orphaned ids: each function equals the definition of its name in model/specs/Delivery.antt.
 // mark_requested and check_timeouts are crates of their own. Only the region is written, and what is removed is zero again.
 // A list of n ids costs n log n comparisons and one pass over the table.
+#![tactic(auto)]
+
 pub mod evict;
 mod marks;
 pub mod orphans;

@@ -1,7 +1,7 @@
 -- The starred cases hold: one test, computed over the table, and the lemma that turns it into an equation for each case.
 use Prim.Native.Nat.{ℕ}
 use mathlib.Core.Path.{◌≡◌, refl}
-use mathlib.Core.Bool.{true, ◌&&◌, false≢true}
+use mathlib.Core.Bool.{true, false≢true}
 use mathlib.Core.List.{List, [], ◌∷◌}
 use Rattle.fields.specs.Facts.{All}
 use Rattle.fields.specs.Order.{same}

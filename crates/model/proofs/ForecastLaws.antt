@@ -10,7 +10,7 @@ use borrow.Author.Tests.{eqb-true, eqb-false}
 use Rattle.model.specs.Image.{decode}
 use Rattle.model.specs.Commands.{commands_in}
 use Rattle.model.specs.Calls.{Call, step_refusal, step}
-use Rattle.model.specs.Forecast.{forecast_refusal, figures, forecast, shown, ForecastHolds}
+use Rattle.model.specs.Forecast.{forecast_refusal, forecast, shown, ForecastHolds}
 use Rattle.model.specs.Layout.{area_size}
 use Rattle.model.proofs.Well.{Well}
 use Rattle.model.proofs.RoundLaws.{decode_well}

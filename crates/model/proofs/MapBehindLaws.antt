@@ -14,7 +14,7 @@ use Rattle.fields.proofs.OrderLaws.{and_left, and_right}
 use Rattle.model.specs.Protocol.{window_size}
 use Rattle.model.specs.Sections.{Section, Header, View, Advance, all_stored, past, advance_within}
 use Rattle.model.specs.Sections as sections
-use Rattle.model.specs.WindowMap.{Cell, absent, present, all, Map, is_complete, flags_in, cell_in, cell_at, cells_behind, is_there, shows, filled, with_flag, places, cell_here, in_window, changed, new_heights, new_behind, slid, complete_run}
+use Rattle.model.specs.WindowMap.{Cell, absent, all, Map, is_complete, flags_in, cell_in, cell_at, cells_behind, is_there, shows, filled, with_flag, places, cell_here, in_window, changed, new_heights, new_behind, slid, complete_run}
 use Rattle.model.specs.MapRuns.{with_place, with_stored, places_in, has_rows, has_rows_up_to}
 use Rattle.model.proofs.MapCallLaws.{length_behind}
 

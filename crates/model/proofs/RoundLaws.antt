@@ -11,7 +11,7 @@ use borrow.Author.Tests.{ne_eqb}
 use Rattle.fields.specs.Facts.{All, Bytes}
 use Rattle.fields.specs.Number.{from_be, to_be}
 use Rattle.fields.specs.Zero.{zeros, all_zero}
-use Rattle.fields.specs.Entries.{entries, rising}
+use Rattle.fields.specs.Entries.{entries}
 use Rattle.fields.proofs.NumberLaws.{from_be_one, bytes_drop}
 use Rattle.fields.proofs.ZeroLaws.{all_zero_zeros}
 use Rattle.fields.proofs.EntriesLaws.{Wide, length_entries, entries_wide, entries_bytes}

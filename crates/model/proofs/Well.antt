@@ -1,7 +1,7 @@
 -- What holds of the state of every opened core after any finished step: it fits its layout, and the image is well formed.
 use Prim.Native.Nat.{ℕ, ◌+◌, ◌≤◌, ◌<◌, ◌^◌}
 use mathlib.Core.Path.{◌≡◌}
-use mathlib.Core.Bool.{Bool, true, false}
+use mathlib.Core.Bool.{true, false}
 use mathlib.Core.List.{List, [], ◌∷◌}
 use lib.ListN.{length}
 use Rattle.fields.specs.Facts.{All, Bytes}

@@ -2,6 +2,9 @@
 //
 // Here only the numbers that code and definitions share: the protocol's under the names that the Rust gives them, and in
 // `layout` the widths and sizes of docs/LAYOUT.md.
+
+#![tactic(auto)]
+
 pub mod layout;
 
 pub const TRANSACTION_TYPE_ID: u8 = 2;

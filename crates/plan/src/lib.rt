@@ -3,6 +3,8 @@
 // `specs/Plans.antt` says what a plan stands for in the model. Here are its types and the plans that several steps share
 // (`continuing`, `sync_infos`, `next_sections`); plan_modes and plan_messages have those of single steps, plan_step that of
 // any call. Reads header, numbers, peers and view, never a record, and costs the view rows that rules 4 and 5 read.
+#![tactic(auto)]
+
 pub mod continuing;
 pub mod next_sections;
 pub mod sync_infos;

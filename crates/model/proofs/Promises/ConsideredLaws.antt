@@ -1,8 +1,8 @@
 -- F-2: the peers that a retry considers, and where it goes: the rule's words against those of a user.
 use Prim.Native.Nat.{ℕ}
-use mathlib.Core.Path.{◌≡◌, refl, sym, ap, ◌∙◌, subst}
+use mathlib.Core.Path.{◌≡◌, refl, ap, ◌∙◌, subst}
 use mathlib.Core.Bool.{Bool, true, false, not, cond}
-use mathlib.Core.Logic.{◌⊎◌, inl, inr}
+use mathlib.Core.Logic.{inl, inr}
 use mathlib.Core.List.{List, [], ◌∷◌}
 use native.Mathlib.Omega.{arith}
 use lib.ListN.{length}
@@ -14,7 +14,7 @@ use Rattle.model.specs.Promises.Pending.{GoesTo, Considers, Turns}
 use Rattle.model.specs.Promises.Pending as pending
 use Rattle.model.proofs.Promises.ListLaws.{all_of}
 use Rattle.model.proofs.Promises.TellsLaws.{Tells, tells_passed, tells_failed}
-use Rattle.model.proofs.Promises.WordLaws.{listed_passes, passes_listed, fails_listed, left_kept, left_only}
+use Rattle.model.proofs.Promises.WordLaws.{passes_listed, fails_listed, left_kept, left_only}
 use Rattle.model.proofs.Promises.VerdictLaws.{goes_to, goes_to_only}
 
 -- ---- what is left of a list

@@ -1,0 +1,20 @@
+-- Rule 5 by its callee; the rest is by the definition.
+use mathlib.Core.Path.{refl, sym, ◌∙◌}
+use Rattle.model.specs.Steps as steps
+use Rattle.model.specs.Calls.{args_of}
+use Rattle.image.specs.Heads.{head_of}
+use Rattle.plan.specs.Plans.{head_by}
+use Rattle.plan.proofs.SketchLaws.{sketched}
+use Rattle.plan.proofs.HeightLaws.{reached}
+use Rattle.plan.proofs.continuing.advances.Goals as goal
+
+pub returns : goal.returns
+unfolding head_of head_by steps.advances steps.unmarked args_of
+returns c =
+    let a = c.args in
+    let r = c.advance_downloaded_height-advance in record {
+      work_value = refl;
+      result_value = (λ st call m h e eh ev em none.
+          let to = reached st call a.head.downloaded r.result a.view.now a.height eh ev r.ensures in
+          sketched st call _ (steps.advances st (args_of call) m) refl (rw (to.height, sym h, e, em)) (rw (none r.result.height)) refl (to.seen ∙ rw (sym h)));
+    }

@@ -1,0 +1,18 @@
+-- By the definition: nothing is announced and nothing said.
+use mathlib.Core.Path.{refl, sym}
+use mathlib.Core.List.{append-nil}
+use Rattle.model.specs.Steps as steps
+use Rattle.model.specs.Calls.{args_of}
+use Rattle.image.specs.Heads.{head_of}
+use Rattle.plan.specs.Plans.{acts_by, head_by}
+use Rattle.plan.proofs.SketchLaws.{sketched}
+use Rattle.plan.proofs.continuing.continues.Goals as goal
+
+pub returns : goal.returns
+unfolding head_of head_by steps.continues steps.unmarked args_of
+returns c = record {
+  work_value = refl;
+  result_value = λ st call h e.
+      let acts = acts_by st call c.args.head.downloaded c.args.work in
+      sketched st call _ (steps.continues st (args_of call) acts) refl (rw (sym h, e)) (append-nil acts) refl refl;
+}
