@@ -17,7 +17,7 @@ pub fn first_height(view: &[u8]) -> u32
 }
 
 // How many heights have a row.
-pub fn row_count_lem(view: &[u8]) -> usize
+pub fn row_count(view: &[u8]) -> usize
     requires { 4 ≤ length view.now }
     ensures { result ≡ row_count view.now }
 {

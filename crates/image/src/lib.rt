@@ -3,6 +3,8 @@
 // `read_head` equals `head_in` of specs/Heads.antt, `write_head` writes the header's 74 bytes and no other, `open` writes
 // the whole area, the image of a fresh core (model/specs/Image.antt). Some twenty loads or stores, for an opening also a
 // fill of the area.
+#![tactic(auto)]
+
 pub mod head;
 pub mod opening;
 pub mod writing;

@@ -3,6 +3,8 @@
 // First listed peer, retry target (rule 6) and selected peer (rule 1) equal their definitions in model/specs/Peers.antt and
 // Check.antt. The set goes by value; only `write_stalled` writes, the 2,048 bytes of its places. Selecting costs a pass
 // over the set for each listed peer up to the one chosen.
+#![tactic(auto)]
+
 pub mod aim;
 pub mod stalled;
 

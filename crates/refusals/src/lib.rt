@@ -2,6 +2,8 @@
 //
 // Equal to these of `step_refusal` and `question_refusal` in model/specs/Calls.antt. Reads only. A refused call costs what
 // was read up to the fault: one pass over the state area, then the lists, then the view.
+#![tactic(auto)]
+
 pub mod lists;
 pub mod view;
 

@@ -19,7 +19,7 @@ fn used_places(count: u8) -> usize
 }
 
 // Row i. Its unused stored bytes are among what must be zero, so all three are tested, whatever the count.
-fn row_fits_lem(rows: &[u8], i: usize) -> bool
+fn row_fits(rows: &[u8], i: usize) -> bool
     requires { i * row_size + row_size ≤ length rows.now }
     ensures { result ≡ row_fits (entry row_size i rows.now) }
 {
@@ -36,7 +36,7 @@ fn row_fits_lem(rows: &[u8], i: usize) -> bool
 }
 
 // All rows, in one pass that ends at the first that does not fit.
-fn rows_fit_lem(rows: &[u8], count: usize) -> bool
+fn rows_fit(rows: &[u8], count: usize) -> bool
     requires { count * row_size ≤ length rows.now }
     ensures { result ≡ rows_fit (entries row_size count rows.now) }
 {
@@ -64,5 +64,5 @@ pub fn view_fits(view: &[u8]) -> bool
     if !sizes {
         return false;
     }
-    rows_fit_lem(&view[4..], count)
+    rows_fit(&view[4..], count)
 }

@@ -3,6 +3,8 @@
 // Every rule that asks whether a request is expired or given up, whether a send is throttled or a peer has stalled asks
 // here. Each function equals its definition in model/specs, at the cost of a comparison. Nothing is written but the send
 // clock that `sending` is lent.
+#![tactic(auto)]
+
 pub mod sending;
 
 ghost use Rattle.std.specs.Prelude.{◌≡◌, ◌≤◌, not};

@@ -5,6 +5,8 @@
 // The test of an area is one pass over its 192 heights, three marks and three scans for zeros; what can be passed is then
 // told from three words. A change writes one byte and one word. A fill and a slide write the heights' bytes, and then all
 // that stands around them.
+#![tactic(auto)]
+
 pub mod cells;
 pub mod changing;
 pub mod filling;

@@ -1,0 +1,13 @@
+-- The invariant: the peers from i on give the target that all of them give.
+use Prim.Native.Nat.{◌-◌, ◌*◌}
+use mathlib.Core.Path.{◌≡◌}
+use lib.ListN.{drop}
+use Rattle.model.specs.Check.{first_other}
+use Rattle.model.specs.Lists.{peers_in}
+use Rattle.peers.proofs.first_other.Given as goal
+
+abbrev pub invariant-loop-i : goal.invariant-loop-i
+invariant-loop-i l = first_other (peers_in (drop (l.i * 8) l.peers)) l.failed ≡ first_other (peers_in l.peers) l.failed
+
+abbrev pub decreases-loop-i : goal.decreases-loop-i
+decreases-loop-i l = l.count - l.i
