@@ -3,6 +3,8 @@
 // Equal in meaning to a byte by byte comparison (`before` and `same` of fields) and to a walk from the front. Reads only.
 // Runs of 32 bytes cost the same wherever they differ; keys of a table, whose first words nearly always differ, cost two
 // loads; a search costs a guess and six steps where words are spread evenly, else halving.
+#![tactic(auto)]
+
 pub mod find;
 pub mod rising;
 pub mod unlike;

@@ -3,6 +3,8 @@
 // Equal to `mark_requested` of model/specs/Delivery.antt, one id after another. Only the table is written; where it would
 // hold too many, it stays. A few ids cost a search and a move of the records behind them each. Many are sorted and merged
 // with the table in one pass.
+#![tactic(auto)]
+
 pub mod choosing;
 pub mod entering;
 pub mod merging;

@@ -1,0 +1,11 @@
+-- The loop: what is in the room, then what the rest gives, is what the whole gives (`Merging`); `merge_ends` adds the records that are left.
+use Prim.Native.Nat.{◌+◌, ◌-◌}
+use lib.ListN.{length}
+use Rattle.mark_requested.proofs.MergeLaws.{Merging}
+use Rattle.mark_requested.proofs.merging.merge.Given as goal
+
+abbrev pub invariant-loop-front : goal.invariant-loop-front
+invariant-loop-front l = Merging l.clock l.typeid l.peer l.most l.count l.table l.ids l.places l.initial.room l.room l.front
+
+abbrev pub decreases-loop-front : goal.decreases-loop-front
+decreases-loop-front l = (l.count - l.front.records) + (length l.places - l.front.ids)

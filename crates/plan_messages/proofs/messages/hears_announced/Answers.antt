@@ -1,0 +1,52 @@
+-- By whether ids are listed, and the type: `heard_served`, `heard_unserved`, `heard_no_headers`, `heard_nothing`.
+use mathlib.Core.Path.{sym, ap, ◌∙◌}
+use Rattle.plan.specs.Plans.{sketch_of}
+use Rattle.plan_messages.proofs.MessageLaws.{heard_served, heard_unserved, heard_no_headers, heard_nothing, quiet_tip}
+use Rattle.model.specs.Peers.{first_of}
+use Rattle.model.specs.Lists.{peers_in}
+use lib.Dec.{eqb}
+use Rattle.image.specs.Heads.{head_of}
+use Rattle.plan.proofs.CallLaws.{numbers}
+use Rattle.plan_messages.proofs.messages.hears_announced.Goals as goal
+
+pub returns-then-is_announceable : goal.returns-then-is_announceable
+returns-then-is_announceable c =
+    let r = c.continues in record {
+      work_value = rw r.ensures.work_value;
+      result_value = (λ st d h n ei ep ev.
+          let m = numbers d c.args.call n in
+          let yes = sym c.is_announceable.ensures ∙ c.if-is_announceable.true in
+          r.ensures.result_value st d h m.clock ∙ ap (λ p. sketch_of st d p) (heard_served st d ei m.typeid c.if-ids-gt0.true c.requires.1 m.peer yes));
+    }
+
+pub returns-then-ids-gt0 : goal.returns-then-ids-gt0
+returns-then-ids-gt0 c =
+    let r = c.continues-then-ids-gt0 in record {
+      work_value = rw r.ensures.work_value;
+      result_value = (λ st d h n ei ep ev.
+          let m = numbers d c.args.call n in
+          let no = sym c.is_announceable.ensures ∙ c.if-is_announceable.false in
+          r.ensures.result_value st d h m.clock ∙ ap (λ p. sketch_of st d p) (heard_unserved st d ei m.typeid c.if-ids-gt0.true c.requires.1 no));
+    }
+
+pub returns-then-call-eq101 : goal.returns-then-call-eq101
+unfolding head_of
+returns-then-call-eq101 c =
+    let a = c.args in
+    let r = c.is_at_tip in record {
+      work_value = rw r.ensures.work_value (quiet_tip (eqb a.head.mode 2) (first_of (peers_in a.peers.now)));
+      result_value = (λ st d h n ei ep ev.
+          let m = numbers d a.call n in
+          let tip = sym (ap (λ x. x.tip) h) in
+          r.ensures.result_value st d h m.clock m.height ep ev
+          ∙ ap (λ p. sketch_of st d p) (heard_no_headers st d ei m.typeid c.if-ids-gt0.false tip c.if-call-eq101.true));
+    }
+
+pub returns : goal.returns
+returns c =
+    let r = c.continues-2 in record {
+      work_value = rw r.ensures.work_value;
+      result_value = (λ st d h n ei ep ev.
+          let m = numbers d c.args.call n in
+          r.ensures.result_value st d h m.clock ∙ ap (λ p. sketch_of st d p) (heard_nothing st d ei m.typeid c.if-ids-gt0.false c.if-call-eq101.false));
+    }

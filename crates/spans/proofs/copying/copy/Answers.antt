@@ -1,0 +1,18 @@
+use native.Mathlib.Omega.{arith}
+use mathlib.Core.Path.{refl, ◌∙◌}
+use lib.ListN.{length-set}
+use Rattle.fields.proofs.OverwriteLaws.{front_turn, front_all}
+use Rattle.spans.proofs.copying.copy.Goals as goal
+
+pub loop-i-init : goal.loop-i-init
+loop-i-init c = (omega arith, (refl, refl))
+
+pub loop-i-preserved : goal.loop-i-preserved
+loop-i-preserved c =
+    let s = c.args in
+    (omega arith, (simp length-set (omega arith), rw c.loop-i.invariant.1.1 (front_turn s.src.now s.dst.now c.loop-i.i _ (omega arith) (omega arith) refl)))
+
+pub returns : goal.returns
+returns c =
+    let s = c.args in
+    c.loop-i.invariant.1.1 ∙ front_all s.src.now s.dst.now c.loop-i.i (omega arith) (omega arith)
