@@ -11,7 +11,8 @@ fn pages(root: &Path) -> Vec<PathBuf> {
     for folder in ["docs", "docs/changes"] {
         let entries = fs::read_dir(root.join(folder)).expect("there is such a folder");
         let listed = entries.map(|entry| entry.expect("a page").path());
-        pages.extend(listed.filter(|path| path.is_file()));
+        // The page on the port lists names that are gone.
+        pages.extend(listed.filter(|path| path.is_file() && !path.ends_with("PORT.md")));
     }
     pages.extend(
         ["README.md", "host/README.md", "host/fixed/README.md"].map(|page| root.join(page)),
