@@ -14,22 +14,25 @@ fn main() {
         "cargo:rerun-if-changed={}",
         root.join("crates.txt").display()
     );
-    for name in ["fields", "keys", "scratch", "leaf_speed"] {
-        println!(
-            "cargo:rerun-if-changed={}",
-            root.join("crates").join(name).display()
-        );
+    for name in ["fields", "spans", "keys", "leaf_speed"] {
+        for part in ["src", "specs", "proofs"] {
+            let folder = root.join("crates").join(name).join(part);
+            if folder.exists() {
+                println!("cargo:rerun-if-changed={}", folder.display());
+            }
+        }
     }
 
+    let folder = root.join("crates/leaf_speed");
     let rt = env::var("RT").unwrap_or_else(|_| "rt".to_string());
     let run = Command::new(&rt)
-        .args(["staticlib", "leaf_speed"])
-        .current_dir(&root)
+        .arg("lib")
+        .current_dir(&folder)
         .output()
         .unwrap_or_else(|error| panic!("{rt} does not start ({error}); set RT to its path"));
     if !run.status.success() {
         panic!(
-            "{rt} staticlib leaf_speed: {}\n{}{}",
+            "{rt} lib in crates/leaf_speed: {}\n{}{}",
             run.status,
             String::from_utf8_lossy(&run.stdout),
             String::from_utf8_lossy(&run.stderr)
@@ -37,7 +40,7 @@ fn main() {
     }
     println!(
         "cargo:rustc-link-search=native={}",
-        root.join("target/staticlib").display()
+        folder.join("out").display()
     );
     println!("cargo:rustc-link-lib=static=leaf_speed");
 }

@@ -10,8 +10,9 @@ use std::path::{Path, PathBuf};
 use std::process::exit;
 use std::{env, fs};
 
-const HELP: &str = "put rt on the path or its path into RT, so that `rt staticlib request_keeper` \
-can build it, or name a built librequest_keeper.a, by its whole path, in REQUEST_KEEPER_LIB";
+const HELP: &str =
+    "put rt on the path or its path into RT, so that it can be built, or name a built archive, \
+by its whole path, in REQUEST_KEEPER_LIB";
 
 /// Tells people who wait, at the terminal itself: cargo keeps a build script's output back unless it is run with `-vv`.
 fn tell(verb: &str, what: &str) {
@@ -22,24 +23,7 @@ fn tell(verb: &str, what: &str) {
     }
 }
 
-/// The rooms of this package's builds with other profiles or versions: `build/NAME-HASH/out/proving` of each profile in
-/// cargo's folder.
-fn other_rooms(out: &Path) -> Vec<PathBuf> {
-    let inside = |folder: &Path| -> Vec<PathBuf> {
-        let entries = fs::read_dir(folder).into_iter().flatten().flatten();
-        entries.map(|entry| entry.path()).collect()
-    };
-    let profiles = out.ancestors().nth(4).map(inside).unwrap_or_default();
-    let rooms = profiles
-        .iter()
-        .flat_map(|profile| inside(&profile.join("build")))
-        .map(|package| package.join("out/proving"));
-    rooms
-        .filter(|room| room.is_dir() && !room.starts_with(out))
-        .collect()
-}
-
-fn built(root: &Path, out: &Path) -> Result<PathBuf, String> {
+fn built(root: &Path, out: &Path) -> Result<Vec<u8>, String> {
     for path in watched(root)? {
         println!("cargo::rerun-if-changed={}", path.display());
     }
@@ -47,13 +31,12 @@ fn built(root: &Path, out: &Path) -> Result<PathBuf, String> {
     let places = Places {
         root,
         room: &room(root, out),
-        others: other_rooms(out),
         rt: &rt,
     };
     archive(&places, &mut tell)
 }
 
-fn found(here: &Path, out: &Path) -> Result<PathBuf, String> {
+fn found(here: &Path, out: &Path) -> Result<Vec<u8>, String> {
     println!("cargo::rerun-if-changed=build.rs");
     println!("cargo::rerun-if-changed=building");
     println!("cargo::rerun-if-env-changed=REQUEST_KEEPER_LIB");
@@ -61,20 +44,20 @@ fn found(here: &Path, out: &Path) -> Result<PathBuf, String> {
     match env::var_os("REQUEST_KEEPER_LIB") {
         Some(path) => {
             println!("cargo::rerun-if-changed={}", path.to_string_lossy());
-            Ok(PathBuf::from(path))
+            let path = PathBuf::from(path);
+            fs::read(&path).map_err(building::fault(&path))
         }
         None => built(&here.join("../.."), out),
     }
 }
 
-/// A copy in the build folder is linked, so that a file of any name will do.
+/// A copy in the build folder is linked, under the name that C callers know, whatever the archive is called.
 fn linked() -> Result<(), String> {
     let folder = |name| env::var_os(name).map(PathBuf::from).ok_or(name);
     let out = folder("OUT_DIR")?;
     let archive = found(&folder("CARGO_MANIFEST_DIR")?, &out)?;
     let copy = out.join("librequest_keeper.a");
-    let bytes = fs::read(&archive).map_err(building::fault(&archive))?;
-    fs::write(&copy, bytes).map_err(building::fault(&copy))?;
+    fs::write(&copy, archive).map_err(building::fault(&copy))?;
     println!("cargo::rustc-link-search=native={}", out.display());
     println!("cargo::rustc-link-lib=static=request_keeper");
     // For the test in C.

@@ -2,6 +2,7 @@
 //
 // Exported functions ask nothing: they test what a leaf requires and answer a neutral value where it does not hold. They
 // have no contracts, since they are for timing and outside the core.
+#![tactic(auto)]
 
 // A whole slice copied over one as long.
 #[unsafe(no_mangle)]

@@ -1,10 +1,12 @@
-// The exported entries: opening, step, its forecast and question, and in `map` those of the map of the window, on numbers and
-// byte slices.
+// The entries: opening, step, its forecast and question, and in `map` those of the map of the window, on numbers and byte
+// slices. The crate `request_keeper_c` exports them.
 //
 // None demands anything of its caller: any number and any bytes are answered, as docs/LAYOUT.md says. Each is one equation
 // with the entry's definition in model/specs/Calls.antt, which demand 3 speaks of, in Forecast.antt, or in WindowMap.antt. A
 // refused call and a forecast write nothing, an opening the state area, a step both areas, a question the command area, a call
 // of the map the map. docs/SPEED.md has what they cost.
+#![tactic(auto)]
+
 pub mod map;
 
 ghost use Rattle.std.specs.Prelude.{◌≡◌};
@@ -18,8 +20,7 @@ use step::finish::Answer;
 use step::forecast::Forecast;
 
 // A fresh core in an area of 65,536 bytes; nothing of the old bytes survives. Answers 0, or 1 with the area untouched.
-#[unsafe(no_mangle)]
-pub extern "C" fn request_keeper_open(
+pub fn request_keeper_open(
     state: &mut [u8],
     timeout: u32,
     checks: u32,
@@ -44,8 +45,7 @@ pub extern "C" fn request_keeper_open(
 }
 
 // One step: refused with its number and both areas untouched, or finished.
-#[unsafe(no_mangle)]
-pub extern "C" fn request_keeper_step(
+pub fn request_keeper_step(
     state: &mut [u8],
     commands: &mut [u8],
     kind: u8,
@@ -104,8 +104,7 @@ pub extern "C" fn request_keeper_step(
 }
 
 // What such a step would need: refused with its number and all else 0, or its figures. Nothing is written.
-#[unsafe(no_mangle)]
-pub extern "C" fn request_keeper_forecast(
+pub fn request_keeper_forecast(
     state: &[u8],
     kind: u8,
     clock: u64,
@@ -162,8 +161,7 @@ pub struct Asked {
 }
 
 // The pairs that a check (flag 0) or a lost peer (flag 1) may read, written to the command area.
-#[unsafe(no_mangle)]
-pub extern "C" fn request_keeper_question(state: &[u8], commands: &mut [u8], flag: u8) -> Asked
+pub fn request_keeper_question(state: &[u8], commands: &mut [u8], flag: u8) -> Asked
     ensures { record { number = result.number; length = result.length; commands = commands.new } ≡ question state.now commands.old flag }
 {
     let number = refusals::question_refusal(state, commands.len(), flag);

@@ -20,6 +20,10 @@ const SIGNS: [&str; 2] = ["/", "%"];
 /// Where ids are cut a shift would be a quotient too. Elsewhere it makes the bytes of a number.
 const SIGNS_OF_CUTTING: [&str; 3] = ["/", "%", ">>"];
 
+/// What the names of functions have in them that divide, or that cut a slice at multiples of a length: `div_euclid`,
+/// `checked_rem`, `is_multiple_of`, `chunks_exact`.
+const PARTS_OF_NAMES: [&str; 5] = ["div", "rem", "multiple", "quotient", "chunks"];
+
 /// Searches the files that cut and, whole file by whole file, all that they lead to: code, contracts and the names of specs.
 pub fn search(read: Read, cutting: &[&str]) -> Searched {
     let mut searched = Searched::default();
@@ -40,7 +44,7 @@ pub fn search(read: Read, cutting: &[&str]) -> Searched {
         for (index, line) in text.lines().enumerate() {
             let place = format!("{file}:{}", index + 1);
             let code = without_comment(line);
-            if signs.iter().any(|sign| code.contains(sign)) {
+            if signs.iter().any(|sign| code.contains(sign)) || names_division(code) {
                 searched.faults.push(format!("{place}: {}", line.trim()));
             }
             for path in paths(code) {
@@ -57,13 +61,30 @@ pub fn search(read: Read, cutting: &[&str]) -> Searched {
     searched
 }
 
-/// A line up to its comment. Behind a quote or in a contract `//` may be something else, so that nothing is left aside there;
-/// nor is any other form of comment, as no file has one.
+/// A line up to its comment. A comment stands alone or behind a whole statement. Behind a quote or in a contract `//` may be
+/// something else, so that nothing is left aside there; nor is any other form of comment, as no file has one.
 fn without_comment(line: &str) -> &str {
     match line.split_once("//") {
-        Some((code, _)) if !code.contains(['"', '⌜']) => code,
+        Some((code, _)) if code.trim().is_empty() || is_statement(code) => code,
         _ => line,
     }
+}
+
+/// Whether the text before a comment is code alone, up to the end of a statement, a block or an argument.
+fn is_statement(code: &str) -> bool {
+    let of_contracts = ["requires", "ensures", "ghost"];
+    let is_code = code.is_ascii() && !code.contains('"');
+    is_code
+        && code.trim_end().ends_with([';', ',', '{', '}'])
+        && !code
+            .split_whitespace()
+            .any(|word| of_contracts.contains(&word))
+}
+
+fn names_division(code: &str) -> bool {
+    let letters = |letter: char| !letter.is_alphanumeric();
+    code.split(letters)
+        .any(|part| PARTS_OF_NAMES.contains(&part))
 }
 
 /// The paths of a line of code. `ghost use` names definitions, where no code runs.

@@ -6,9 +6,10 @@ use std::fs;
 use std::path::Path;
 
 /// What keeps an edit from being applied to the crate in `folder`, if anything does. As `rt` reads it: a `file:` line holds
-/// for the pairs of `old:` and `new:` behind it, and an old text stands in its file once.
+/// for the pairs of `old:` and `new:` behind it, an old text stands in its file once, and something changes.
 pub fn misfit(folder: &Path, edit: &str) -> Option<String> {
     let mut texts: HashMap<&str, String> = HashMap::new();
+    let mut changed = false;
     let mut file = "";
     let mut old = "";
     let mut pairs = 0;
@@ -19,6 +20,10 @@ pub fn misfit(folder: &Path, edit: &str) -> Option<String> {
             old = text;
         } else if let Some(new) = line.strip_prefix("new:") {
             if !texts.contains_key(file) {
+                let parts = ["src/", "specs/", "proofs/"];
+                if !parts.iter().any(|part| file.starts_with(part)) {
+                    return Some(format!("{file} is no file of src/, specs/ or proofs/"));
+                }
                 let Ok(text) = fs::read_to_string(folder.join(file)) else {
                     return Some(format!("no file {file}"));
                 };
@@ -29,10 +34,16 @@ pub fn misfit(folder: &Path, edit: &str) -> Option<String> {
             if old.is_empty() || times != 1 {
                 return Some(format!("{times} times in {file}: {old}"));
             }
-            *text = text.replacen(old, new.strip_prefix(' ').unwrap_or(new), 1);
+            let new = new.strip_prefix(' ').unwrap_or(new);
+            changed |= new != old;
+            *text = text.replacen(old, new, 1);
             old = "";
             pairs += 1;
         }
     }
-    (pairs == 0).then(|| "no pair of old and new".to_string())
+    match (pairs, changed) {
+        (0, _) => Some("no pair of old and new".to_string()),
+        (_, false) => Some("it changes nothing".to_string()),
+        (_, true) => None,
+    }
 }

@@ -15,6 +15,8 @@ pub struct Tree {
     code: HashMap<String, HashSet<String>>,
     /// The words of the files of definitions and laws with this name, of whatever crate.
     laws: HashMap<String, HashSet<String>>,
+    /// The same of each file alone, by its path: `crate.specs.Folder.File`.
+    modules: HashMap<String, HashSet<String>>,
     /// The fields of records and the cases of types with this name.
     parts: HashMap<String, HashSet<String>>,
     /// Edits as `name` and as `crate/name`.
@@ -35,10 +37,14 @@ pub fn root() -> PathBuf {
     Path::new(env!("CARGO_MANIFEST_DIR")).join("../..")
 }
 
+/// The files of a crate, but for what `rt` keeps in `out/`.
 fn files(folder: &Path) -> io::Result<Vec<PathBuf>> {
     let mut found = Vec::new();
     for entry in fs::read_dir(folder)? {
         let path = entry?.path();
+        if path.is_dir() && path.ends_with("out") {
+            continue;
+        }
         if path.is_dir() {
             found.extend(files(&path)?);
         } else {
@@ -111,6 +117,11 @@ impl Tree {
             }
             Some("antt") => {
                 let text = fs::read_to_string(path)?;
+                let inside = path.strip_prefix(folder).unwrap_or(path).with_extension("");
+                let parts = inside.iter().map(|part| part.to_string_lossy());
+                let module: Vec<_> = [name.into()].into_iter().chain(parts).collect();
+                self.modules
+                    .insert(module.join("."), words(&text).collect());
                 self.laws
                     .entry(stem(path))
                     .or_default()
@@ -148,7 +159,7 @@ impl Tree {
         }
     }
 
-    /// `File.name`, a definition or a law, or `Record.field`.
+    /// `File.name`, a definition or a law, or `Record.field`; or with the whole path, `Rattle.crate.specs.File.name`.
     fn has_law(&self, name: &str) -> Option<bool> {
         let parts: Vec<&str> = name.split('.').collect();
         let plain = |part: &&str| !part.is_empty() && part.chars().all(is_part);
@@ -156,11 +167,22 @@ impl Tree {
         {
             return None;
         }
+        if let ["Rattle", folder @ .., last] = parts.as_slice() {
+            return Some(self.has_whole_path(folder, last));
+        }
         let has = |names: &HashMap<String, HashSet<String>>| {
             let words = names.get(parts[0]);
             words.is_some_and(|words| parts[1..].iter().all(|part| words.contains(*part)))
         };
         Some(has(&self.laws) || has(&self.parts))
+    }
+
+    /// The path of a file of `specs/` or `proofs/`, or of a name in it.
+    fn has_whole_path(&self, folder: &[&str], last: &str) -> bool {
+        let file = |parts: &[&str]| self.modules.get(&parts.join("."));
+        let words = file(folder);
+        file(&[folder, &[last]].concat()).is_some()
+            || words.is_some_and(|words| words.contains(last))
     }
 
     /// Several words joined by `-`, or such an edit of a crate, in a line that speaks of edits.

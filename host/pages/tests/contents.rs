@@ -1,4 +1,4 @@
-//! Examples and versions in the pages are those of the files.
+//! Examples and versions in the pages are those of the files, and the fixed list is the same wherever it stands.
 
 use keeper_pages::root;
 use std::fs;
@@ -28,6 +28,11 @@ fn the_newest_changes_are_those_of_the_version() {
         let version = format!("version = \"{}\"", env!("CARGO_PKG_VERSION"));
         assert!(text(name).contains(&version), "{name}");
     }
+}
+
+#[test]
+fn the_fixed_list_is_what_replay_reads() {
+    assert!(text("host/fixed/streams.txt") == text("crates/replay/stdin"));
 }
 
 #[test]

@@ -61,6 +61,19 @@ fn a_sign_is_told_with_its_line() {
         "    put(\"//\", number / 2);",
         "    ensures { λ r. ⌜ r ≡ length (now ids) // idSize ⌝ }",
         "/* No comment of this form. */",
+        "    requires { length ids.now % id_size ≡ 0 }",
+        "    ensures whole { result ≡ length ids.now / id_size }",
+        "    ensures { result ≡ length ids.now // id_size }",
+        "    ensures { result < n // 2 }",
+        "        < n // 2",
+        "ghost use Rattle.std.specs.Prelude.{◌+◌, ◌/◌};",
+        "ghost use Rattle.std.specs.Prelude.{◌%◌};",
+        "ghost use Rattle.std.specs.Prelude.{◌+◌}; // ◌/◌",
+        "    let number = ids.len().div_euclid(ID_SIZE);",
+        "    let number = ids.len().div_ceil(ID_SIZE);",
+        "    let rest = ids.len().checked_rem(ID_SIZE);",
+        "    if ids.len().is_multiple_of(32) {",
+        "    for run in ids.chunks_exact(12800) {",
     ] {
         let searched = searched_in(&[(CUT, &format!("// A file.\n{line}\n"))]);
         assert_eq!(searched.faults, [format!("{CUT}:2: {}", line.trim())]);
@@ -74,6 +87,8 @@ fn a_comment_has_any_sign() {
         "    // 12,800 / 32",
         "    let end = at + 12800; // 12,800 / 32",
         "    let end = at + 12800;",
+        "    if at < end { // at most 12,800 / 32",
+        "    let left = remaining_chunk(ids, 400);",
     ] {
         assert_eq!(searched_in(&[(CUT, line)]).faults, [""; 0], "{line}");
     }

@@ -57,19 +57,3 @@ pub fn remove_all(path: &Path) -> Result<bool> {
         removed => removed.map(|()| true),
     }
 }
-
-/// Whether two folders, or two files, have the same contents.
-pub fn same(one: &Path, other: &Path) -> bool {
-    let (Ok(entries), Ok(others)) = (fs::read_dir(one), fs::read_dir(other)) else {
-        return match (fs::read(one), fs::read(other)) {
-            (Ok(bytes), Ok(others)) => bytes == others,
-            _ => false,
-        };
-    };
-    let mut names: Vec<_> = entries.flatten().map(|entry| entry.file_name()).collect();
-    let mut others: Vec<_> = others.flatten().map(|entry| entry.file_name()).collect();
-    names.sort();
-    others.sort();
-    let each = |name| same(&one.join(name), &other.join(name));
-    names == others && names.iter().all(each)
-}

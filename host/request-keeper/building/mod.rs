@@ -1,18 +1,20 @@
 //! Builds the static library with `rt` in a room of cargo's own, and leaves the sources alone.
 //!
-//! `rt` works on the repository that it stands in. So what `request_keeper` needs of it is copied into the room, and what
-//! is proved there stays for the next build. Where cargo's folder is in the repository itself, the room is the repository.
+//! `rt` works on the repository that it stands in, and keeps in each crate's `out/` what it has proved. So what the static
+//! library needs of the repository is copied into the room, where builds of every profile find what is proved. Where cargo's
+//! folder is in the repository itself, the room is the repository.
 
 mod listed;
 mod mirror;
-mod proved;
 
-use std::fs;
+use std::fs::{self, File};
 use std::io::{BufRead, BufReader};
 use std::path::{Path, PathBuf};
 use std::process::{Command, Stdio};
+use std::thread::available_parallelism;
 
-const CRATE: &str = "request_keeper";
+/// The static library: the entries of the crate `request_keeper`, exported.
+const CRATE: &str = "request_keeper_c";
 /// What a proof reads of a library.
 const PARTS: [&str; 3] = ["src", "specs", "proofs"];
 
@@ -22,10 +24,15 @@ pub struct Places<'a> {
     pub root: &'a Path,
     /// A folder to write to, which is kept from build to build.
     pub room: &'a Path,
-    /// Rooms of other builds.
-    pub others: Vec<PathBuf>,
     /// The command.
     pub rt: &'a str,
+}
+
+impl Places<'_> {
+    fn archive(&self) -> PathBuf {
+        let name = format!("crates/{CRATE}/out/lib{CRATE}.a");
+        self.room.join(name)
+    }
 }
 
 /// Something that people may want to see while they wait: a verb and what it is about.
@@ -35,13 +42,14 @@ pub fn fault(path: &Path) -> impl FnOnce(std::io::Error) -> String + '_ {
     move |error| format!("{}: {error}", path.display())
 }
 
-/// Where to build, for cargo's folder `out`. `rt ci` refuses a repository that has files of Rattle outside its crates, as a
-/// room inside it would be; and a repository that cargo writes to is not read-only.
+/// Where to build, for a package's folder `out` in cargo's, `PROFILE/build/NAME-HASH/out`. `rt ci` refuses a repository that
+/// has files of Rattle outside its crates, as a room inside it would be; and a repository that cargo writes to is not
+/// read-only.
 pub fn room(root: &Path, out: &Path) -> PathBuf {
     let within = |out: PathBuf| root.canonicalize().is_ok_and(|root| out.starts_with(root));
     match out.canonicalize().is_ok_and(within) {
         true => root.to_path_buf(),
-        false => out.join("proving"),
+        false => out.ancestors().nth(4).unwrap_or(out).join("proving"),
     }
 }
 
@@ -58,36 +66,42 @@ pub fn watched(root: &Path) -> Result<Vec<PathBuf>, String> {
     Ok(watched)
 }
 
-/// The archive of the crate `request_keeper`, made of the sources at the root as they are now.
-pub fn archive(places: &Places<'_>, tell: &mut Tell<'_>) -> Result<PathBuf, String> {
+/// The archive, made of the sources at the root as they are now.
+pub fn archive(places: &Places<'_>, tell: &mut Tell<'_>) -> Result<Vec<u8>, String> {
     let crates = listed::needed(&places.root.join("crates.txt"), CRATE)?;
-    let names: Vec<&str> = crates.iter().map(|(name, _)| name.as_str()).collect();
-    let built = proved::archive_in(places.room);
+    let archive = places.archive();
+    let read = || fs::read(&archive).map_err(fault(&archive));
     if places.room == places.root {
-        return proven(places, &names, tell).map(|()| built);
+        proven(places, &crates, tell)?;
+        return read();
     }
+    let _held = held(places.room)?;
     let version = said(places, "version")?;
-    let made = proved::begin(places.room)?;
+    // Which `rt` made the archive. The file is there only while the archive is one of the room's sources.
+    let record = places.room.join("made-with");
+    let made = fs::read_to_string(&record).ok();
+    mirror::remove_all(&record).map_err(fault(&record))?;
     let changed = copied(places, &crates)?;
-    if changed || made.as_ref() != Some(&version) {
-        if let Some(archive) = proved::archive_of_another(places, &version) {
-            mirror::write(&built, &archive).map_err(fault(&built))?;
-        } else {
-            proved::take(places, &names);
-            proven(places, &names, tell)?;
-        }
+    if changed || made.as_ref() != Some(&version) || !archive.is_file() {
+        proven(places, &crates, tell)?;
     }
-    proved::finish(places.room, &version)?;
-    Ok(built)
+    mirror::write(&record, version.as_bytes()).map_err(fault(&record))?;
+    read()
+}
+
+/// Waits until no other build works in a room, and keeps others out until it is closed: cargo may run one for each profile.
+fn held(room: &Path) -> Result<File, String> {
+    fs::create_dir_all(room).map_err(fault(room))?;
+    let path = room.join("lock");
+    let file = File::create(&path).map_err(fault(&path))?;
+    file.lock().map_err(fault(&path))?;
+    Ok(file)
 }
 
 /// Brings the room's copy of the sources up to date; whether it was not.
 fn copied(places: &Places<'_>, crates: &[(String, String)]) -> Result<bool, String> {
-    let lines = crates
-        .iter()
-        .map(|(name, needs)| format!("{name}:{needs}\n"));
     let list = places.room.join("crates.txt");
-    let lines: String = lines.collect();
+    let lines: String = crates.iter().map(|(_, line)| format!("{line}\n")).collect();
     let mut changed = mirror::write(&list, lines.as_bytes()).map_err(fault(&list))?;
     let room = places.room.join("crates");
     for (name, _) in crates {
@@ -100,13 +114,18 @@ fn copied(places: &Places<'_>, crates: &[(String, String)]) -> Result<bool, Stri
     Ok(mirror::remove(&room, gone).map_err(fault(&room))? || changed)
 }
 
-/// Runs `rt` with these words in the room, and hands on each line that it prints. All of it goes to standard error, which
-/// cargo shows with `-vv` and when the build fails.
-fn run(places: &Places<'_>, words: &[&str], mut line: impl FnMut(&str)) -> Result<(), String> {
+/// Runs `rt` with these words, and hands on each line that it prints. All of it goes to standard error, which cargo shows
+/// with `-vv` and when the build fails.
+fn run(
+    places: &Places<'_>,
+    folder: &Path,
+    words: &[&str],
+    mut line: impl FnMut(&str),
+) -> Result<(), String> {
     let rt = places.rt;
     let mut child = Command::new(rt)
         .args(words)
-        .current_dir(places.room)
+        .current_dir(folder)
         .stdin(Stdio::null())
         .stdout(Stdio::piped())
         .spawn()
@@ -127,35 +146,63 @@ fn run(places: &Places<'_>, words: &[&str], mut line: impl FnMut(&str)) -> Resul
 
 /// What `rt` says to one word.
 fn said(places: &Places<'_>, word: &str) -> Result<String, String> {
-    fs::create_dir_all(places.room).map_err(fault(places.room))?;
     let mut said = String::new();
-    run(places, &[word], |line| {
+    run(places, places.room, &[word], |line| {
         said.push_str(line);
         said.push('\n');
     })?;
     Ok(said)
 }
 
-/// Proves and compiles. `rt check` proves several crates at a time, `rt staticlib` one after another.
-fn proven(places: &Places<'_>, names: &[&str], tell: &mut Tell<'_>) -> Result<(), String> {
-    let count = names.len();
-    let missing = proved::missing(places.room, names);
+/// Proves and compiles. `rt all check` proves several crates at a time, which `rt lib` would not.
+fn proven(
+    places: &Places<'_>,
+    crates: &[(String, String)],
+    tell: &mut Tell<'_>,
+) -> Result<(), String> {
+    let folder = places.room.join("crates").join(CRATE);
+    let missing = crates.iter().filter(|(name, _)| !proved(places, name));
+    let (missing, count) = (missing.count(), crates.len());
     if missing > 0 {
         let what = format!(
             "{missing} crates of the request keeper: minutes, once (REQUEST_KEEPER_LIB links a built archive instead)"
         );
         tell("Proving", &what);
     }
-    let mut done = 0;
-    run(places, &["check", CRATE], |line| {
-        let Some((name, how)) = proved::told(line, names) else {
-            return;
-        };
-        done += 1;
-        if let Some(how) = how {
-            tell("Proved", &format!("{name}, {done} of {count} {how}"));
-        }
-    })?;
+    let (mut last, mut done) = (String::new(), 0);
+    let jobs = at_once().to_string();
+    run(
+        places,
+        &folder,
+        &["all", "check", "--jobs", &jobs],
+        |line| {
+            let named = line.strip_prefix("== ");
+            if let Some((name, _)) = crates.iter().find(|(name, _)| Some(&**name) == named) {
+                last.clone_from(name);
+                done += 1;
+            } else if line.starts_with("logic=proved") {
+                tell("Proved", &format!("{last}, {done} of {count}"));
+            }
+        },
+    )?;
     tell("Compiling", "the proved request keeper");
-    run(places, &["staticlib", CRATE], |_| {})
+    run(places, &folder, &["lib"], |_| {})
+}
+
+/// Whether a crate has ever been proved in the room.
+fn proved(places: &Places<'_>, name: &str) -> bool {
+    let out = places.room.join("crates").join(name).join("out");
+    out.join("rlib/stamp").exists() || (name == CRATE && places.archive().exists())
+}
+
+/// How many crates to prove at a time: a check takes a processor and up to 4 GB.
+fn at_once() -> usize {
+    let processors = available_parallelism().map_or(1, |number| number.get());
+    let about = fs::read_to_string("/proc/meminfo").unwrap_or_default();
+    let available = about
+        .lines()
+        .find_map(|line| line.strip_prefix("MemAvailable:")?.strip_suffix(" kB"))
+        .and_then(|kilobytes| kilobytes.trim().parse::<usize>().ok());
+    let memory = available.map_or(1, |kilobytes| kilobytes >> 22);
+    processors.min(memory).max(1)
 }

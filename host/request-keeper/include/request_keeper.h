@@ -1,6 +1,6 @@
 /* The request keeper's nine entries for a host in C. Every byte and number is in docs/LAYOUT.md.
  *
- * Link target/staticlib/librequest_keeper.a, which `rt staticlib request_keeper` writes.
+ * Link librequest_keeper.a, which `rt lib` in crates/request_keeper_c writes as out/librequest_keeper_c.a.
  *
  * A list is a pointer and then its length in bytes. Any number and any bytes are answered. Of its pointers a caller
  * owes what C can't say otherwise: none is null, also where the length is 0; all the bytes of its length are there; the

@@ -5,41 +5,39 @@
 mod building;
 
 use building::{archive, room, watched, Places};
-use std::fs::{self, Permissions};
+use std::fs::{self, File, Permissions};
 use std::os::unix::fs::PermissionsExt;
 use std::path::{Path, PathBuf};
 use std::sync::OnceLock;
-use std::time::SystemTime;
+use std::thread;
+use std::time::{Duration, SystemTime};
+use std::{env, process};
 
 /// Prints and leaves what `rt` prints and leaves.
 const RT: &str = r#"#!/bin/sh
-mkdir -p target
-echo "$@" >>target/calls
+[ "$1" = version ] || cd ../..
+echo "$1${2:+ $2}" >>calls
 case $1 in
 version) echo "a kit" ;;
-check)
-    mkdir -p target/stamp
-    for name in fields model request_keeper; do
-        stamp=$(cat crates/$name/src/*)
-        if [ "$(cat target/stamp/$name 2>/dev/null)" = "$stamp" ]; then
-            echo "rt: $name proved (unchanged since it was last proved)"
-        elif [ "$stamp" = wrong ]; then
-            echo "rt: $name NOT PROVED (exit 1, 2 s)"
+all)
+    for name in fields model request_keeper request_keeper_c; do
+        out=crates/$name/out
+        text=$(cat crates/$name/src/*)
+        echo "== $name"
+        if [ "$text" = wrong ]; then
+            echo "logic=not-proved"
+            echo "== summary"
             exit 1
-        else
-            mkdir -p target/rlib/$name.rlib
-            echo "$stamp" >target/rlib/$name.rlib/made
-            echo "$stamp" >target/stamp/$name
-            echo "logic=proved functions=5"
-            echo "rt: $name proved (9 s)"
+        elif [ "$(cat $out/rlib/stamp 2>/dev/null)" != "$text" ]; then
+            mkdir -p $out/rlib
+            echo "$text" >$out/rlib/stamp
+            echo "checked $name::run, 1 of 1"
+            echo "logic=proved functions=1"
         fi
     done
-    echo "rt: ok, 3 crates proved"
+    echo "== summary"
     ;;
-staticlib)
-    mkdir -p target/staticlib
-    cat crates/*/src/* >target/staticlib/lib$2.a
-    ;;
+lib) cat crates/*/src/* >crates/request_keeper_c/out/librequest_keeper_c.a ;;
 esac
 "#;
 
@@ -55,22 +53,27 @@ fn rt() -> &'static str {
     })
 }
 
-/// A repository of four crates, one of which is not needed. Its files do not have Rattle's names: the tests' folder may stand
-/// in the real repository, where `rt` would miss the crate that they are of.
+/// A repository of five crates, one of which is not needed. It does not stand in cargo's folder: that may be in the real
+/// repository, where `rt ci` refuses a second list of crates.
 struct Trial {
     folder: PathBuf,
 }
 
 impl Trial {
     fn new(name: &str) -> Self {
-        let folder = Path::new(env!("CARGO_TARGET_TMPDIR")).join(name);
-        permit(&folder, true);
-        let _ = fs::remove_dir_all(&folder);
+        let folder = env::temp_dir().join(format!("request-keeper-{}-{name}", process::id()));
         let trial = Self { folder };
-        let list = "# A comment.\nfields:\nmodel: fields io\nother: fields\nrequest_keeper: fields model\n";
+        let list = "# A comment.\nfields:\nmodel: fields std # Another.\nother: fields\nrequest_keeper: fields model\n\
+            request_keeper_c staticlib: model request_keeper\n";
         trial.write("root/crates.txt", list);
-        for name in ["fields", "model", "other", "request_keeper"] {
-            trial.write(&format!("root/crates/{name}/src/code"), name);
+        for name in [
+            "fields",
+            "model",
+            "other",
+            "request_keeper",
+            "request_keeper_c",
+        ] {
+            trial.write(&format!("root/crates/{name}/src/code"), &format!("{name} "));
             trial.write(&format!("root/crates/{name}/must-fail/a.edit"), "");
         }
         trial.write("root/crates/fields/specs/law", "");
@@ -88,40 +91,38 @@ impl Trial {
     }
 
     /// Builds in a room. What was told, and what `rt` was asked for besides its version.
-    fn build(&self, room: &str, others: &[&str]) -> Result<(Vec<String>, String), String> {
-        self.build_with(rt(), room, others)
+    fn build(&self, room: &str) -> Result<(Vec<String>, String), String> {
+        self.build_with(rt(), room)
     }
 
-    fn build_with(
-        &self,
-        rt: &str,
-        room: &str,
-        others: &[&str],
-    ) -> Result<(Vec<String>, String), String> {
-        let calls = self.path(room).join("target/calls");
+    fn build_with(&self, rt: &str, room: &str) -> Result<(Vec<String>, String), String> {
+        let calls = self.path(room).join("calls");
         let _ = fs::remove_file(&calls);
         let mut told = Vec::new();
         let places = Places {
             root: &self.path("root"),
             room: &self.path(room),
-            others: others.iter().map(|other| self.path(other)).collect(),
             rt,
         };
         let built = archive(&places, &mut |verb, what| {
             told.push(format!("{verb} {what}"))
         })?;
-        assert_eq!(
-            built,
-            self.path(room).join("target/staticlib/librequest_keeper.a")
-        );
+        assert_eq!(String::from_utf8_lossy(&built), self.archive(room));
         let calls = fs::read_to_string(calls).expect("rt was called");
         let asked = calls.strip_prefix("version\n").unwrap_or(&calls);
         Ok((told, asked.to_string()))
     }
 
     fn archive(&self, room: &str) -> String {
-        let path = self.path(room).join("target/staticlib/librequest_keeper.a");
-        fs::read_to_string(path).expect("an archive")
+        let path = "crates/request_keeper_c/out/librequest_keeper_c.a";
+        fs::read_to_string(self.path(room).join(path)).expect("an archive")
+    }
+}
+
+impl Drop for Trial {
+    fn drop(&mut self) {
+        permit(&self.folder, true);
+        let _ = fs::remove_dir_all(&self.folder);
     }
 }
 
@@ -151,7 +152,7 @@ fn state(folder: &Path) -> Vec<(PathBuf, SystemTime)> {
     below(folder).into_iter().map(changed).collect()
 }
 
-const BOTH: &str = "check request_keeper\nstaticlib request_keeper\n";
+const BOTH: &str = "all check\nlib\n";
 
 #[test]
 fn a_read_only_checkout_is_left_alone() {
@@ -159,25 +160,31 @@ fn a_read_only_checkout_is_left_alone() {
     let root = trial.path("root");
     let before = state(&root);
     permit(&root, false);
-    let (told, asked) = trial.build("room", &[]).expect("built");
+    let (told, asked) = trial.build("room").expect("built");
     // The copies are not read-only with it.
     trial.write("room/crates/fields/src/code", "else");
-    assert!(trial.build("room", &[]).is_ok());
+    assert!(trial.build("room").is_ok());
     permit(&root, true);
     assert_eq!(state(&root), before);
     assert_eq!(asked, BOTH);
     assert_eq!(
         told,
         [
-            "Proving 3 crates of the request keeper: minutes, once (REQUEST_KEEPER_LIB links a built archive instead)",
-            "Proved fields, 1 of 3 (9 s)",
-            "Proved model, 2 of 3 (9 s)",
-            "Proved request_keeper, 3 of 3 (9 s)",
+            "Proving 4 crates of the request keeper: minutes, once (REQUEST_KEEPER_LIB links a built archive instead)",
+            "Proved fields, 1 of 4",
+            "Proved model, 2 of 4",
+            "Proved request_keeper, 3 of 4",
+            "Proved request_keeper_c, 4 of 4",
             "Compiling the proved request keeper",
         ]
     );
     assert!(!trial.path("room/crates/other").exists());
     assert!(!trial.path("room/crates/fields/must-fail").exists());
+    let list = fs::read_to_string(trial.path("room/crates.txt")).expect("a list");
+    assert!(
+        list.ends_with("\nrequest_keeper_c staticlib: model request_keeper\n"),
+        "{list}"
+    );
     let names = watched(&root).expect("a list");
     assert!(names.contains(&root.join("crates/model/src")));
     assert!(!names
@@ -189,87 +196,117 @@ fn a_read_only_checkout_is_left_alone() {
 fn where_cargo_s_folder_is_in_the_repository_it_is_built_there() {
     let trial = Trial::new("inside");
     let root = trial.path("root");
-    trial.write("root/host/target/out/file", "");
-    trial.write("outside/out/file", "");
-    assert_eq!(room(&root, &trial.path("root/host/target/out")), root);
-    let outside = trial.path("outside/out");
-    assert_eq!(room(&root, &outside), outside.join("proving"));
+    let out = "target/release/build/request_keeper-1/out";
+    trial.write(&format!("root/host/{out}/file"), "");
+    trial.write(&format!("outside/{out}/file"), "");
+    assert_eq!(room(&root, &root.join("host").join(out)), root);
+    let outside = trial.path("outside");
+    assert_eq!(
+        room(&root, &outside.join(out)),
+        outside.join("target/proving")
+    );
 
-    let before = state(&root.join("crates"));
+    let sources = |name: &str| state(&root.join("crates").join(name).join("src"));
+    let names = ["fields", "model", "request_keeper", "request_keeper_c"];
+    let before = names.map(sources);
     for _ in 0..2 {
-        assert_eq!(trial.build("root", &[]).expect("built").1, BOTH);
+        assert_eq!(trial.build("root").expect("built").1, BOTH);
     }
-    assert_eq!(trial.archive("root"), "fieldsmodelotherrequest_keeper");
-    assert_eq!(state(&root.join("crates")), before);
-    let mut names: Vec<_> = fs::read_dir(&root)
-        .expect("a folder")
-        .map(|entry| entry.expect("an entry").file_name())
-        .collect();
-    names.sort();
-    assert_eq!(names, ["crates", "crates.txt", "host", "target"]);
+    assert_eq!(
+        trial.archive("root"),
+        "fields model other request_keeper request_keeper_c "
+    );
+    assert_eq!(names.map(sources), before);
+    let listed = |folder: &Path| {
+        let entries = fs::read_dir(folder).expect("a folder");
+        let names = entries.map(|entry| entry.expect("an entry").file_name());
+        let mut names: Vec<_> = names.collect();
+        names.sort();
+        names
+    };
+    assert_eq!(listed(&root), ["calls", "crates", "crates.txt", "host"]);
+    // What is proved stands in `out/`, which is not committed.
+    let parts = listed(&root.join("crates/fields"));
+    assert_eq!(parts, ["must-fail", "out", "specs", "src"]);
 }
 
 #[test]
 fn what_is_proved_is_not_proved_again() {
     let trial = Trial::new("again");
-    trial.build("room", &[]).expect("built");
-    let (told, asked) = trial.build("room", &[]).expect("built");
+    trial.build("room").expect("built");
+    let (told, asked) = trial.build("room").expect("built");
     assert_eq!((told.len(), asked.as_str()), (0, ""));
 
     trial.write("root/crates/other/src/code", "not needed");
-    assert_eq!(trial.build("room", &[]).expect("built").1, "");
+    assert_eq!(trial.build("room").expect("built").1, "");
 
-    trial.write("root/crates/model/src/code", "changed");
-    let (told, asked) = trial.build("room", &[]).expect("built");
+    trial.write("root/crates/model/src/code", "changed ");
+    let (told, asked) = trial.build("room").expect("built");
     assert_eq!(asked, BOTH);
     assert_eq!(
         told,
         [
-            "Proved model, 2 of 3 (9 s)",
+            "Proved model, 2 of 4",
             "Compiling the proved request keeper"
         ]
     );
-    assert_eq!(trial.archive("room"), "fieldschangedrequest_keeper");
+    assert_eq!(
+        trial.archive("room"),
+        "fields changed request_keeper request_keeper_c "
+    );
 
     fs::remove_file(trial.path("root/crates/fields/specs/law")).expect("it was there");
-    assert_eq!(trial.build("room", &[]).expect("built").1, BOTH);
+    assert_eq!(trial.build("room").expect("built").1, BOTH);
     assert!(!trial.path("room/crates/fields/specs/law").exists());
+
+    // Another `rt` may say otherwise of the same sources.
+    trial.write("room/made-with", "an older kit\n");
+    assert_eq!(trial.build("room").expect("built").1, BOTH);
 }
 
 #[test]
-fn what_is_proved_elsewhere_is_taken() {
-    let trial = Trial::new("elsewhere");
-    trial.build("release", &[]).expect("built");
-    let (told, asked) = trial.build("debug", &["release"]).expect("built");
+fn builds_of_all_profiles_share_what_is_proved() {
+    let trial = Trial::new("profiles");
+    let rooms = ["release", "debug"].map(|profile| {
+        let out = format!("target/{profile}/build/request_keeper-{profile}/out");
+        trial.write(&format!("{out}/file"), "");
+        room(&trial.path("root"), &trial.path(&out))
+    });
+    assert_eq!(rooms, [trial.path("target/proving"), rooms[0].clone()]);
+    trial.build("target/proving").expect("built");
+    let (told, asked) = trial.build("target/proving").expect("built");
     assert_eq!((told.len(), asked.as_str()), (0, ""));
-    assert_eq!(trial.archive("debug"), trial.archive("release"));
+}
 
-    // Of a room with other sources what fits is taken, and of the root.
-    trial.write("root/crates/request_keeper/src/code", "changed");
-    let (told, _) = trial.build("debug", &["release"]).expect("built");
-    assert_eq!(told[0], "Proved request_keeper, 3 of 3 (9 s)");
-    assert_eq!(trial.archive("debug"), "fieldsmodelchanged");
-    fs::rename(trial.path("debug/target"), trial.path("root/target")).expect("moved");
-    let (told, _) = trial.build("room", &[]).expect("built");
-    assert_eq!(told, ["Compiling the proved request keeper"]);
+#[test]
+fn a_build_waits_for_another_in_its_room() {
+    let trial = Trial::new("waiting");
+    trial.write("room/lock", "");
+    let other = File::create(trial.path("room/lock")).expect("a file of this test");
+    other.lock().expect("it can be locked");
+    thread::scope(|scope| {
+        let build = scope.spawn(|| trial.build("room"));
+        thread::sleep(Duration::from_millis(200));
+        assert!(!build.is_finished() && !trial.path("room/calls").exists());
+        drop(other);
+        let built = build.join().expect("it ends").expect("built");
+        assert_eq!(built.1, BOTH);
+    });
 }
 
 #[test]
 fn a_failure_is_told_and_not_remembered() {
     let trial = Trial::new("failure");
-    trial.build("room", &[]).expect("built");
+    trial.build("room").expect("built");
     trial.write("root/crates/model/src/code", "wrong");
     for _ in 0..2 {
-        let fault = trial.build("room", &[]).expect_err("not proved");
-        assert!(
-            fault.ends_with("rt check request_keeper: exit status: 1"),
-            "{fault}"
-        );
+        let fault = trial.build("room").expect_err("not proved");
+        let at = fault.find("rt all check --jobs ").expect("what was run");
+        assert!(fault[at..].ends_with(": exit status: 1"), "{fault}");
     }
-    // Nor does another room take the archive of what was proved before.
-    assert!(trial.build("other", &["room"]).is_err());
-    let fault = trial
-        .build_with("no-such-rt", "room", &[])
-        .expect_err("no rt");
+    // Nor is the archive taken of what was proved before, once the sources are that again.
+    trial.write("root/crates/model/src/code", "model ");
+    assert_eq!(trial.build("room").expect("built").1, BOTH);
+    let fault = trial.build_with("no-such-rt", "room").expect_err("no rt");
     assert!(fault.contains("does not start"), "{fault}");
 }

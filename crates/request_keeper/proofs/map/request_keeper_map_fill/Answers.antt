@@ -1,0 +1,5 @@
+-- What `fill` ensures.
+use Rattle.request_keeper.proofs.map.request_keeper_map_fill.Goals as goal
+
+pub returns : goal.returns
+returns c = c.fill.ensures

@@ -1,0 +1,5 @@
+-- What `slide` ensures.
+use Rattle.request_keeper.proofs.map.request_keeper_map_slide.Goals as goal
+
+pub returns : goal.returns
+returns c = c.slide.ensures
