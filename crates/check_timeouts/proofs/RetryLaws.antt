@@ -3,12 +3,8 @@ use Prim.Native.Nat.{ℕ}
 use mathlib.Core.Path.{◌≡◌, refl, sym, ap, ◌∙◌}
 use mathlib.Core.Bool.{Bool, true, false, cond}
 use mathlib.Core.List.{List, [], ◌∷◌, map}
-use mathlib.Core.Option.{some, none}
-use native.Mathlib.Nat.{lt_irrefl}
-use native.Mathlib.Omega.{arith}
 use lib.ListN.{length}
 use lib.Dec.{eqb}
-use borrow.Author.Tests.{eqb-true, eqb-false, eq-eqb, ne_eqb}
 use Rattle.fields.specs.Facts.{All}
 use Rattle.fields.specs.Order.{before, same}
 use Rattle.fields.proofs.OrderLaws.{neither, same_refl, same_sym, before_not_same}
@@ -16,7 +12,6 @@ use Rattle.model.specs.Protocol.{Id, is_among}
 use Rattle.model.specs.Settings.{Settings}
 use Rattle.model.specs.Delivery.{Request, Verdict, waiting, retried, abandoned, forgotten, verdict, judged, verdict_number, restarted, check_timeouts, after_verdict, mark_retried, ids_of}
 use Rattle.model.specs.Sections.{Item}
-use Rattle.model.specs.Peers.{first_of}
 use Rattle.model.specs.Check.{retry_of, retries, mark_all_retried}
 use Rattle.model.proofs.IdLaws.{not_among_kept}
 use Rattle.model.proofs.Well.{RisingIds}

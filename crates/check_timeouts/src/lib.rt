@@ -3,4 +3,6 @@
 // Equal to `check_timeouts` and then `mark_all_retried` of the model (Delivery.antt, Check.antt). The table and the places of
 // the retried requests are written, nothing else. The stamp decides for most records. The retries go out by the crate of
 // that name.
+#![tactic(auto)]
+
 pub mod check;

@@ -2,44 +2,59 @@
 //
 // The input is a list of cases: `%`, the case's name to the end of the line, then the case's input up to the next `%`.
 // For each the name is printed, and then what `keeper` prints.
+#![tactic(auto)]
+
+ghost use Rattle.std.specs.Prelude.{◌≡◌, length};
+
+use std::io;
+use std::io::Write;
+
+// Room for a list, for a table, or for what is printed.
+fn room() -> [u8; 1048576]
+    ensures { 1048576 ≡ length result }
+{
+    [0; 1048576]
+}
 
 // What the program prints of an input of at most 1,536 bytes.
-fn print(input: &[u8]) {
+fn print<W: Write>(output: &mut W, input: &[u8]) -> io::Result<()> {
     if input.len() > 1536 {
-        return;
+        return Ok(());
     }
-    let mut table = io::large_buffer();
-    let mut out = io::large_buffer();
+    let mut table = room();
+    let mut out = room();
     let end = keeper_text::printing::print_all(&mut table, input, &mut out);
-    io::write_all(1, &out[..end]);
+    output.write_all(&out[..end])
 }
 
 // One case, from its name on.
-fn case(text: &[u8]) {
-    let end = bytes::scan::find(text, 0, text.len(), b'\n');
-    io::write_all(1, b"%");
-    io::write_all(1, &text[..end]);
-    io::write_all(1, b"\n");
+fn case<W: Write>(output: &mut W, text: &[u8]) -> io::Result<()> {
+    let end = input::find(text, 0, b'\n');
+    output.write_all(b"%")?;
+    output.write_all(&text[..end])?;
+    output.write_all(b"\n")?;
     if end < text.len() {
         let from = end + 1;
-        print(&text[from..]);
+        print(output, &text[from..])?;
     }
+    Ok(())
 }
 
 // All cases, each from its `%` to the next.
-fn cases(text: &[u8]) {
-    let mut from = bytes::scan::find(text, 0, text.len(), b'%');
+fn cases<W: Write>(output: &mut W, text: &[u8]) -> io::Result<()> {
+    let mut from = input::find(text, 0, b'%');
     while from < text.len() {
         let name = from + 1;
-        let end = bytes::scan::find(text, name, text.len(), b'%');
-        case(&text[name..end]);
+        let end = input::find(text, name, b'%');
+        case(output, &text[name..end])?;
         from = end;
     }
+    Ok(())
 }
 
 // The list from standard input.
-fn main() {
-    let mut text = io::large_buffer();
-    let size = io::read_full(0, &mut text);
-    cases(&text[..size]);
+fn main(rt: HostRuntime) -> io::Result<()> {
+    let mut text = room();
+    let size = input::read_full(&mut rt.reader(), &mut text)?;
+    cases(&mut io::writer(&rt), &text[..size])
 }

@@ -14,8 +14,7 @@ use Rattle.fields.proofs.OverwriteLaws.{overwritten_nil}
 use Rattle.fields.proofs.AllLaws.{either}
 use Rattle.fields.proofs.OrderLaws.{and_left, and_right}
 use Rattle.keeper_lines.specs.declared.lines.Line.TheVariants as line
-use Rattle.model.specs.Settings.{Settings}
-use Rattle.model.specs.Delivery.{Request, retried, abandoned, forgotten}
+use Rattle.model.specs.Delivery.{Request}
 use Rattle.model.specs.Requests as model
 use Rattle.model.specs.Requests.{ask, perform, wanted}
 use Rattle.model.specs.Check.{retries}

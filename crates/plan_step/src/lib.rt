@@ -2,6 +2,8 @@
 //
 // `plan_step` follows the model's plan, remaining requests, retries and evicted ids for every call (`Follows` of
 // plan/specs/Plans.antt). Reads only, and costs what the plan of the call's kind costs.
+#![tactic(auto)]
+
 mod control;
 mod events;
 pub mod step;

@@ -2,6 +2,8 @@
 //
 // Equal to `question_pairs` of model/specs/Calls.antt. The state area is read only, and of the command area the pairs' bytes
 // are written. n pairs cost n log n comparisons.
+#![tactic(auto)]
+
 pub mod rising;
 
 ghost use Rattle.std.specs.Prelude.{◌≡◌, true, map, ◌+◌, ◌*◌, ◌≤◌, length};

@@ -1,4 +1,8 @@
 // The fixed list of host/fixed, replayed by the proved core.
-fn main() {
-    replay_run::list::replay();
+#![tactic(auto)]
+
+use std::io;
+
+fn main(rt: HostRuntime) -> io::Result<()> {
+    replay_run::list::replay(&mut rt.reader(), &mut io::writer(&rt))
 }

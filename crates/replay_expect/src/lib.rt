@@ -2,6 +2,8 @@
 //
 // For test programs: proved to be safe and to end, no more. Writes the memory that it is lent, and prints. A call costs a
 // comparison of every number and of every byte of both areas.
+#![tactic(auto)]
+
 mod answer;
 pub mod expecting;
 mod given;

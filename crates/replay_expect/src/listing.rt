@@ -4,8 +4,10 @@ ghost use Rattle.std.specs.Prelude.{◌≤◌, length};
 use crate::replay;
 use crate::replay::Replay;
 use replay_text::line_words::STREAM_WORD;
+use std::io;
+use std::io::Write;
 
-#[derive(Drop)]
+#[derive(Clone, Copy)]
 pub struct Listing {
     pub replay: Replay,
     // lines read, the one at which the stream differs, streams begun, streams that differ
@@ -30,7 +32,7 @@ pub fn at_first() -> Listing {
 // One line more.
 pub fn counted(listing: Listing) -> Listing {
     let mut next = listing;
-    next.line = std::num::wrapping_add_u64(listing.line, 1);
+    next.line = listing.line.wrapping_add(1);
     next
 }
 
@@ -43,57 +45,51 @@ pub fn held(listing: Listing, replay: Replay) -> Listing {
 }
 
 // Which number or area differs.
-fn print_what(fault: u8) {
+fn print_what<W: Write>(out: &mut W, fault: u8) -> io::Result<()> {
     if fault == replay::NUMBER {
-        io::write_all(1, b" differs in number ");
-        return;
+        return out.write_all(b" differs in number ");
     }
     if fault == replay::STATE_AREA {
-        io::write_all(1, b" differs in the state area, byte ");
-        return;
+        return out.write_all(b" differs in the state area, byte ");
     }
     if fault == replay::MAP_AREA {
-        io::write_all(1, b" differs in the map, byte ");
-        return;
+        return out.write_all(b" differs in the map, byte ");
     }
-    io::write_all(1, b" differs in the command area, byte ");
+    out.write_all(b" differs in the command area, byte ")
 }
 
 // What differs, and where in its line or area.
-fn print_fault(fault: u8, place: usize) {
+fn print_fault<W: Write>(out: &mut W, fault: u8, place: usize) -> io::Result<()> {
     if fault == replay::FORM {
-        io::write_all(1, b" is not of the form\n");
-        return;
+        return out.write_all(b" is not of the form\n");
     }
     if fault == replay::PLACE {
-        io::write_all(1, b" is out of place\n");
-        return;
+        return out.write_all(b" is out of place\n");
     }
-    print_what(fault);
-    io::print_decimal(1, place as u64);
-    io::write_all(1, b"\n");
+    print_what(out, fault)?;
+    writeln!(out, "{place}")
 }
 
 // What is printed behind a stream's name. A stream that ends while a call awaits its answer has not said all.
-pub fn end_stream(listing: Listing) -> Listing {
+pub fn end_stream<W: Write>(out: &mut W, listing: Listing) -> io::Result<Listing> {
     let replay = listing.replay;
     let mut next = listing;
     if listing.streams == 0 {
-        return next;
+        return Ok(next);
     }
     if (replay.fault == 0) & (replay.awaits == 0) {
-        io::write_all(1, b"as expected\n");
-        return next;
+        out.write_all(b"as expected\n")?;
+        return Ok(next);
     }
-    next.differ = std::num::wrapping_add_u64(listing.differ, 1);
+    next.differ = listing.differ.wrapping_add(1);
     if replay.fault == 0 {
-        io::write_all(1, b"ends within a call\n");
-        return next;
+        out.write_all(b"ends within a call\n")?;
+        return Ok(next);
     }
-    io::write_all(1, b"line ");
-    io::print_decimal(1, listing.fault);
-    print_fault(replay.fault, replay.place);
-    next
+    let line = listing.fault;
+    write!(out, "line {line}")?;
+    print_fault(out, replay.fault, replay.place)?;
+    Ok(next)
 }
 
 // Nothing of the stream before is kept. The area of a longer state is filled up with zeros.
@@ -108,47 +104,59 @@ fn forget(memory: &mut [u8])
 }
 
 // A stream's first line, which has its name.
-fn begin_stream(memory: &mut [u8], line: &[u8], listing: Listing) -> Listing
+fn begin_stream<W: Write>(
+    out: &mut W,
+    memory: &mut [u8],
+    line: &[u8],
+    listing: Listing,
+) -> io::Result<Listing>
     requires { 663552 ≤ length memory.old }
 {
-    let mut next = end_stream(listing);
+    let mut next = end_stream(out, listing)?;
     if 7 < line.len() {
-        io::write_all(1, &line[7..]);
+        out.write_all(&line[7..])?;
     }
-    io::write_all(1, b": ");
+    out.write_all(b": ")?;
     forget(memory);
     let last = listing.replay;
     let mut replay = replay::at_first();
     replay.calls = last.calls;
     next.replay = replay;
-    next.streams = std::num::wrapping_add_u64(listing.streams, 1);
-    next
+    next.streams = listing.streams.wrapping_add(1);
+    Ok(next)
 }
 
 // A line that asks for no call, or one behind a difference.
-pub fn take(memory: &mut [u8], head: u64, line: &[u8], listing: Listing) -> Listing
+pub fn take<W: Write>(
+    out: &mut W,
+    memory: &mut [u8],
+    head: u64,
+    line: &[u8],
+    listing: Listing,
+) -> io::Result<Listing>
     requires { 663552 ≤ length memory.old }
 {
     if head == STREAM_WORD {
-        return begin_stream(memory, line, listing);
+        return begin_stream(out, memory, line, listing);
     }
     if line.len() < 1 {
-        return listing;
+        return Ok(listing);
     }
     let last = listing.replay;
     if (line[0] == b'#') | (last.fault != 0) {
-        return listing;
+        return Ok(listing);
     }
-    held(listing, crate::expecting::take(memory, head, line, last))
+    Ok(held(listing, crate::expecting::take(memory, head, line, last)))
 }
 
 // The last line that is printed.
-pub fn print_total(listing: Listing) {
+pub fn print_total<W: Write>(out: &mut W, listing: Listing) -> io::Result<()> {
     let last = listing.replay;
-    io::print_decimal(1, listing.streams);
-    io::write_all(1, b" streams, ");
-    io::print_decimal(1, last.calls);
-    io::write_all(1, b" calls, ");
-    io::print_decimal(1, listing.differ);
-    io::write_all(1, b" not as expected\n");
+    let streams = listing.streams;
+    let calls = last.calls;
+    let differ = listing.differ;
+    writeln!(
+        out,
+        "{streams} streams, {calls} calls, {differ} not as expected"
+    )
 }

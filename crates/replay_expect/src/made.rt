@@ -19,7 +19,7 @@ pub fn made(
     next.kind = kind;
     next.answer = answer;
     next.end = 0;
-    next.calls = std::num::wrapping_add_u64(replay.calls, 1);
+    next.calls = replay.calls.wrapping_add(1);
     if (kind == OPENING) & (answer[0] == 0) {
         let table = [16u8, 4, 20, 4, 24, 4, 28, 4];
         replay_text::areas::put_numbers(memory, 131072, &table, numbers, 2, 4);

@@ -13,7 +13,7 @@ pub const AWAITS_PAIRS: u8 = 3;
 pub const AWAITS_MAP: u8 = 4;
 
 // Where a stream stands.
-#[derive(Drop)]
+#[derive(Clone, Copy)]
 pub struct Replay {
     pub awaits: u8,
     // the call that was made, its numbers, and where its commands end so far

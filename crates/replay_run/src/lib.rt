@@ -2,6 +2,8 @@
 // its commands and both areas are held against what the list says.
 //
 // For test programs: proved to be safe and to end, no more. Reads standard input and prints; its two rooms have 1 MiB each.
+#![tactic(auto)]
+
 mod calling;
 pub mod list;
 mod mapping;

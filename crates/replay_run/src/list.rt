@@ -3,9 +3,16 @@ ghost use Rattle.std.specs.Prelude.{◌≡◌, ◌≤◌, length};
 
 use replay_expect::listing::Listing;
 use replay_text::line_words::NO_CALL;
+use std::io;
+use std::io::{Read, Write};
 
 // One line of a list.
-fn take(memory: &mut [u8], line: &[u8], listing: Listing) -> Listing
+fn take<W: Write>(
+    out: &mut W,
+    memory: &mut [u8],
+    line: &[u8],
+    listing: Listing,
+) -> io::Result<Listing>
     requires { 663552 ≤ length memory.old }
 {
     let next = replay_expect::listing::counted(listing);
@@ -13,23 +20,23 @@ fn take(memory: &mut [u8], line: &[u8], listing: Listing) -> Listing
     let head = replay_text::line_words::first_word(line);
     let kind = replay_text::line_words::call_of(head);
     if (kind == NO_CALL) | (last.fault != 0) {
-        return replay_expect::listing::take(memory, head, line, next);
+        return replay_expect::listing::take(out, memory, head, line, next);
     }
-    replay_expect::listing::held(next, crate::stream::take_call(memory, kind, line, last))
+    Ok(replay_expect::listing::held(next, crate::stream::take_call(memory, kind, line, last)))
 }
 
 // All lines of a list.
-fn lines(memory: &mut [u8], text: &[u8]) -> Listing
+fn lines<W: Write>(out: &mut W, memory: &mut [u8], text: &[u8]) -> io::Result<Listing>
     requires { 663552 ≤ length memory.old }
 {
     let mut listing = replay_expect::listing::at_first();
     let mut from = 0;
     while from < text.len() {
-        let end = bytes::scan::find(text, from, text.len(), b'\n');
-        listing = take(memory, &text[from..end], listing);
+        let end = input::find(text, from, b'\n');
+        listing = take(out, memory, &text[from..end], listing)?;
         from = end + 1;
     }
-    replay_expect::listing::end_stream(listing)
+    replay_expect::listing::end_stream(out, listing)
 }
 
 // Room for a list, or for what a replay holds.
@@ -39,11 +46,11 @@ fn room() -> [u8; 1048576]
     [0; 1048576]
 }
 
-// Replays a list of at most 1,048,576 bytes.
-pub fn replay() {
+// Replays a list of at most 1,048,576 bytes. A read or a write that fails ends it.
+pub fn replay<R: Read, W: Write>(input: &mut R, out: &mut W) -> io::Result<()> {
     let mut memory = room();
     let mut text = room();
-    let size = io::read_full(0, &mut text);
-    let listing = lines(&mut memory, &text[..size]);
-    replay_expect::listing::print_total(listing);
+    let size = input::read_full(input, &mut text)?;
+    let listing = lines(out, &mut memory, &text[..size])?;
+    replay_expect::listing::print_total(out, listing)
 }

@@ -3,6 +3,8 @@
 //
 // For test programs: proved to be safe and to end, no more. Of the core it takes leaves alone: what is compared must not
 // come from what it is compared with. Writes the memory that it is lent, and costs one pass over a line.
+#![tactic(auto)]
+
 pub mod areas;
 pub mod lent;
 pub mod line_words;

@@ -62,7 +62,7 @@ pub const LEFT_MAP_SIGN: u64 = 0x25;
 
 // The first word of a line as the number of its bytes, or 0.
 pub fn first_word(line: &[u8]) -> u64 {
-    let end = bytes::scan::find(line, 0, line.len(), b' ');
+    let end = input::find(line, 0, b' ');
     if 8 < end {
         return 0;
     }

@@ -1,7 +1,7 @@
 // The numbers of a line, as wide as the exported entries take them.
 
 // The numbers of a step, in the order of its line.
-#[derive(Drop)]
+#[derive(Clone, Copy)]
 pub struct Step {
     pub kind: u8,
     pub clock: u64,
@@ -16,7 +16,7 @@ pub struct Step {
 }
 
 // The numbers of an opening, in the order of its line.
-#[derive(Drop)]
+#[derive(Clone, Copy)]
 pub struct Opening {
     pub clock: u64,
     pub height: u32,

@@ -8,7 +8,7 @@ use keeper_lines::numerals::Number;
 
 // The bytes of the last five words of hex stand one behind another: the last from `d` to `e`, the one before from `c` to `d`.
 // A line with fewer has its first ones empty.
-#[derive(Drop)]
+#[derive(Clone, Copy)]
 pub struct Words {
     // the line has had its shape so far
     pub ok: bool,
@@ -19,7 +19,7 @@ pub struct Words {
     pub e: usize,
 }
 
-#[derive(Drop)]
+#[derive(Clone, Copy)]
 pub struct Put {
     pub ok: bool,
     pub end: usize,
@@ -139,7 +139,7 @@ pub fn read_words(
             words.ok = false;
             return words;
         }
-        let end = bytes::scan::find(line, at, line.len(), b' ');
+        let end = input::find(line, at, b' ');
         words = read_word(&line[at..end], shape[i], numbers, i, out, words);
         at = end + 1;
         i += 1;

@@ -1,14 +1,10 @@
 -- The batches of some places, one after another, and a list that is filled with them.
 use Prim.Native.Nat.{ℕ, zero, suc, ◌+◌, ◌-◌, ◌≤◌, ◌<◌}
 use mathlib.Core.Path.{◌≡◌, refl, sym, ap, subst, ◌∙◌}
-use mathlib.Core.Bool.{Bool, cond}
 use mathlib.Core.List.{List, [], ◌∷◌, ◌++◌, append_assoc}
-use mathlib.Core.WellFounded.InvImage
-use mathlib.Core.WellFounded.{WellFounded}
 use native.Mathlib.Omega.{arith}
 use native.Mathlib.Nat.{add-zero}
 use native.Mathlib.Numerals.{add-one}
-use lib.WfN.{lt-wf_rel}
 use lib.ListN.{length, take, drop, set, get_or, length-set, length-drop, length-map, take-append-drop}
 use lib.Seq.{drop-set-lt, take-suc-set}
 use borrow.Author.Tests.{lt-ltb, le-ltb}
@@ -37,13 +33,11 @@ module _ (t places : List ℕ) (f : ℕ) where
   batches_next zero less enough = absurd (omega (arith, less, enough))
   batches_next (suc u) less enough =
       let e : suc u - 1 ≡ u = omega arith in
-      ap (λ (y : Bool). cond y (batch_at t places f ∷ batches_from u t places (f + (batch_at t places f).count)) []) (lt-ltb f (length places) less)
-      ∙ ap (λ (v : ℕ). batch_at t places f ∷ batches_from v t places (f + (batch_at t places f).count)) (sym e)
+      rw (lt-ltb f (length places) less, e)
 
   pub batches_end : (u : ℕ) → length places ≤ f → batches_from u t places f ≡ []
   batches_end zero over = refl
-  batches_end (suc u) over =
-      ap (λ (y : Bool). cond y (batch_at t places f ∷ batches_from u t places (f + (batch_at t places f).count)) []) (le-ltb f (length places) over)
+  batches_end (suc u) over = rw (le-ltb f (length places) over)
 
 -- a list as far as it is filled, k elements, with some batches to come
 abbrev filling : ℕ → List Batch → List Batch → List Batch
@@ -60,11 +54,8 @@ filling_next k b rest list h =
 filling_done : (k : ℕ) (list : List Batch) → filling k [] list ≡ list
 filling_done k list = rw (add-zero k) (take-append-drop k list)
 
--- The list that is filled: `list` as it is, k batches of it stored, the next from place f on, at most u to come.
-pub record Filling (t places : List ℕ) (ys : List Batch) : Type 0 where
-  pub list : List Batch
-  pub k : ℕ
-  pub f : ℕ
+-- The list that is filled, `list` as it is: k batches of it stored, the next from place f on, at most u to come.
+pub record Filling (t places : List ℕ) (ys list : List Batch) (k f : ℕ) : Type 0 where
   pub u : ℕ
   pub len : length list ≡ length ys
   pub behind : k ≤ f
@@ -74,19 +65,16 @@ pub record Filling (t places : List ℕ) (ys : List Batch) : Type 0 where
   pub counts : k + length (batches_from u t places f) ≡ length (batches_in t places)
 
 module _ (t places : List ℕ) (ys : List Batch) where
-  pub starts_filled : filling 0 (batches_from (length places) t places 0) ys ≡ filled_with (batches_in t places) ys
+  starts_filled : filling 0 (batches_from (length places) t places 0) ys ≡ filled_with (batches_in t places) ys
   unfolding batches_in filled_with
   starts_filled = let e : 0 + length (batches_from (length places) t places 0) ≡ length (batches_from (length places) t places 0) = omega arith in rw e
 
-  pub starts_counted : 0 + length (batches_from (length places) t places 0) ≡ length (batches_in t places)
+  starts_counted : 0 + length (batches_from (length places) t places 0) ≡ length (batches_in t places)
   unfolding batches_in
   starts_counted = omega arith
 
-  abbrev pub start : Filling t places ys
-  start = record {
-    list = ys;
-    k = 0;
-    f = 0;
+  pub fill_starts : Filling t places ys ys 0 0
+  fill_starts = record {
     u = length places;
     len = refl;
     behind = omega arith;
@@ -96,56 +84,45 @@ module _ (t places : List ℕ) (ys : List Batch) where
     counts = starts_counted;
   }
 
-  module _ (s : Filling t places ys) where
-    pub fill_within : length places ≤ length ys → s.f < length places → s.k < length s.list
-    fill_within room less = omega (arith, s.behind, less, room, s.len)
+module _ {t places : List ℕ} {ys list : List Batch} {k f : ℕ} (s : Filling t places ys list k f) where
+  pub fill_within : length places ≤ length ys → f < length places → k < length list
+  fill_within room less = omega (arith, s.behind, less, room, s.len)
 
-    pub next_fills : (b : Batch) → b ≡ batch_at t places s.f → s.f < length places → s.k < length s.list
-        → filling (s.k + 1) (batches_from (s.u - 1) t places (s.f + b.count)) (set s.list s.k b) ≡ filled_with (batches_in t places) ys
-    next_fills b e less room =
-        let with-batch : Batch → List Batch = λ (c : Batch). filling (s.k + 1) (batches_from (s.u - 1) t places (s.f + c.count)) (set s.list s.k c) in
+  -- a turn that stores the batch b
+  module _ {b : Batch} (e : b ≡ batch_at t places f) (less : f < length places) where
+    pub fill_upto : f + b.count ≤ length places
+    fill_upto = omega (arith, ap (λ (c : Batch). c.count) e, batch_ends t places f less)
+
+    pub fill_falls : length places - (f + b.count) < length places - f
+    fill_falls = omega (arith, ap (λ (c : Batch). c.count) e, batch_counts t places f, less)
+
+    next_fills : k < length list → filling (k + 1) (batches_from (s.u - 1) t places (f + b.count)) (set list k b) ≡ filled_with (batches_in t places) ys
+    next_fills room =
+        let with-batch : Batch → List Batch = λ (c : Batch). filling (k + 1) (batches_from (s.u - 1) t places (f + c.count)) (set list k c) in
         subst (λ (c : Batch). with-batch c ≡ filled_with (batches_in t places) ys) (sym e)
-        (filling_next s.k (batch_at t places s.f) (batches_from (s.u - 1) t places (s.f + (batch_at t places s.f).count)) s.list room
-        ∙ ap (λ (rest : List Batch). filling s.k rest s.list) (sym (batches_next t places s.f s.u less s.enough)) ∙ s.fills)
+        (filling_next k (batch_at t places f) (batches_from (s.u - 1) t places (f + (batch_at t places f).count)) list room
+        ∙ ap (λ (rest : List Batch). filling k rest list) (sym (batches_next t places f s.u less s.enough)) ∙ s.fills)
 
-    pub next_counts : (b : Batch) → b ≡ batch_at t places s.f → s.f < length places
-        → s.k + 1 + length (batches_from (s.u - 1) t places (s.f + b.count)) ≡ length (batches_in t places)
-    next_counts b e less =
-        let n = ap length (batches_next t places s.f s.u less s.enough) in
-        let m = ap (λ (c : Batch). length (batches_from (s.u - 1) t places (s.f + c.count))) e in
+    next_counts : k + 1 + length (batches_from (s.u - 1) t places (f + b.count)) ≡ length (batches_in t places)
+    next_counts =
+        let n = ap length (batches_next t places f s.u less s.enough) in
+        let m = ap (λ (c : Batch). length (batches_from (s.u - 1) t places (f + c.count))) e in
         omega (arith, n, m, s.counts)
 
-    -- after a turn that stores the batch b
-    abbrev pub next : (b : Batch) → b ≡ batch_at t places s.f → s.f < length places → length places ≤ length ys → Filling t places ys
-    next b e less room = record {
-      list = set s.list s.k b;
-      k = s.k + 1;
-      f = s.f + b.count;
+    pub fill_turn : length places ≤ length ys → Filling t places ys (set list k b) (k + 1) (f + b.count)
+    fill_turn room = record {
       u = s.u - 1;
-      len = length-set s.list s.k b ∙ s.len;
-      behind = omega (arith, s.behind, ap (λ (c : Batch). c.count) e, batch_counts t places s.f);
-      upto = omega (arith, ap (λ (c : Batch). c.count) e, batch_ends t places s.f less);
-      enough = omega (arith, s.enough, ap (λ (c : Batch). c.count) e, batch_counts t places s.f, less);
-      fills = next_fills b e less (fill_within room less);
-      counts = next_counts b e less;
+      len = length-set list k b ∙ s.len;
+      behind = omega (arith, s.behind, ap (λ (c : Batch). c.count) e, batch_counts t places f);
+      upto = fill_upto;
+      enough = omega (arith, s.enough, ap (λ (c : Batch). c.count) e, batch_counts t places f, less);
+      fills = next_fills (fill_within room less);
+      counts = next_counts;
     }
 
-    pub fill_falls : s.f < length places → s.u - 1 < s.u
-    fill_falls less = omega (arith, s.enough, less)
-
-    pub fill_few : s.k ≤ length places
-    fill_few = omega (arith, s.behind, s.upto)
-
-    pub filled_list : length places ≤ s.f → s.list ≡ filled_with (batches_in t places) ys
-    filled_list over =
-        let none = ap (λ (rest : List Batch). filling s.k rest s.list) (sym (batches_end t places s.f s.u over)) in
-        sym (filling_done s.k s.list) ∙ none ∙ s.fills
-
-    pub filled_count : length places ≤ s.f → s.k ≡ length (batches_in t places)
-    filled_count over = let e = ap length (batches_end t places s.f s.u over) in omega (arith, e, s.counts)
-
-  abbrev pub Nearer : Filling t places ys → Filling t places ys → Type 0
-  Nearer s' s = s'.u < s.u
-
-  pub Nearer-wf : WellFounded Nearer
-  Nearer-wf = InvImage.wf (λ (s : Filling t places ys). s.u) lt-wf_rel.wf
+  pub fill_ends : length places ≤ f → (list ≡ filled_with (batches_in t places) ys) × ((k ≡ length (batches_in t places)) × (k ≤ length places))
+  fill_ends over =
+      let none = batches_end t places f s.u over in
+      let as-stored = ap (λ (rest : List Batch). filling k rest list) (sym none) in
+      let number = ap length none in
+      (sym (filling_done k list) ∙ as-stored ∙ s.fills, (omega (arith, number, s.counts), omega (arith, s.behind, s.upto)))

@@ -3,6 +3,8 @@
 // The commands are those of `retry_sendings` in model/specs/Check.antt. The table is read only; the places are sorted, and
 // commands are written from `at` on. One sort of the retried places, one pass over their ids. Where nothing is sent, no
 // room is made.
+#![tactic(auto)]
+
 pub mod batches;
 
 ghost use Rattle.std.specs.Prelude.{◌≡◌, cond, [], map, ℕ, ◌+◌, ◌*◌, ◌≤◌, ◌<◌, length, take};

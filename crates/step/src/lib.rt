@@ -3,6 +3,8 @@
 //
 // `run` equals `step` of model/specs/Calls.antt for every call that none of 1 to 8 refuses. It costs the records and rows
 // that its rules read and the bytes that it writes; on copies also a copy of the state area and one back.
+#![tactic(auto)]
+
 pub mod copied;
 pub mod copies;
 pub mod finish;

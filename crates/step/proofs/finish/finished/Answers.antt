@@ -1,0 +1,8 @@
+-- Field by field.
+use Rattle.step.specs.Answers.{answer_of}
+use mathlib.Core.Path.{refl}
+use Rattle.step.proofs.finish.finished.Goals as goal
+
+pub returns : goal.returns
+unfolding answer_of
+returns c = refl
