@@ -34,11 +34,10 @@ pub bounds-map-i : goal.bounds-map-i
 bounds-map-i c =
     let f = (goal.at.bounds-map-i c).Else-not-fits in
     let l = fits_long f.args.map.now (fitting f) in
-    let k = c.if-i-ge-WINDOW_SIZE.false in
-    omega (arith, l, k)
+    omega (arith, l)
 
 pub returns : goal.returns
 returns c =
     let f = (goal.at.returns c).Else-not-fits in
-    read_in_window c.args.map.now c.args.height c.args.place c.read_u32-downloaded.ensures (fitting f) c.if-height-downloaded.false c.if-i-ge-WINDOW_SIZE.false
+    read_in_window c.args.map.now c.args.height c.args.place c.read_u32-downloaded.ensures (fitting f) c.if-height-downloaded.false (omega arith)
     c.places_of.ensures
