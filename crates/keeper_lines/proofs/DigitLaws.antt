@@ -78,25 +78,25 @@ digits_read_back n h =
 
 -- What was put from `at` on, and where it ends.
 abbrev pub Put : ℕ → List ℕ → List ℕ → List ℕ → ℕ → Type 0
-Put at s done o end = (o ≡ overwritten at done s) × (end ≡ at + length done)
+Put at s done o end = record { out_after : o ≡ overwritten at done s; value : end ≡ at + length done }
 
 pub none_put : (at most n : ℕ) (s : List ℕ) → most < 1 → Put at s (digits_within most n) s at
-none_put at zero n s h = (sym (overwritten_nil at s), omega arith)
+none_put at zero n s h = record { out_after = sym (overwritten_nil at s); value = omega arith }
 none_put at (suc most) n s h = absurd (lt_irrefl 0 (omega arith))
 
 pub only_put : (at most n : ℕ) (s : List ℕ) → at + most ≤ length s → 1 ≤ most → n < 10
     → Put at s (digits_within most n) (set s at (48 + n)) (at + 1)
 only_put at zero n s room positive l = absurd (lt_irrefl 0 (omega arith))
-only_put at (suc most) n s room positive l = rw (digits_last most n l) (overwritten_one at (48 + n) s (omega arith), refl)
+only_put at (suc most) n s room positive l = rw (digits_last most n l) (record { out_after = overwritten_one at (48 + n) s (omega arith); value = refl })
 
 -- one byte more, behind what was put
 pub byte_put : (at byte : ℕ) (s o done : List ℕ) (end : ℕ) → at + length done < length s
     → Put at s done o end → Put at s (done ++ (byte ∷ [])) (set o end byte) (end + 1)
 byte_put at byte s o done end room p =
-    let kept : length o ≡ length s = ap length p.0 ∙ length_overwritten at done s (omega arith) in
-    let one : set o end byte ≡ overwritten end (byte ∷ []) o = overwritten_one end byte o (omega (arith, p.1)) in
+    let kept : length o ≡ length s = ap length p.out_after ∙ length_overwritten at done s (omega arith) in
+    let one : set o end byte ≡ overwritten end (byte ∷ []) o = overwritten_one end byte o (omega (arith, p.value)) in
     let longer : length (done ++ (byte ∷ [])) ≡ length done + 1 = length-append done (byte ∷ []) in
-    (one ∙ rw (p.0, p.1) (overwritten_next at done (byte ∷ []) s (omega arith)), omega (arith, p.1))
+    record { out_after = one ∙ rw (p.out_after, p.value) (overwritten_next at done (byte ∷ []) s (omega arith)); value = omega (arith, p.value) }
 
 -- The last digit has room at `end`, and with it the digits are put.
 pub record LastPut (at most n : ℕ) (s o : List ℕ) (end : ℕ) : Type 0 where
@@ -116,8 +116,8 @@ last_put at (suc most) n s o end room positive p =
     go : Put at s high o end → LastPut at (suc most) n s o end
     go q =
         let few : length high ≤ most = length_digits most (n / 10) in
-        let kept : length o ≡ length s = ap length q.0 ∙ length_overwritten at high s (omega arith) in
-        record { room = omega (arith, q.1); put = λ l. rw (digits_more most n l) (byte_put at (48 + n % 10) s o high end (omega arith) q) }
+        let kept : length o ≡ length s = ap length q.out_after ∙ length_overwritten at high s (omega arith) in
+        record { room = omega (arith, q.value); put = λ l. rw (digits_more most n l) (byte_put at (48 + n % 10) s o high end (omega arith) q) }
 
 -- 10050 printed
 pub printed : digits 10050 ≡ 49 ∷ 48 ∷ 48 ∷ 53 ∷ 48 ∷ []

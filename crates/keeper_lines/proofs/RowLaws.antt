@@ -28,17 +28,17 @@ pub number_marked : (at mark : ℕ) (s o : List ℕ) (n end : ℕ) → at + 21 �
 unfolding number_then
 number_marked at mark s o n end room p =
     let few : length (digits n) ≤ 20 = length_digits 20 n in
-    let kept : length o ≡ length s = ap length p.0 ∙ length_overwritten at (digits n) s (omega arith) in
-    record { room = omega (arith, p.1); put = byte_put at mark s o (digits n) end (omega arith) p }
+    let kept : length o ≡ length s = ap length p.out_after ∙ length_overwritten at (digits n) s (omega arith) in
+    record { room = omega (arith, p.value); put = byte_put at mark s o (digits n) end (omega arith) p }
 
 -- ---- numbers, each with its mark
 
 pub next_put : (at : ℕ) (s done new o o' : List ℕ) (end end' : ℕ) → at + length done + length new ≤ length s
     → Put at s done o end → Put end o new o' end' → Put at s (done ++ new) o' end'
 next_put at s done new o o' end end' room p q =
-    let e : o' ≡ overwritten (at + length done) new o = rw p.1 at q.0 in
+    let e : o' ≡ overwritten (at + length done) new o = rw p.value at q.out_after in
     let l : length (done ++ new) ≡ length done + length new = length-append done new in
-    (e ∙ ap (overwritten (at + length done) new) p.0 ∙ overwritten_next at done new s room, omega (arith, p.1, q.1))
+    record { out_after = e ∙ ap (overwritten (at + length done) new) p.out_after ∙ overwritten_next at done new s room; value = omega (arith, p.value, q.value) }
 
 -- numbers with a space behind each
 abbrev pub spaced : List ℕ → List ℕ
@@ -67,7 +67,7 @@ pub record Written (at : ℕ) (s ns o : List ℕ) (end : ℕ) : Type 0 where
   pub put : Put at s (spaced ns) o end
 
 pub none_written : (at : ℕ) (s : List ℕ) → at + 126 ≤ length s → Written at s [] s at
-none_written at s room = record { room = room; put = (sym (overwritten_nil at s), omega arith) }
+none_written at s room = record { room = room; put = record { out_after = sym (overwritten_nil at s); value = omega arith } }
 
 module _ {at : ℕ} {s ns o : List ℕ} {end : ℕ} (w : Written at s ns o end) (few : length ns ≤ 5) where
   still_room : at + length (spaced ns) + 21 ≤ length s
@@ -76,8 +76,8 @@ module _ {at : ℕ} {s ns o : List ℕ} {end : ℕ} (w : Written at s ns o end) 
   -- one more number has room
   pub room_for_next : end + 21 ≤ length o
   room_for_next =
-      let kept : length o ≡ length s = ap length w.put.0 ∙ length_overwritten at (spaced ns) s (omega (arith, still_room)) in
-      omega (arith, still_room, w.put.1)
+      let kept : length o ≡ length s = ap length w.put.out_after ∙ length_overwritten at (spaced ns) s (omega (arith, still_room)) in
+      omega (arith, still_room, w.put.value)
 
   behind : (mark n : ℕ) {o' : List ℕ} {end' : ℕ} → Put end o (number_then mark n) o' end' → Put at s (spaced ns ++ number_then mark n) o' end'
   behind mark n p = next_put at s (spaced ns) (number_then mark n) o _ end _ (omega (arith, still_room, number_fits mark n)) w.put p

@@ -1,0 +1,5 @@
+-- By induction on `most`.
+use Rattle.keeper_lines.proofs.rows.+put_digits.Given as goal
+
+abbrev pub decreases-put_digits : goal.decreases-put_digits
+decreases-put_digits l = l.most
