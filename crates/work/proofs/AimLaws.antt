@@ -1,5 +1,4 @@
 -- The targets of an aim that a function was given are in width.
-use Prim.Native.Nat.{ℕ, ◌<◌}
 use mathlib.Core.List.{List}
 use native.Mathlib.Omega.{arith}
 use lib.Dec.{eqb}

@@ -28,7 +28,6 @@ use Rattle.settings.specs.Values.{settings_of}
 use Rattle.image.specs.declared.head.Head.{Head}
 use Rattle.peers.specs.Aims.{aimed_at}
 use Rattle.peers.specs.declared.aim.Aim.{Aim}
-use Rattle.peers.specs.declared.aim.Aim.TheVariants.{Same, Other}
 use Rattle.commands.specs.Pending.{requests_in, holding}
 use Rattle.commands.specs.Sent.{sent_bytes}
 use Rattle.delivery.specs.Region.{evicted_in}

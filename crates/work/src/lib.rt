@@ -4,6 +4,8 @@
 // Here are the works (plan::Work) that ask nobody: `nothing`, those that take requests out of pending in `removals`, the
 // check in `region_check`; work_asks has those with a peer to ask. Each equals `worked_by` of specs/Worked.antt. The region
 // is written and, by a check, commands; a work costs what delivery, check_timeouts and retries say.
+#![tactic(auto)]
+
 pub mod region_check;
 pub mod removals;
 

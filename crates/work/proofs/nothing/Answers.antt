@@ -1,0 +1,7 @@
+-- The region is what it was: `does_nothing`.
+use Rattle.work.proofs.WorkedLaws.{does_nothing}
+use Rattle.work.proofs.nothing.Goals as goal
+
+pub returns : goal.returns
+returns c = λ st call region ids stored view out numbers t g downloaded.
+    does_nothing g downloaded t
