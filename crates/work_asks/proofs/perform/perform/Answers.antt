@@ -1,0 +1,137 @@
+-- Each arm is the function of its work: `as_work`.
+use Prim.Native.Nat.{◌+◌, ◌≤◌, ◌<◌}
+use mathlib.Core.Path.{◌≡◌, refl}
+use lib.ListN.{length}
+use Rattle.work.proofs.WorkedLaws.{clock_given}
+use Rattle.plan.specs.declared.Work.{Work}
+use Rattle.work_asks.specs.Room.{most_sent}
+use Rattle.work_asks.proofs.WorkLaws.{as_work, several}
+use Rattle.model.specs.Layout.{most_batches}
+use Rattle.work_asks.proofs.perform.perform.Goals.{Start}
+use Rattle.work_asks.proofs.perform.perform.Goals as goal
+
+-- ---- the room, by the work that is done
+
+module _ (s : Start) where
+  room : {one : Work} → let a = s.args in a.work ≡ one
+      → (a.at + most_sent a.head (length a.ids.now) one ≤ length a.out.now) × (a.batch + most_batches < 65536)
+  room e = (rw e at s.requires.work_in_bounds.0, s.requires.work_in_bounds.1)
+
+pub ids-requires : goal.ids-requires
+ids-requires c =
+    let s = (goal.at.ids-requires c).Start in
+    record { tracked = s.requires.tracked; id_size_len = s.requires.id_size_len; stored_value = s.requires.stored_value.0; command_size_in_bounds = room s c.in-Ids.is }
+
+pub sections-requires : goal.sections-requires
+sections-requires c =
+    let s = (goal.at.sections-requires c).Start in
+    record { tracked = s.requires.tracked; view_value = s.requires.stored_value.1; most_bytes_in_bounds = room s c.in-Sections.is }
+
+pub purge_sections-requires : goal.purge_sections-requires
+purge_sections-requires c =
+    let s = (goal.at.purge_sections-requires c).Start in
+    record { tracked = s.requires.tracked; view_value = s.requires.stored_value.1; most_bytes_in_bounds = room s c.in-PurgeSections.is }
+
+pub lose_ask-requires : goal.lose_ask-requires
+lose_ask-requires c =
+    let s = (goal.at.lose_ask-requires c).Start in
+    record { tracked = s.requires.tracked; stored_value = s.requires.stored_value.0; most_bytes_in_bounds = room s c.in-LoseAsk.is }
+
+pub check-requires : goal.check-requires
+check-requires c =
+    let s = (goal.at.check-requires c).Start in
+    record { tracked = s.requires.tracked; command_size_in_bounds = room s c.in-Check.is }
+
+pub check_fresh-requires : goal.check_fresh-requires
+check_fresh-requires c =
+    let s = (goal.at.check_fresh-requires c).Start in
+    record { tracked = s.requires.tracked; stored_value = s.requires.stored_value.0; command_size_in_bounds = room s c.in-CheckFresh.is }
+
+pub returns-in-Nothing : goal.returns-in-Nothing
+returns-in-Nothing c =
+    let a = c.args in record {
+      performs = (λ st call g. as_work st call a.downloaded c.in-Nothing.is
+          (c.nothing.ensures st call a.region.now a.ids.now a.stored.now a.view.now a.out.now a.call
+          (rw (clock_given g) c.requires.tracked) g a.downloaded));
+      untouched = several c.in-Nothing.is refl;
+    }
+
+pub returns-in-Ids : goal.returns-in-Ids
+returns-in-Ids c =
+    let a = c.args in record {
+      performs = (λ st call g. as_work st call a.downloaded c.in-Ids.is
+          (c.ids.ensures.performs st call a.view.now g a.downloaded));
+      untouched = (λ one full. c.ids.ensures.region_unchanged full);
+    }
+
+pub returns-in-Sections : goal.returns-in-Sections
+returns-in-Sections c =
+    let a = c.args in record {
+      performs = (λ st call g. as_work st call a.downloaded c.in-Sections.is
+          (c.sections.ensures st call a.ids.now a.stored.now g));
+      untouched = several c.in-Sections.is refl;
+    }
+
+pub returns-in-Received : goal.returns-in-Received
+returns-in-Received c =
+    let a = c.args in record {
+      performs = (λ st call g. as_work st call a.downloaded c.in-Received.is
+          (c.received.ensures st call a.stored.now a.view.now a.out.now g a.downloaded));
+      untouched = several c.in-Received.is refl;
+    }
+
+pub returns-in-Evicted : goal.returns-in-Evicted
+returns-in-Evicted c =
+    let a = c.args in record {
+      performs = (λ st call g. as_work st call a.downloaded c.in-Evicted.is
+          (c.evicted.ensures.performs st call a.stored.now a.view.now a.out.now g a.downloaded));
+      untouched = (λ one full. (c.evicted.ensures.region_unchanged full, refl));
+    }
+
+pub returns-in-Purge : goal.returns-in-Purge
+returns-in-Purge c =
+    let a = c.args in record {
+      performs = (λ st call g. as_work st call a.downloaded c.in-Purge.is
+          (c.purge.ensures st call a.ids.now a.stored.now a.view.now a.out.now g a.downloaded));
+      untouched = several c.in-Purge.is refl;
+    }
+
+pub returns-in-PurgeSections : goal.returns-in-PurgeSections
+returns-in-PurgeSections c =
+    let a = c.args in record {
+      performs = (λ st call g. as_work st call a.downloaded c.in-PurgeSections.is
+          (c.purge_sections.ensures st call a.ids.now a.stored.now g));
+      untouched = several c.in-PurgeSections.is refl;
+    }
+
+pub returns-in-Lose : goal.returns-in-Lose
+returns-in-Lose c =
+    let a = c.args in record {
+      performs = (λ st call g. as_work st call a.downloaded c.in-Lose.is
+          (c.lose.ensures st call a.ids.now a.stored.now a.view.now a.out.now g a.downloaded));
+      untouched = several c.in-Lose.is refl;
+    }
+
+pub returns-in-LoseAsk : goal.returns-in-LoseAsk
+returns-in-LoseAsk c =
+    let a = c.args in record {
+      performs = (λ st call g. as_work st call a.downloaded c.in-LoseAsk.is
+          (c.lose_ask.ensures st call a.ids.now a.view.now g a.downloaded));
+      untouched = several c.in-LoseAsk.is refl;
+    }
+
+pub returns-in-Check : goal.returns-in-Check
+returns-in-Check c =
+    let a = c.args in record {
+      performs = (λ st call g. as_work st call a.downloaded c.in-Check.is
+          (c.check.ensures st call a.ids.now a.stored.now a.view.now g a.downloaded));
+      untouched = several c.in-Check.is refl;
+    }
+
+pub returns-in-CheckFresh : goal.returns-in-CheckFresh
+returns-in-CheckFresh c =
+    let a = c.args in record {
+      performs = (λ st call g. as_work st call a.downloaded c.in-CheckFresh.is
+          (c.check_fresh.ensures st call a.ids.now a.view.now g a.downloaded));
+      untouched = several c.in-CheckFresh.is refl;
+    }
