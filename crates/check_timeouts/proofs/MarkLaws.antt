@@ -1,4 +1,4 @@
--- One record's peer written over is the model's markRetried of its id, where ids rise.
+-- One record's peer written over is the model's mark_retried of its id, where ids rise.
 use Prim.Native.Nat.{ℕ, zero, suc, ◌*◌, ◌^◌, ◌≤◌, ◌<◌}
 use mathlib.Core.Path.{◌≡◌, refl, ap, ◌∙◌}
 use mathlib.Core.Bool.{true}

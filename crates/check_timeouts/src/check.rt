@@ -92,7 +92,7 @@ fn restart(table: &mut [u8], i: usize, clock: u64)
     fields::write_u32(table, at + 50, checks + 1);
 }
 
-// The peer of request i becomes the one now asked. Where ids rise this is the model's markRetried of its id.
+// The peer of request i becomes the one now asked. Where ids rise this is the model's mark_retried of its id.
 pub fn mark_retried(table: &mut [u8], i: usize, peer: u64)
     requires { i * record_size + record_size ≤ length table.old }
     ensures table_after { table.new ≡ overwritten (i * record_size) (request_bytes (with_peer peer (request_of (entry record_size i table.old)))) table.old }

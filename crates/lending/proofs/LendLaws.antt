@@ -1,10 +1,10 @@
--- What walks over lent values have in common: `sending` (a struct) and `batches` (a slice of structs).
---     both-said    two facts of one contract, as one.        says_both    a goal P ∗ (⌜φ⌝ ∗ ⌜ψ⌝): both are shown, and P is left
+-- Laws on what a function lends: a struct in its local's cell, slices, and facts in pairs.
+--     both_said    two facts of one contract, as one.        says_both    a goal P ∗ (⌜φ⌝ ∗ ⌜ψ⌝): both are shown, and P is left
 --     lies_in      a local's cell, with the relation of what it holds, is a part of memory, which can be lent
 --     lies_out     and back
---     slices-own   what two plain slices own.        slices-twice    a callee can be given it, and it is kept
---     lit-big      a large constant as an operand (`int_big`; `types.Run`'s `lit` is for a small one)
--- All but `both_said` assume `Logic`.
+--     slices_own   what two plain slices own.        slices_twice    a callee can be given it, and it is kept
+--     lit_big      a large constant as an operand (`int_big`)
+-- All but `both_said` and `slices_own` assume `Logic`.
 use mathlib.Core.Path.{◌≡◌, subst, sym}
 use Prim.Native.Nat.{ℕ}
 use mathlib.Core.List.{[], ◌∷◌, List}

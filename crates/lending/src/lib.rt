@@ -1,3 +1,3 @@
-// What the proofs of functions that are lent a struct, or lend one, have in common (proofs/LendLaws.antt). No code.
+// Laws on what a function lends: a struct, or slices (proofs/LendLaws.antt). No code.
 
 #![tactic(auto)]

@@ -28,8 +28,8 @@ pub record SendClock : Type 0 where
   pub sends : ℕ
 
 -- The state but for settings, mode, last clock and pending requests.
--- progressUsed: progress has tried to send since the last entry or scheduled tick.
--- entrySent: the last finished step was an entry to syncing that sent.
+-- progress_used: progress has tried to send since the last entry or scheduled tick.
+-- entry_sent: the last finished step was an entry to syncing that sent.
 pub record Sync : Type 0 where
   pub sync_peer : ℕ
   pub downloaded : ℕ

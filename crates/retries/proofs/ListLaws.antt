@@ -1,10 +1,10 @@
 -- An array of batches in a local's cell is its elements in memory, which can be lent as a slice; and back. At any number n of elements.
---     mach         the machine value of a batch.        list-val     the machine value of an array of them
---     list-in      the local's cell, with the array's relation, is what `lends_slice` asks
---     list-out     what `slice_back` gives is the local's cell again, with the relation
+--     mach         the machine value of a batch.        list_val     the machine value of an array of them
+--     list_in      the local's cell, with the array's relation, is the elements in memory
+--     list_out     and back, with the relation
 --     list_held    an array's relation is that of a field that is such an array
---     place-fits   where element i starts is a number of 64 bits
--- Assumes `Logic`.
+--     place_fits   where element i starts is a number of 64 bits
+-- `list_in` and `list_out` assume `Logic`.
 use Prim.Native.Nat.{ℕ, ◌<◌, ◌^◌, ◌*◌}
 use native.Mathlib.Omega.{arith}
 use mathlib.Core.List.{[], ◌∷◌, List, map}

@@ -1,4 +1,4 @@
--- The digits' own answers, put together by `hex_pair`.
+-- The digits' own answers, put together by `hex_two`.
 use native.Mathlib.Omega.{arith}
 use Prim.Native.Nat.{ℕ}
 use mathlib.Core.Path.{◌≡◌}
