@@ -1,5 +1,5 @@
 // Rule 4's window: downloaded + 1 to min(downloaded + 192, chain height), up to the first absent header.
-ghost use Rattle.std.specs.Prelude.{◌≡◌, true, map, ℕ, ◌+◌, ◌-◌, ◌*◌, ◌≤◌, min, length, get_or};
+ghost use Rattle.std.specs.Prelude.{◌≡◌, true, false, map, ℕ, ◌+◌, ◌-◌, ◌*◌, ◌≤◌, ◌<◌, min, length, get_or};
 ghost use Rattle.fields.specs.Entries.{joined};
 ghost use Rattle.fields.specs.Overwrite.{overwritten};
 ghost use Rattle.model.specs.Protocol.{window_size};
@@ -47,6 +47,18 @@ pub fn window_seen(view: &[u8], chain: u32, downloaded: u32) -> bool
     true
 }
 
+// Whether the flag behind a pair says that it is stored.
+fn is_stored(view: &[u8], end: usize) -> bool
+    requires { end < length view.now }
+    ensures stored { result ≡ true → get_or view.now end 0 ≡ 1 }
+    ensures missing { result ≡ false → get_or view.now end 0 ≡ 1 → ⊥ }
+{
+    if view[end] == 1 {
+        return true;
+    }
+    false
+}
+
 // A place's type and id, which stand side by side, at index `to` of the pairs, unless the place is stored. Answers the
 // index behind them.
 fn put_place(view: &[u8], at: usize, pairs: &mut [u8], to: usize) -> usize
@@ -56,7 +68,7 @@ fn put_place(view: &[u8], at: usize, pairs: &mut [u8], to: usize) -> usize
     ensures pairs_after { pairs.new ≡ overwritten (to * pair_size) (joined (place_pairs at view.now)) pairs.old }
 {
     let end = at + PAIR_SIZE;
-    if view[end] == 1 {
+    if is_stored(view, end) {
         return to;
     }
     spans::moving::overwrite(pairs, to * PAIR_SIZE, &view[at..end]);

@@ -110,10 +110,10 @@ fn answer_all<R: Read, W: Write>(
 }
 
 // Room for the table, or for what is printed.
-fn room() -> [u8; 1048576]
-    ensures { 1048576 ≡ length result }
+fn room() -> [u8; 65536]
+    ensures { 65536 ≡ length result }
 {
-    [0; 1048576]
+    [0; 65536]
 }
 
 // All of the input, with the table and both buffers made here.

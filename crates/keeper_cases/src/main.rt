@@ -10,10 +10,10 @@ use std::io;
 use std::io::Write;
 
 // Room for a list, for a table, or for what is printed.
-fn room() -> [u8; 1048576]
-    ensures { 1048576 ≡ length result }
+fn room() -> [u8; 65536]
+    ensures { 65536 ≡ length result }
 {
-    [0; 1048576]
+    [0; 65536]
 }
 
 // What the program prints of an input of at most 1,536 bytes.
