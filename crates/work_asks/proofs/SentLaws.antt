@@ -68,19 +68,16 @@ module _ (announces : Listed) (bytes out : List ℕ) where
 
   abbrev pub Announced : List ℕ → ℕ → ℕ → Type 0
   Announced out' at batch =
-      record {
-        out_after : out' ≡ overwritten 0 (sent_bytes 0 announcements) out;
-        at_value : (at ≡ length (sent_bytes 0 announcements)) × (batch ≡ length announcements);
-        most_bytes_bound : (at + most_bytes ≤ 65536) × (batch ≤ 1);
-      }
+      (out' ≡ overwritten 0 (sent_bytes 0 announcements) out)
+      × (((at ≡ length (sent_bytes 0 announcements)) × (batch ≡ length announcements)) × ((at + most_bytes ≤ 65536) × (batch ≤ 1)))
 
   pub nobody_told : announces ≡ Nobody → Announced out 0 0
   unfolding sent_bytes
-  nobody_told e = rw e (record { out_after = sym (overwritten_nil 0 out); at_value = (refl, refl); most_bytes_bound = (omega arith, omega arith) })
+  nobody_told e = rw e (sym (overwritten_nil 0 out), ((refl, refl), (omega arith, omega arith)))
 
   pub nothing_told : (peer : ℕ) → announces ≡ Peer peer → length bytes < 1 → Announced out 0 0
   unfolding sent_bytes
-  nothing_told peer e h = rw (e, no_ids bytes h) (record { out_after = sym (overwritten_nil 0 out); at_value = (refl, refl); most_bytes_bound = (omega arith, omega arith) })
+  nothing_told peer e h = rw (e, no_ids bytes h) (sym (overwritten_nil 0 out), ((refl, refl), (omega arith, omega arith)))
 
   pub told : (peer : ℕ) (out' : List ℕ) (end : ℕ) → announces ≡ Peer peer → continuation_fits bytes ≡ true → 1 ≤ length bytes
       → out' ≡ overwritten 0 (command_bytes (record { kind = 2; type_id = 101; batch = 0; peer = peer; ids = ids_in bytes })) out
@@ -93,7 +90,7 @@ module _ (announces : Listed) (bytes out : List ℕ) where
       let s : announced (some peer) (ids_in bytes) ≡ announcement peer (ids_in bytes) ∷ [] = announced_some peer (ids_in bytes) (omega (arith, w.0)) in
       let c : Command = record { kind = 2; type_id = 101; batch = 0; peer = peer; ids = ids_in bytes } in
       let b : command_bytes c ++ [] ≡ command_bytes c = append-nil (command_bytes c) in
-      rw (p, s, b) (record { out_after = e; at_value = (n ∙ sym (announcement_long 0 peer bytes w.0), refl); most_bytes_bound = (omega (arith, w.1), omega arith) })
+      rw (p, s, b) (e, ((n ∙ sym (announcement_long 0 peer bytes w.0), refl), (omega (arith, w.1), omega arith)))
 
 -- with nobody told, the commands are as they were
 pub nothing_before : (announces : Listed) (bytes out : List ℕ) {out' : List ℕ}
@@ -130,9 +127,9 @@ module _ (st : State) (c : calls.Call) (plan : Plan) where
       subst (λ (b : List ℕ). Announced plan.announces b out out₁ at batch) (sym same) told' in
       let A : List ℕ = sent_bytes 0 first in
       let B : List ℕ = sent_bytes batch work.sendings in
-      let w : out₁ ≡ overwritten 0 A out = a.out_after in
-      let na : at ≡ length A = a.at_value.0 in
-      let nb : batch ≡ length first = a.at_value.1 in
+      let w : out₁ ≡ overwritten 0 A out = a.0 in
+      let na : at ≡ length A = a.1.0.0 in
+      let nb : batch ≡ length first = a.1.0.1 in
       let both : sent_bytes 0 (first ++ work.sendings) ≡ A ++ B = sent_append 0 first work.sendings ∙ rw (zero-add (length first), ← nb) in
       let e-at : at + length B ≡ 0 + length (sent_bytes 0 (first ++ work.sendings)) = rw (both, length-append A B) (omega arith) in
       let e-batch : batch + length work.sendings ≡ 0 + length (first ++ work.sendings) = rw (length-append first work.sendings) (omega arith) in

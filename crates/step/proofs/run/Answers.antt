@@ -55,7 +55,11 @@ module _ (c : After-read_head-head) where
 
 module _ (c : After-plan_step-plan) where
   abbrev header : After-read_head-head
-  header = record { before = search; type_inv = record { commands = search; continuation = search; ids = search; peers = search; stored = search; view = search } }
+  header =
+      record {
+        before = search;
+        type_inv = record { commands = search; continuation = search; ids = search; peers = search; stored = search; view = search };
+      }
 
   abbrev plan : Plan
   plan = c.plan_step-plan.result
@@ -87,7 +91,11 @@ plan_step-plan-requires c =
     let s = start h in
     let a = s.args in
     let whole = plan_ready a.call a.ids.now a.continuation.now a.stored.now a.peers.now a.view.now
-    (area s) (length (commands s)) s.requires h.read_head-head.result h.read_head-head.ensures in record { view_value = whole.0; stalled_bound = whole.1 }
+    (area s) (length (commands s)) s.requires h.read_head-head.result h.read_head-head.ensures in
+    record {
+      view_value = whole.0;
+      stalled_bound = whole.1;
+    }
 
 pub returns-then-not-plan : goal.returns-then-not-plan
 returns-then-not-plan c =

@@ -5,7 +5,13 @@ use Rattle.keeper_text.proofs.LineLaws.{begins, begins_twice}
 use Rattle.keeper_text.proofs.keeping.begin.Goals as goal
 
 pub returns-then-keeper : goal.returns-then-keeper
-returns-then-keeper c = let whole = begins_twice c.requires c.args.timeout c.args.limit c.args.at c.if-keeper.true in record { value = whole.0; table_value = whole.1.0; holds = whole.1.1 }
+returns-then-keeper c =
+    let whole = begins_twice c.requires c.args.timeout c.args.limit c.args.at c.if-keeper.true in
+    record {
+      value = whole.0;
+      table_value = whole.1.0;
+      holds = whole.1.1;
+    }
 
 pub returns : goal.returns
 returns c =

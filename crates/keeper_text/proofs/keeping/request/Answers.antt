@@ -28,12 +28,22 @@ module _ (c : Else-not-in_order) where
 pub returns-then-not-in_order : goal.returns-then-not-in_order
 returns-then-not-in_order c =
     let late = sym c.in_order.ensures ∙ c.if-not-in_order.true in
-    let whole = refuses_request c.args.keeper c.args.table.now c.args.clock c.args.at late c.args.peer c.args.typeid c.args.byte in record { value = whole.0; table_after = whole.1.0; holds = whole.1.1 }
+    let whole = refuses_request c.args.keeper c.args.table.now c.args.clock c.args.at late c.args.peer c.args.typeid c.args.byte in
+    record {
+      value = whole.0;
+      table_after = whole.1.0;
+      holds = whole.1.1;
+    }
 
 pub request_announced-requires : goal.request_announced-requires
 unfolding pairs_fit list_fits rising
 request_announced-requires c =
-    record { id_size_len = (refl, (omega arith, (omega (arith, kept_few c.requires), (omega arith, omega (arith, c.requires.room))))); table_value = c.requires.order; stored_value = refl; ids_in_bounds = (omega arith, (omega arith, omega arith)) }
+    record {
+      id_size_len = (refl, (omega arith, (omega (arith, kept_few c.requires), (omega arith, omega (arith, c.requires.room)))));
+      table_value = c.requires.order;
+      stored_value = refl;
+      ids_in_bounds = (omega arith, (omega arith, omega arith));
+    }
 
 pub returns-in-Full : goal.returns-in-Full
 unfolding id_of
@@ -46,4 +56,9 @@ unfolding id_of
 returns-in-Done c =
     let here = (goal.at.returns-in-Done c).Else-not-in_order in
     let says = c.request_announced.ensures in
-    let whole = requests (asked here) _ _ refl refl here.args.at c.in-Done.is says.value says.table_after in record { value = whole.0; table_after = whole.1.0; holds = whole.1.1 }
+    let whole = requests (asked here) _ _ refl refl here.args.at c.in-Done.is says.value says.table_after in
+    record {
+      value = whole.0;
+      table_after = whole.1.0;
+      holds = whole.1.1;
+    }

@@ -10,7 +10,13 @@ abbrev keeping : Start → Keeping
 keeping s = keeping_in s.args.keeper s.args.table.now
 
 pub returns-then-text-lt1 : goal.returns-then-text-lt1
-returns-then-text-lt1 c = let s = (goal.at.returns-then-text-lt1 c).Start in let whole = last_none (keeping s) s.args.text.now s.args.at s.args.out.now c.if-text-lt1.true in record { out_after = whole.0; value = whole.1 }
+returns-then-text-lt1 c =
+    let s = (goal.at.returns-then-text-lt1 c).Start in
+    let whole = last_none (keeping s) s.args.text.now s.args.at s.args.out.now c.if-text-lt1.true in
+    record {
+      out_after = whole.0;
+      value = whole.1;
+    }
 
 pub answer_line-requires : goal.answer_line-requires
 answer_line-requires c = c.requires.kept
@@ -20,11 +26,19 @@ returns-in_default c =
     let s = (goal.at.returns-in_default c).Start in
     let says = c.answer_line.ensures in
     let whole = last_ended (keeping s) s.args.text.now s.requires.text_value c.if-text-lt1.false s.args.at s.args.keeper.count s.args.table.now s.args.out.now
-    c.answer_line.new.table c.answer_line.new.out c.in_default.is (says.value, (says.table_after, (says.out_after, says.holds))) in record { out_after = whole.0; value = whole.1 }
+    c.answer_line.new.table c.answer_line.new.out c.in_default.is (says.value, (says.table_after, (says.out_after, says.holds))) in
+    record {
+      out_after = whole.0;
+      value = whole.1;
+    }
 
 pub returns : goal.returns
 returns c =
     let s = (goal.at.returns c).Start in
     let says = c.answer_line.ensures in
     let whole = last_next (keeping s) s.args.text.now s.requires.text_value c.if-text-lt1.false s.args.at s.args.keeper.count s.args.table.now s.args.out.now
-    c.answer_line.new.table c.answer_line.new.out c.in-Next.is (says.value, (says.table_after, (says.out_after, says.holds))) in record { out_after = whole.0; value = whole.1 }
+    c.answer_line.new.table c.answer_line.new.out c.in-Next.is (says.value, (says.table_after, (says.out_after, says.holds))) in
+    record {
+      out_after = whole.0;
+      value = whole.1;
+    }

@@ -16,7 +16,13 @@ answer_lines-done-requires c =
     (first_kept c.at_first-keeper.result c.args.table.now c.at_first-keeper.ensures c.requires.0, c.requires.1)
 
 pub returns-then-done : goal.returns-then-done
-returns-then-done c = let lines = (goal.at.returns-then-done c).After-answer_lines-done in let whole = all_stopped (read lines) c.if-done.true in record { out_after = whole.0; value = whole.1 }
+returns-then-done c =
+    let lines = (goal.at.returns-then-done c).After-answer_lines-done in
+    let whole = all_stopped (read lines) c.if-done.true in
+    record {
+      out_after = whole.0;
+      value = whole.1;
+    }
 
 pub slice_bounds-answer_last-count : goal.slice_bounds-answer_last-count
 slice_bounds-answer_last-count c = omega (arith, c.answer_lines-done.ensures.within)
@@ -33,4 +39,8 @@ answer_last-requires c =
 pub returns : goal.returns
 returns c =
     let lines = (goal.at.returns c).After-answer_lines-done in
-    let whole = all_printed (read lines) c.if-done.false c.answer_last.new.out c.answer_last.result (c.answer_last.ensures.out_after, c.answer_last.ensures.value) in record { out_after = whole.0; value = whole.1 }
+    let whole = all_printed (read lines) c.if-done.false c.answer_last.new.out c.answer_last.result (c.answer_last.ensures.out_after, c.answer_last.ensures.value) in
+    record {
+      out_after = whole.0;
+      value = whole.1;
+    }

@@ -14,4 +14,7 @@ room-out-requires c = tt
 
 pub step_in-requires : goal.step_in-requires
 step_in-requires c =
-    record { planned = c.requires.0; area_size_in_bounds = (c.requires.1, (c.scratch-image.ensures, ap length c.room-out.ensures ∙ length_zeros area_size)) }
+    record {
+      planned = c.requires.0;
+      area_size_in_bounds = (c.requires.1, (c.scratch-image.ensures, ap length c.room-out.ensures ∙ length_zeros area_size));
+    }

@@ -15,7 +15,10 @@ room_of-requires c = (tracked c.requires, ids_few c.requires)
 
 pub forecast_in-requires : goal.forecast_in-requires
 forecast_in-requires c =
-    record { planned = (c.requires, c.room-image.ensures); announces_in_bounds = (omega (arith, c.room_of.ensures, c.if-room_of-le4096.true), omega arith) }
+    record {
+      planned = (c.requires, c.room-image.ensures);
+      announces_in_bounds = (omega (arith, c.room_of.ensures, c.if-room_of-le4096.true), omega arith);
+    }
 
 pub room-out-requires : goal.room-out-requires
 room-out-requires c = tt

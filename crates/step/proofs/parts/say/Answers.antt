@@ -12,4 +12,8 @@ pub returns : goal.returns
 returns c =
     let a = c.args in
     let m = c.put_command in
-    let whole = said_to_lem a.says a.at a.batch a.out.now a.none.now c.in-Peer.is c.requires.0 m.ensures.out_after m.ensures.value in record { out_after = whole.0; value = whole.1 }
+    let whole = said_to_lem a.says a.at a.batch a.out.now a.none.now c.in-Peer.is c.requires.0 m.ensures.out_after m.ensures.value in
+    record {
+      out_after = whole.0;
+      value = whole.1;
+    }

@@ -53,7 +53,11 @@ module _ (c : After-shared_slice_known-5-1) where
 
 module _ (c : After-carry_out) where
   abbrev entry : After-shared_slice_known-5-1
-  entry = record { before = search; type_inv = record { commands = search; continuation = search; ids = search; peers = search; state = search; stored = search; view = search } }
+  entry =
+      record {
+        before = search;
+        type_inv = record { commands = search; continuation = search; ids = search; peers = search; state = search; stored = search; view = search };
+      }
 
   abbrev region : List ℕ
   region = c.carry_out.new.region
@@ -84,28 +88,53 @@ slice_bounds-carry_out-start c = omega (arith, long c.requires.planned)
 pub carry_out-requires : goal.carry_out-requires
 carry_out-requires c =
     let here = (goal.at.carry_out-requires c).After-shared_slice_known-5-1 in
-    let whole = carry_asks (entered here) (room here) here.requires.announces_in_bounds in record { tracked = whole.0; id_size_len = whole.1.0; stored_value = whole.1.1 }
+    let whole = carry_asks (entered here) (room here) here.requires.announces_in_bounds in
+    record {
+      tracked = whole.0;
+      id_size_len = whole.1.0;
+      stored_value = whole.1.1;
+    }
 
 pub returns-in_default : goal.returns-in_default
 unfolding answer_of
 returns-in_default c =
-    let work = (goal.at.returns-in_default c).After-carry_out in record { works_in = full_works (entered (entry work)) (performs work) work.carry_out.ensures.untouched (search rules) c.refused.ensures; length_in_bounds = no_length c.refused.ensures }
+    let work = (goal.at.returns-in_default c).After-carry_out in
+    record {
+      works_in = full_works (entered (entry work)) (performs work) work.carry_out.ensures.untouched (search rules) c.refused.ensures;
+      length_in_bounds = no_length c.refused.ensures;
+    }
 
 pub returns-then-after-gt256 : goal.returns-then-after-gt256
 unfolding answer_of
 returns-then-after-gt256 c =
-    let work = (goal.at.returns-then-after-gt256 c).After-carry_out in record { works_in = stalled_works (entered (entry work)) (performs work) c.in-Done.counts c.in-Done.is c.if-after-gt256.true c.refused-then-after-gt256.ensures; length_in_bounds = no_length c.refused-then-after-gt256.ensures }
+    let work = (goal.at.returns-then-after-gt256 c).After-carry_out in
+    record {
+      works_in = stalled_works (entered (entry work)) (performs work) c.in-Done.counts c.in-Done.is c.if-after-gt256.true c.refused-then-after-gt256.ensures;
+      length_in_bounds = no_length c.refused-then-after-gt256.ensures;
+    }
 
 pub settle-requires : goal.settle-requires
 settle-requires c =
     let work = (goal.at.settle-requires c).After-carry_out in
     let here = entered (entry work) in
     let few = settle_asks here (performs work) c.in-Done.counts c.in-Done.is c.if-after-gt256.false in
-    let fits = last_fits here (performs work) c.in-Done.counts c.in-Done.is c.if-after-gt256.false c.requires.announces_in_bounds in record { image_len = (area-kept work ∙ long here.planned, omega (arith, fits, out-kept work)); none_len = (refl, few.0); pending_le_tracked_limit = few.1 }
+    let fits = last_fits here (performs work) c.in-Done.counts c.in-Done.is c.if-after-gt256.false c.requires.announces_in_bounds in
+    record {
+      image_len = (area-kept work ∙ long here.planned, omega (arith, fits, out-kept work));
+      none_len = (refl, few.0);
+      pending_le_tracked_limit = few.1;
+    }
 
 pub returns : goal.returns
 unfolding answer_of
 returns c =
     let work = (goal.at.returns c).After-carry_out in
     let here = entered (entry work) in
-    let fits = last_fits here (performs work) c.in-Done.counts c.in-Done.is c.if-after-gt256.false c.requires.announces_in_bounds in record { works_in = settled_works here (performs work) c.in-Done.counts c.in-Done.is c.if-after-gt256.false (out-kept work) fits (c.settle.ensures.by_index, (c.settle.ensures.out_after, c.settle.ensures.result_value)); length_in_bounds = end_fits c.args.plan c.in-Done.counts fits c.settle.ensures.result_value }
+    let fits = last_fits here (performs work) c.in-Done.counts c.in-Done.is c.if-after-gt256.false c.requires.announces_in_bounds in
+    let settled = c.settle.ensures in
+    record {
+      works_in =
+          settled_works here (performs work) c.in-Done.counts c.in-Done.is c.if-after-gt256.false (out-kept work) fits
+          (settled.by_index, (settled.out_after, settled.result_value));
+      length_in_bounds = end_fits c.args.plan c.in-Done.counts fits c.settle.ensures.result_value;
+    }

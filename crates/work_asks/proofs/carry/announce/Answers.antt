@@ -5,12 +5,24 @@ use native.Mathlib.Omega.{arith}
 use Rattle.work_asks.proofs.carry.announce.Goals as goal
 
 pub returns-in_default : goal.returns-in_default
-returns-in_default c = nobody_told c.args.announces c.args.continuation.now c.args.out.now c.in_default.is
+returns-in_default c =
+    let a = c.args in
+    let whole = nobody_told a.announces a.continuation.now a.out.now c.in_default.is in
+    record {
+      out_after = whole.0;
+      at_value = whole.1.0;
+      most_bytes_bound = whole.1.1;
+    }
 
 pub returns-then-continuation-lt1 : goal.returns-then-continuation-lt1
 returns-then-continuation-lt1 c =
     let a = c.args in
-    nothing_told a.announces a.continuation.now a.out.now c.in-Peer.peer c.in-Peer.is (omega arith)
+    let whole = nothing_told a.announces a.continuation.now a.out.now c.in-Peer.peer c.in-Peer.is (omega arith) in
+    record {
+      out_after = whole.0;
+      at_value = whole.1.0;
+      most_bytes_bound = whole.1.1;
+    }
 
 pub put_command-at-requires : goal.put_command-at-requires
 put_command-at-requires c =
@@ -23,5 +35,10 @@ pub returns : goal.returns
 returns c =
     let a = c.args in
     let m = c.put_command-at in
-    told a.announces a.continuation.now a.out.now c.in-Peer.peer m.new.out m.result c.in-Peer.is c.requires.0
-    (omega arith) m.ensures.out_after m.ensures.value
+    let whole = told a.announces a.continuation.now a.out.now c.in-Peer.peer m.new.out m.result c.in-Peer.is c.requires.0
+    (omega arith) m.ensures.out_after m.ensures.value in
+    record {
+      out_after = whole.0;
+      at_value = whole.1.0;
+      most_bytes_bound = whole.1.1;
+    }

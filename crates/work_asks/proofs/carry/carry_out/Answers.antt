@@ -5,7 +5,7 @@ use lib.ListN.{length}
 use native.Mathlib.Omega.{arith}
 use Rattle.work_asks.specs.Room.{most_sent}
 use Rattle.work_asks.proofs.SentLaws.{carries, nothing_before}
-use Rattle.work_asks.proofs.RoomLaws.{sent_most, first_room, behind_room}
+use Rattle.work_asks.proofs.RoomLaws.{sent_most, behind_room}
 use Rattle.work_asks.proofs.carry.carry_out.Goals.{After-announce-placed}
 use Rattle.work_asks.proofs.carry.carry_out.Goals as goal
 
@@ -21,32 +21,23 @@ module _ (c : After-announce-placed) where
 
 -- ---- the goals
 
-pub announce-placed-requires : goal.announce-placed-requires
-announce-placed-requires c =
-    (c.requires.id_size_len.1.1, first_room c.args.plan.announces _ _ c.requires.stored_value.1.1)
-
-pub perform-requires : goal.perform-requires
-perform-requires c =
-    let first = (goal.at.perform-requires c).After-announce-placed in
-    let lists = c.requires.id_size_len in
-    let rest = c.requires.stored_value in
-    let said = first.announce-placed in record { tracked = c.requires.tracked; id_size_len = (lists.0, lists.1.0); stored_value = (rest.0, rest.1.0); work_in_bounds = (omega (arith, room first, said.auto.out), omega (arith, said.ensures.most_bytes_bound.1)) }
-
-pub shape_of-region : goal.shape_of-region
-shape_of-region c = c.perform.auto.region
-
-pub shape_of-out : goal.shape_of-out
-shape_of-out c = c.perform.auto.out ∙ c.announce-placed.auto.out
+pub perform-requires-clause-work_in_bounds : goal.perform-requires-clause-work_in_bounds
+perform-requires-clause-work_in_bounds c =
+    let first = (goal.at.perform-requires-clause-work_in_bounds c).After-announce-placed in
+    let said = first.announce-placed in
+    (omega (arith, room first, said.auto.out), omega (arith, said.ensures.most_bytes_bound.1))
 
 pub returns : goal.returns
 returns c =
     let first = (goal.at.returns c).After-announce-placed in
     let a = c.args in
-    let said = c.announce-placed in
-    let done = c.perform.ensures in record {
+    let said = first.announce-placed in
+    let done = c.perform in
+    record {
       performs = (λ st call g same.
-          carries st call a.plan same said.ensures (omega (arith, room first)) said.auto.out c.perform.auto.out (done.performs st call g));
+          carries st call a.plan same (said.ensures.out_after, (said.ensures.at_value, said.ensures.most_bytes_bound))
+          (omega (arith, room first)) said.auto.out done.auto.out (done.ensures.performs st call g));
       untouched = (λ nobody one full.
-          let left = done.untouched one full in
+          let left = done.ensures.untouched one full in
           (left.0, left.1 ∙ nothing_before a.plan.announces a.continuation.now a.out.now said.ensures.out_after nobody));
     }

@@ -2,13 +2,12 @@
 use borrow.Author.Rules.{rules}
 use native.Mathlib.Omega.{arith}
 use Prim.Native.Nat.{ℕ, ◌+◌, ◌-◌, ◌*◌}
-use mathlib.Core.Path.{sym}
 use lib.ListN.{length}
 use Rattle.peers.specs.Aims.{aimed_at}
 use Rattle.work.proofs.AimLaws.{aim_fits}
 use Rattle.model.proofs.PendingLaws.{WellTarget}
 use Rattle.work_asks.proofs.EntryLaws.{Entered}
-use Rattle.work_asks.proofs.FreshLaws.{Copied, CheckDone, up_to_end, fresh_long, fresh_ask, asks_fresh}
+use Rattle.work_asks.proofs.FreshLaws.{Copied, CheckDone, up_to_end, fresh_ask, asks_fresh}
 use Rattle.model.specs.Layout.{command_size, id_size}
 use Rattle.work_asks.proofs.fresh.check_fresh_with.Goals.{After-check_region-before, After-overwrite}
 use Rattle.work_asks.proofs.fresh.check_fresh_with.Goals as goal
@@ -40,9 +39,6 @@ module _ (c : After-overwrite) where
 -- ---- the check done
 
 module _ (c : After-check_region-before) where
-  abbrev entry : After-overwrite
-  entry = record { before = search; type_inv = record { out = search; stored = search } }
-
   done : let a = c.args in
       CheckDone a.head a.call a.aim a.region.now a.at a.batch a.out.now
       c.check_region-before.result c.check_region-before.new.region c.check_region-before.new.out
@@ -50,23 +46,21 @@ module _ (c : After-check_region-before) where
       let made = c.check_region-before.ensures in
       record { counts = made.value; held = made.region_after; sent = made.out_after; long = omega (arith, c.check_region-before.auto) }
 
-pub slice_bounds-ask_list-end : goal.slice_bounds-ask_list-end
-slice_bounds-ask_list-end c =
-    let copy = (goal.at.slice_bounds-ask_list-end c).After-overwrite in
-    omega (arith, copy.overwrite.auto, copy.requires.stored_value.1, (entered copy).tracked.few)
-
-pub slice_bounds-ask_list-end-2 : goal.slice_bounds-ask_list-end-2
-slice_bounds-ask_list-end-2 c = let copy = (goal.at.slice_bounds-ask_list-end-2 c).After-overwrite in sym (fresh_long (entered copy) (copied copy))
-
 pub ask_list-requires : goal.ask_list-requires
 ask_list-requires c =
     let checked = (goal.at.ask_list-requires c).After-check_region-before in
-    let copy = entry checked in
-    let whole = fresh_ask (entered copy) (copied copy) (targets copy) (done checked) copy.args.stored.now copy.requires.stored_value.0 in record { id_size_len = whole.0; region_value = whole.1.0; stored_value = whole.1.1.0; command_size_in_bounds = whole.1.1.1 }
+    let copy = (goal.at.ask_list-requires c).After-overwrite in
+    let whole = fresh_ask (entered copy) (copied copy) (targets copy) (done checked) copy.args.stored.now copy.requires.stored_value.0 in
+    record {
+      id_size_len = whole.0;
+      region_value = whole.1.0;
+      stored_value = whole.1.1.0;
+      command_size_in_bounds = whole.1.1.1;
+    }
 
 pub returns : goal.returns
 returns c =
     let checked = (goal.at.returns c).After-check_region-before in
-    let copy = entry checked in
+    let copy = (goal.at.returns c).After-overwrite in
     λ st call ids view g downloaded.
     asks_fresh (entered copy) (copied copy) (targets copy) (done checked) c.ask_list.ensures.asks g downloaded

@@ -32,7 +32,15 @@ module _ (c : After-unasked_counts-before) where
 pub ask_list-requires : goal.ask_list-requires
 ask_list-requires c =
     let entry = (goal.at.ask_list-requires c).After-unasked_counts-before in
-    let whole = ids_ask entry.args.ids.now (entered entry) c.unasked_counts-before.ensures entry.args.stored.now entry.requires.id_size_len entry.requires.stored_value in record { id_size_len = whole.0; region_value = whole.1.0; stored_value = whole.1.1.0; command_size_in_bounds = whole.1.1.1 }
+    let whole =
+    ids_ask entry.args.ids.now (entered entry) c.unasked_counts-before.ensures entry.args.stored.now
+    entry.requires.id_size_len entry.requires.stored_value in
+    record {
+      id_size_len = whole.0;
+      region_value = whole.1.0;
+      stored_value = whole.1.1.0;
+      command_size_in_bounds = whole.1.1.1;
+    }
 
 pub returns : goal.returns
 returns c =

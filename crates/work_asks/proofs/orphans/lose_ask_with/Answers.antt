@@ -31,9 +31,6 @@ module _ (c : After-orphans-number) where
 -- ---- the peer's requests dropped
 
 module _ (c : After-purge_peer-left) where
-  abbrev before : After-orphans-number
-  before = record { before = search; type_inv = record { out = search; stored = search } }
-
   left : let a = c.args in Left a.head a.region.now c.purge_peer-left.result c.purge_peer-left.new.table
   left = record { count = c.purge_peer-left.ensures.value; held = c.purge_peer-left.ensures.table_after }
 
@@ -53,17 +50,27 @@ slice_bounds-ask_pairs-end c =
     omega (arith, orphans_few (entered found) (gathered found), (entered found).tracked.few, found.orphans-number.auto, found.requires.stored_value.1)
 
 pub slice_bounds-ask_pairs-end-2 : goal.slice_bounds-ask_pairs-end-2
-slice_bounds-ask_pairs-end-2 c = let found = (goal.at.slice_bounds-ask_pairs-end-2 c).After-orphans-number in sym (orphans_long (entered found) (gathered found))
+slice_bounds-ask_pairs-end-2 c =
+    let found = (goal.at.slice_bounds-ask_pairs-end-2 c).After-orphans-number in
+    sym (orphans_long (entered found) (gathered found))
 
 pub ask_pairs-requires : goal.ask_pairs-requires
 ask_pairs-requires c =
     let purged = (goal.at.ask_pairs-requires c).After-purge_peer-left in
-    let found = before purged in
-    let whole = orphans_ask (entered found) (gathered found) (left purged) c.unasked_counts-before.ensures found.args.stored.now found.requires.stored_value.0 in record { pair_size_len = whole.0; region_value = whole.1.0; stored_value = whole.1.1.0; command_size_in_bounds = whole.1.1.1 }
+    let found = (goal.at.ask_pairs-requires c).After-orphans-number in
+    let whole =
+    orphans_ask (entered found) (gathered found) (left purged) c.unasked_counts-before.ensures
+    found.args.stored.now found.requires.stored_value.0 in
+    record {
+      pair_size_len = whole.0;
+      region_value = whole.1.0;
+      stored_value = whole.1.1.0;
+      command_size_in_bounds = whole.1.1.1;
+    }
 
 pub returns : goal.returns
 returns c =
     let purged = (goal.at.returns c).After-purge_peer-left in
-    let found = before purged in
+    let found = (goal.at.returns c).After-orphans-number in
     λ st call ids view g downloaded.
     asks_lost (entered found) (gathered found) (left purged) c.unasked_counts-before.ensures (pairs-bytes purged) c.ask_pairs.ensures g downloaded

@@ -1,51 +1,8 @@
 -- Each arm is the function of its work: `as_work`.
-use Prim.Native.Nat.{◌+◌, ◌≤◌, ◌<◌}
-use mathlib.Core.Path.{◌≡◌, refl}
-use lib.ListN.{length}
+use mathlib.Core.Path.{refl}
 use Rattle.work.proofs.WorkedLaws.{clock_given}
-use Rattle.plan.specs.declared.Work.{Work}
-use Rattle.work_asks.specs.Room.{most_sent}
 use Rattle.work_asks.proofs.WorkLaws.{as_work, several}
-use Rattle.model.specs.Layout.{most_batches}
-use Rattle.work_asks.proofs.perform.perform.Goals.{Start}
 use Rattle.work_asks.proofs.perform.perform.Goals as goal
-
--- ---- the room, by the work that is done
-
-module _ (s : Start) where
-  room : {one : Work} → let a = s.args in a.work ≡ one
-      → (a.at + most_sent a.head (length a.ids.now) one ≤ length a.out.now) × (a.batch + most_batches < 65536)
-  room e = (rw e at s.requires.work_in_bounds.0, s.requires.work_in_bounds.1)
-
-pub ids-requires : goal.ids-requires
-ids-requires c =
-    let s = (goal.at.ids-requires c).Start in
-    record { tracked = s.requires.tracked; id_size_len = s.requires.id_size_len; stored_value = s.requires.stored_value.0; command_size_in_bounds = room s c.in-Ids.is }
-
-pub sections-requires : goal.sections-requires
-sections-requires c =
-    let s = (goal.at.sections-requires c).Start in
-    record { tracked = s.requires.tracked; view_value = s.requires.stored_value.1; most_bytes_in_bounds = room s c.in-Sections.is }
-
-pub purge_sections-requires : goal.purge_sections-requires
-purge_sections-requires c =
-    let s = (goal.at.purge_sections-requires c).Start in
-    record { tracked = s.requires.tracked; view_value = s.requires.stored_value.1; most_bytes_in_bounds = room s c.in-PurgeSections.is }
-
-pub lose_ask-requires : goal.lose_ask-requires
-lose_ask-requires c =
-    let s = (goal.at.lose_ask-requires c).Start in
-    record { tracked = s.requires.tracked; stored_value = s.requires.stored_value.0; most_bytes_in_bounds = room s c.in-LoseAsk.is }
-
-pub check-requires : goal.check-requires
-check-requires c =
-    let s = (goal.at.check-requires c).Start in
-    record { tracked = s.requires.tracked; command_size_in_bounds = room s c.in-Check.is }
-
-pub check_fresh-requires : goal.check_fresh-requires
-check_fresh-requires c =
-    let s = (goal.at.check_fresh-requires c).Start in
-    record { tracked = s.requires.tracked; stored_value = s.requires.stored_value.0; command_size_in_bounds = room s c.in-CheckFresh.is }
 
 pub returns-in-Nothing : goal.returns-in-Nothing
 returns-in-Nothing c =

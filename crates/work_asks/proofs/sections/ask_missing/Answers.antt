@@ -33,7 +33,16 @@ pub ask_pairs-requires : goal.ask_pairs-requires
 ask_pairs-requires c =
     let found = (goal.at.ask_pairs-requires c).After-missing-number in
     let a = found.args in
-    let whole = window_ask (window found) a.before a.region.now a.out.now (found.requires.evicted_bound, (found.requires.region_value, (found.requires.view_value.0, found.requires.most_bytes_in_bounds))) in record { pair_size_len = whole.0; region_value = whole.1.0; stored_value = whole.1.1.0; command_size_in_bounds = whole.1.1.1 }
+    let asks = found.requires in
+    let whole =
+    window_ask (window found) a.before a.region.now a.out.now
+    (asks.evicted_bound, (asks.region_value, (asks.view_value.0, asks.most_bytes_in_bounds))) in
+    record {
+      pair_size_len = whole.0;
+      region_value = whole.1.0;
+      stored_value = whole.1.1.0;
+      command_size_in_bounds = whole.1.1.1;
+    }
 
 pub returns : goal.returns
 returns c =

@@ -26,11 +26,18 @@ module _ (c : After-unasked_counts-before) where
 pub ask_sections-requires : goal.ask_sections-requires
 ask_sections-requires c =
     let entry = (goal.at.ask_sections-requires c).After-unasked_counts-before in
-    let whole = sections_ask (entered entry) entry.args.view.now entry.requires.view_value c.unasked_counts-before.ensures in record { evicted_bound = whole.0; region_value = whole.1.0; view_value = whole.1.1.0; most_bytes_in_bounds = whole.1.1.1 }
+    let whole = sections_ask (entered entry) entry.args.view.now entry.requires.view_value c.unasked_counts-before.ensures in
+    record {
+      evicted_bound = whole.0;
+      region_value = whole.1.0;
+      view_value = whole.1.1.0;
+      most_bytes_in_bounds = whole.1.1.1;
+    }
 
 pub returns : goal.returns
 returns c =
     let entry = (goal.at.returns c).After-unasked_counts-before in
     let a = entry.args in
     λ st call ids stored g.
-    asks_sections (entered entry) a.view.now entry.requires.view_value (seen entry) a.downloaded c.unasked_counts-before.ensures c.ask_sections.ensures g
+    asks_sections (entered entry) a.view.now entry.requires.view_value (seen entry) a.downloaded
+    c.unasked_counts-before.ensures c.ask_sections.ensures g
