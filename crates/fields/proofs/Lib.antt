@@ -9,4 +9,5 @@ pub mod PartLaws
 pub mod RisingLaws
 pub mod SortLaws
 pub mod TotalLaws
+pub mod WordLaws
 pub mod ZeroLaws

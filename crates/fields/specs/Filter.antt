@@ -1,5 +1,5 @@
 -- Elements kept by a test, or by a mark each.
-use Rattle.std.specs.Prelude.{ℕ, Bool, true, false, cond, List, [], ◌∷◌, eqb}
+use Rattle.std.specs.Prelude.{ℕ, Bool, true, false, List, [], ◌∷◌, eqb}
 
 abbrev pub cons_if {ℓ} : {A : Type ℓ} → Bool → A → List A → List A
 cons_if true x xs = x ∷ xs

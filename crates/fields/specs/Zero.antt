@@ -1,5 +1,5 @@
 -- Zero bytes.
-use Rattle.std.specs.Prelude.{ℕ, Bool, true, false, ◌&&◌, List, [], ◌∷◌, replicate, eqb}
+use Rattle.std.specs.Prelude.{ℕ, Bool, true, ◌&&◌, List, [], ◌∷◌, replicate, eqb}
 
 abbrev pub zeros : ℕ → List ℕ
 zeros n = replicate n 0

@@ -17,8 +17,7 @@ use Rattle.fields.proofs.OrderLaws.{same_eq, same_sym, before_transitive, before
 use Rattle.fields.proofs.EntriesLaws.{entries_at, entry_front}
 use Rattle.fields.proofs.RisingLaws.{rising_at, rising_pair}
 use Rattle.keys.specs.Find.{found}
-use Rattle.keys.specs.declared.find.Found.{Found}
-use Rattle.keys.specs.declared.find.Found.TheVariants.{At, Gap}
+use Rattle.std.proofs.Common.{Result, Ok, Err}
 
 -- ---- the walk, an entry at a time
 
@@ -38,13 +37,13 @@ module _ (key : List ℕ) (es : List (List ℕ)) where
   found_past (suc i) h f = found_past i (omega arith) (λ j l. f j (omega arith)) ∙ found_on i h (f i (omega arith)) ∙ rw add-one
 
   -- all before i come before the key, and i does not
-  pub found_at : (i : ℕ) → i < length es → ((j : ℕ) → j < i → Below j true) → Below i false → Here i true → found key 0 es ≡ At i
+  pub found_at : (i : ℕ) → i < length es → ((j : ℕ) → j < i → Below j true) → Below i false → Here i true → found key 0 es ≡ Ok i
   found_at i h f b s = found_past i (omega arith) f ∙ rw (drop-cons es i [] h, b, s)
 
-  pub found_gap : (i : ℕ) → i < length es → ((j : ℕ) → j < i → Below j true) → Below i false → Here i false → found key 0 es ≡ Gap i
+  pub found_gap : (i : ℕ) → i < length es → ((j : ℕ) → j < i → Below j true) → Below i false → Here i false → found key 0 es ≡ Err i
   found_gap i h f b s = found_past i (omega arith) f ∙ rw (drop-cons es i [] h, b, s)
 
-  pub found_end : (i : ℕ) → i ≡ length es → ((j : ℕ) → j < i → Below j true) → found key 0 es ≡ Gap i
+  pub found_end : (i : ℕ) → i ≡ length es → ((j : ℕ) → j < i → Below j true) → found key 0 es ≡ Err i
   found_end i h f = found_past i (omega arith) f ∙ rw (drop_of_length-le es {i = i} (omega arith))
 
   -- keys that rise: what is before an entry that comes before the key does too
@@ -72,9 +71,9 @@ module _ (key table : List ℕ) (width count i : ℕ) (h : i < count) (l : lengt
 -- ---- what the answer means
 
 -- the index that an answer names
-abbrev index_of : Found → ℕ
-index_of (At i) = i
-index_of (Gap i) = i
+abbrev index_of : Result ℕ ℕ → ℕ
+index_of (Ok i) = i
+index_of (Err i) = i
 
 -- i is where a walk stops: all before it come before the key, and it does not
 pub record Stop (key : List ℕ) (es : List (List ℕ)) (i : ℕ) : Type 0 where
@@ -96,8 +95,8 @@ module _ (key : List ℕ) where
 
       go : (b s : Bool) → before (take (length key) e) key ≡ b
           → (k + 1 ≤ index_of (found key (k + 1) es)) × Stop key es (index_of (found key (k + 1) es) - (k + 1))
-          → (k ≤ index_of (cond b (found key (k + 1) es) (cond s (At k) (Gap k))))
-          × Stop key (e ∷ es) (index_of (cond b (found key (k + 1) es) (cond s (At k) (Gap k))) - k)
+          → (k ≤ index_of (cond b (found key (k + 1) es) (cond s (Ok k) (Err k))))
+          × Stop key (e ∷ es) (index_of (cond b (found key (k + 1) es) (cond s (Ok k) (Err k))) - k)
       go true s p w =
           let i : ℕ = index_of (found key (k + 1) es) in
           let l : k + 1 ≤ i = w.0 in
@@ -117,43 +116,43 @@ module _ (key : List ℕ) where
       rw z at (walk es 0).1
 
   module _ (es : List (List ℕ)) (i : ℕ) where
-    stops_at : found key 0 es ≡ At i → Stop key es i
+    stops_at : found key 0 es ≡ Ok i → Stop key es i
     stops_at h = rw h at (stop es)
 
-    -- At: entry i's key is the key
-    pub at_inside : found key 0 es ≡ At i → i < length es
+    -- Ok: entry i's key is the key
+    pub at_inside : found key 0 es ≡ Ok i → i < length es
     at_inside h = ⊎_elim
-        (λ (e : i ≡ length es). let g : found key 0 es ≡ Gap i = found_end key es i e (stops_at h).below in let z : ◌≡◌ {A = ℕ} 0 1 = cc in absurd (lt_irrefl 0 (omega arith)))
+        (λ (e : i ≡ length es). let g : found key 0 es ≡ Err i = found_end key es i e (stops_at h).below in let z : ◌≡◌ {A = ℕ} 0 1 = cc in absurd (lt_irrefl 0 (omega arith)))
         (λ (l : i < length es). l)
         (eq-or-lt_of_le (stops_at h).inside)
 
-    pub at_same : found key 0 es ≡ At i → Here key es i true
+    pub at_same : found key 0 es ≡ Ok i → Here key es i true
     at_same h = go (same (take (length key) (get_or es i [])) key) refl
       where
         go : (s : Bool) → same (take (length key) (get_or es i [])) key ≡ s → Here key es i true
         go true e = e
         go false e =
-            let g : found key 0 es ≡ Gap i = found_gap key es i (at_inside h) (stops_at h).below ((stops_at h).stops (at_inside h)) e in
+            let g : found key 0 es ≡ Err i = found_gap key es i (at_inside h) (stops_at h).below ((stops_at h).stops (at_inside h)) e in
             let z : ◌≡◌ {A = ℕ} 0 1 = cc in absurd (lt_irrefl 0 (omega arith))
 
-    pub at_key : found key 0 es ≡ At i → take (length key) (get_or es i []) ≡ key
+    pub at_key : found key 0 es ≡ Ok i → take (length key) (get_or es i []) ≡ key
     at_key h = same_eq (take (length key) (get_or es i [])) key (at_same h)
 
-    -- Gap: keys below i come before the key
-    pub gap_stop : found key 0 es ≡ Gap i → Stop key es i
+    -- Err: keys below i come before the key
+    pub gap_stop : found key 0 es ≡ Err i → Stop key es i
     gap_stop h = rw h at (stop es)
 
-    gap_other : found key 0 es ≡ Gap i → i < length es → Here key es i false
+    gap_other : found key 0 es ≡ Err i → i < length es → Here key es i false
     gap_other h l = go (same (take (length key) (get_or es i [])) key) refl
       where
         go : (s : Bool) → same (take (length key) (get_or es i [])) key ≡ s → Here key es i false
         go false e = e
         go true e =
-            let g : found key 0 es ≡ At i = found_at key es i l (gap_stop h).below ((gap_stop h).stops l) e in
+            let g : found key 0 es ≡ Ok i = found_at key es i l (gap_stop h).below ((gap_stop h).stops l) e in
             let z : ◌≡◌ {A = ℕ} 0 1 = cc in absurd (lt_irrefl 0 (omega arith))
 
     -- and, where keys rise, those from i on come behind it
-    pub gap_above : rising (length key) es ≡ true → found key 0 es ≡ Gap i → (j : ℕ) → i ≤ j → j < length es
+    pub gap_above : rising (length key) es ≡ true → found key 0 es ≡ Err i → (j : ℕ) → i ≤ j → j < length es
         → before key (take (length key) (get_or es j [])) ≡ true
     gap_above r h j a l =
         let f : before key (take (length key) (get_or es i [])) ≡ true =
@@ -164,7 +163,7 @@ module _ (key : List ℕ) where
         (eq-or-lt_of_le a)
 
     -- so that no entry has the key
-    pub gap_absent : rising (length key) es ≡ true → found key 0 es ≡ Gap i → (j : ℕ) → j < length es → Here key es j false
+    pub gap_absent : rising (length key) es ≡ true → found key 0 es ≡ Err i → (j : ℕ) → j < length es → Here key es j false
     gap_absent r h j l = go (ltb j i) refl
       where
         go : (t : Bool) → ltb j i ≡ t → Here key es j false

@@ -10,7 +10,7 @@ use Rattle.fields.specs.Order.{same}
 use Rattle.fields.specs.Entries.{rising}
 use Rattle.keys.specs.Find.{found}
 use Rattle.keys.specs.Keys.{has_key}
-use Rattle.keys.specs.declared.find.Found.TheVariants.{At, Gap}
+use Rattle.std.proofs.Common.{Ok, Err}
 use Rattle.keys.proofs.FindLaws.{at_inside, at_same, gap_absent}
 
 module _ (key : List ℕ) where
@@ -27,8 +27,8 @@ module _ (key : List ℕ) where
   has_none [] f = refl
   has_none (x ∷ es) f = rw (f 0 (omega arith), has_none es (λ j l. f (suc j) (omega arith)))
 
-  pub found_has : (es : List (List ℕ)) (i : ℕ) → found key 0 es ≡ At i → has_key key es ≡ true
+  pub found_has : (es : List (List ℕ)) (i : ℕ) → found key 0 es ≡ Ok i → has_key key es ≡ true
   found_has es i h = has_one es i (at_inside key es i h) (at_same key es i h)
 
-  pub gap_has : (es : List (List ℕ)) (i : ℕ) → rising (length key) es ≡ true → found key 0 es ≡ Gap i → has_key key es ≡ false
+  pub gap_has : (es : List (List ℕ)) (i : ℕ) → rising (length key) es ≡ true → found key 0 es ≡ Err i → has_key key es ≡ false
   gap_has es i r h = has_none es (gap_absent key es i r h)

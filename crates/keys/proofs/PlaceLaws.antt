@@ -19,7 +19,7 @@ use Rattle.keys.specs.Decide.{Decides}
 use Rattle.keys.proofs.UnlikeLaws.{first_less, first_more}
 use Rattle.keys.specs.Find.{found, Passed}
 use Rattle.keys.specs.Within.{word_at, Within}
-use Rattle.keys.specs.declared.find.Found.TheVariants.{At, Gap}
+use Rattle.std.proofs.Common.{Ok, Err}
 use Rattle.keys.proofs.FindLaws.{Below, below_falls, key_at_lem, compared_before, compared_same, found_at, found_gap, found_end}
 
 -- A search by the first word of its key.
@@ -101,17 +101,17 @@ module _ {key table : List ℕ} {width count word : ℕ} (s : Searched key table
         (first_less table key f g (j * width) 0 (length key) (from_be (take 8 (drop (j * width) table))) word w (inside j k) (omega arith) refl ew
         (n.low j h)) refl
 
-    pub place_end : count ≤ i → Gap i ≡ found key 0 (entries width count table)
+    pub place_end : count ≤ i → Err i ≡ found key 0 (entries width count table)
     place_end h = sym (found_end key (entries width count table) i (rw length_entries (omega (arith, n.inside))) below)
 
     -- words that decide between entry i's key and the key
     module _ (h : i < count) {left right : ℕ} (d : Decides left right (take (length key) (drop (i * width) table)) (take (length key) key)) where
-      pub place_at : left ≡ right → At i ≡ found key 0 (entries width count table)
+      pub place_at : left ≡ right → Ok i ≡ found key 0 (entries width count table)
       place_at e = sym (found_at key (entries width count table) i (rw length_entries h) below
           (compared_before key table width count i h l d.order (le-ltb left right (omega arith)))
           (compared_same key table width count i h l d.equality (eq-eqb left right e)))
 
-      pub place_gap : right < left → Gap i ≡ found key 0 (entries width count table)
+      pub place_gap : right < left → Err i ≡ found key 0 (entries width count table)
       place_gap e = sym (found_gap key (entries width count table) i (rw length_entries h) below
           (compared_before key table width count i h l d.order (le-ltb left right (omega arith)))
           (compared_same key table width count i h l d.equality (ne_eqb left right (λ q. lt_irrefl left (omega arith)))))

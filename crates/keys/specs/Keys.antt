@@ -1,5 +1,5 @@
 -- Whether a table has an entry that starts with a key.
-use Rattle.std.specs.Prelude.{Bool, true, false, ◌||◌, List, [], ◌∷◌, ℕ, length, take}
+use Rattle.std.specs.Prelude.{Bool, false, ◌||◌, List, [], ◌∷◌, ℕ, length, take}
 use Rattle.fields.specs.Order.{same}
 
 abbrev pub has_key : List ℕ → List (List ℕ) → Bool

@@ -3,6 +3,9 @@
 // Equal in meaning to a byte by byte comparison (`before` and `same` of fields) and to a walk from the front. Reads only.
 // Runs of 32 bytes cost the same wherever they differ; keys of a table, whose first words nearly always differ, cost two
 // loads; a search costs a guess and six steps where words are spread evenly, else halving.
+//
+// Two runs are two slices, two places and a size: parts of slices compare out of line, and a struct of the five would be taken
+// apart at once.
 #![tactic(auto)]
 
 pub mod find;
@@ -10,13 +13,23 @@ pub mod rising;
 pub mod unlike;
 pub mod words;
 
-ghost use Rattle.std.specs.Prelude.{◌≡◌, ◌+◌, ◌≤◌, length, take, drop};
+ghost use Rattle.std.specs.Prelude.{◌≡◌, ◌+◌, ◌*◌, ◌≤◌, length, take, drop};
 ghost use Rattle.fields.specs.Order.{before, same};
 ghost use Rattle.keys.specs.Decide.{Decides};
 
 use unlike::Words;
 
-// Where the `size` bytes of s from p on first differ from those of t from q on.
+// The entries at the front of a table, all of one width.
+#[derive(Clone, Copy)]
+pub struct Entries<'a> {
+    pub bytes: &'a [u8],
+    pub width: usize,
+    pub count: usize,
+    ghost fits: { count * width ≤ length bytes.now },
+}
+
+// Where the `size` bytes of s from p on first differ from those of t from q on. The five stay arguments, here and below: a
+// caller has just these, and the literal of a struct would be longer than the call.
 pub fn run_unlike(s: &[u8], p: usize, t: &[u8], q: usize, size: usize) -> Words
     requires { (p + size ≤ length s.now) × (q + size ≤ length t.now) }
     ensures { Decides result.left result.right (take size (drop p s.now)) (take size (drop q t.now)) }

@@ -4,27 +4,26 @@
 // have no contracts, since they are for timing and outside the core.
 #![tactic(auto)]
 
+ghost use Rattle.std.specs.Prelude.{◌≡◌, ◌+◌, ◌≤◌, true, length};
+
 // A whole slice copied over one as long.
 #[unsafe(no_mangle)]
 pub extern "C" fn leaf_copy(src: &[u8], dst: &mut [u8]) -> bool {
-    if src.len() != dst.len() {
-        return false;
+    let fits = src.len() == dst.len();
+    if fits {
+        spans::copying::copy(src, dst);
     }
-    spans::copying::copy(src, dst);
-    true
+    fits
 }
 
 // The first `count` bytes copied.
 #[unsafe(no_mangle)]
 pub extern "C" fn leaf_copy_prefix(src: &[u8], count: usize, dst: &mut [u8]) -> bool {
-    if src.len() < count {
-        return false;
+    let fits = count <= src.len() && count <= dst.len();
+    if fits {
+        spans::copying::copy_prefix(src, count, dst);
     }
-    if dst.len() < count {
-        return false;
-    }
-    spans::copying::copy_prefix(src, count, dst);
-    true
+    fits
 }
 
 #[repr(C)]
@@ -33,20 +32,17 @@ pub struct Area {
     pub bytes: [u8; 65536],
 }
 
-// An area where there is none to copy.
-fn no_area() -> [u8; 65536] {
-    [0u8; 65536]
-}
-
 // A copy of an area to work on.
 #[unsafe(no_mangle)]
 pub extern "C" fn leaf_scratch(src: &[u8]) -> Area {
     if src.len() != 65536 {
-        let none = no_area();
-        return Area { bytes: none };
+        return Area {
+            bytes: [0u8; 65536],
+        };
     }
-    let area = spans::copying::scratch(src);
-    Area { bytes: area }
+    Area {
+        bytes: spans::copying::scratch(src),
+    }
 }
 
 // Whether all bytes are zero.
@@ -61,80 +57,56 @@ pub extern "C" fn leaf_fill_zero(s: &mut [u8]) {
     spans::copying::fill_zero(s)
 }
 
+// Whether s has `size` bytes from `at` on.
+fn has(s: &[u8], at: usize, size: usize) -> bool
+    ensures { result ≡ true → at + size ≤ length s.now }
+{
+    size <= s.len() && at <= s.len() - size
+}
+
 // Whether one run of bytes comes before another.
 #[unsafe(no_mangle)]
 pub extern "C" fn leaf_run_before(s: &[u8], p: usize, t: &[u8], q: usize, size: usize) -> bool {
-    if s.len() < size {
-        return false;
-    }
-    if t.len() < size {
-        return false;
-    }
-    if s.len() - size < p {
-        return false;
-    }
-    if t.len() - size < q {
-        return false;
-    }
-    keys::run_before(s, p, t, q, size)
+    has(s, p, size) && has(t, q, size) && keys::run_before(s, p, t, q, size)
 }
 
 // Whether two runs of bytes are the same.
 #[unsafe(no_mangle)]
 pub extern "C" fn leaf_run_same(s: &[u8], p: usize, t: &[u8], q: usize, size: usize) -> bool {
-    if s.len() < size {
-        return false;
+    has(s, p, size) && has(t, q, size) && keys::run_same(s, p, t, q, size)
+}
+
+// How many ids, 32 bytes each, `holds` puts before the one that follows. A loop, as a chain over pairs compares slower.
+fn neighbours<F: Fn(&[u8; 32], &[u8; 32]) -> bool>(ids: &[u8], holds: F) -> usize
+    requires { F.IsAlwaysCallable holds }
+{
+    let (ids, _) = ids.as_chunks::<32>();
+    let mut count: usize = 0;
+    for i in 1..ids.len() {
+        if holds(&ids[i - 1], &ids[i]) {
+            count += 1;
+        }
     }
-    if t.len() < size {
-        return false;
-    }
-    if s.len() - size < p {
-        return false;
-    }
-    if t.len() - size < q {
-        return false;
-    }
-    keys::run_same(s, p, t, q, size)
+    count
 }
 
 // How many ids, 32 bytes each, come before the one that follows.
 #[unsafe(no_mangle)]
 pub extern "C" fn leaf_ids_before(ids: &[u8]) -> usize {
-    let mut count: usize = 0;
-    let mut left = ids.len();
-    while 64 <= left {
-        if keys::run_before(ids, left - 64, ids, left - 32, 32) {
-            count += 1;
-        }
-        left -= 32;
-    }
-    count
+    neighbours(ids, |id, next| keys::run_before(id, 0, next, 0, 32))
 }
 
 // How many are the same as the one that follows.
 #[unsafe(no_mangle)]
 pub extern "C" fn leaf_ids_same(ids: &[u8]) -> usize {
-    let mut count: usize = 0;
-    let mut left = ids.len();
-    while 64 <= left {
-        if keys::run_same(ids, left - 64, ids, left - 32, 32) {
-            count += 1;
-        }
-        left -= 32;
-    }
-    count
+    neighbours(ids, |id, next| keys::run_same(id, 0, next, 0, 32))
 }
 
-// All words of s, read one by one.
+// All words of s together, read one by one.
 #[unsafe(no_mangle)]
 pub extern "C" fn leaf_read_u64(s: &[u8]) -> u64 {
-    let mut all: u64 = 0;
-    let mut left = s.len();
-    while 8 <= left {
-        left -= 8;
-        all = all ^ fields::read_u64(s, left);
-    }
-    all
+    s.chunks_exact(8)
+        .fold(0, |all, word| all ^ fields::read_u64(word, 0))
 }
 
 // The narrow widths, and the writes, one at a time.

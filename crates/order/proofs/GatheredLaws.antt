@@ -1,6 +1,6 @@
 -- Ids gathered from the entries at some places: how long they are, and the loop that writes them.
 use Prim.Native.Nat.{ℕ, ◌+◌, ◌-◌, ◌*◌, ◌≤◌, ◌<◌}
-use mathlib.Core.Path.{◌≡◌, refl, sym, ap, ◌∙◌}
+use mathlib.Core.Path.{◌≡◌, sym, ap, ◌∙◌}
 use mathlib.Core.List.{List, [], ◌∷◌, ◌++◌}
 use native.Mathlib.Omega.{arith}
 use lib.ListN.{length, take, drop, get_or, length-drop, length-map, drop_of_length-le}
@@ -62,10 +62,6 @@ module _ (width offset : ℕ) (table : List ℕ) where
   Within place = place * width + width ≤ length table
 
   module _ (fits : offset + 32 ≤ width) where
-    -- where the id at a place ends, by the place as the code has it
-    pub id_ends : (places : List ℕ) (i p : ℕ) → All Within places → i < length places → p ≡ get_or places i 0 → p * width + offset + 32 ≤ length table
-    id_ends places i p w h e = rw e (omega (arith, all_at Within places i 0 h w, fits))
-
     id_long : (place : ℕ) → Within place → length (take 32 (drop offset (entry width place table))) ≡ 32
     id_long place h = ap length (entry_field width place offset 32 table fits) ∙ length_part (place * width + offset) 32 table (omega (arith, h, fits))
 
@@ -83,9 +79,6 @@ module _ (width offset : ℕ) (table : List ℕ) where
     pub i_le : i ≤ length places
     pub long : length ids ≡ length d
     pub rest : overwritten (i * 32) (joined (gathered width offset table (drop i places))) ids ≡ overwritten 0 (joined (gathered width offset table places)) d
-
-  pub gather_starts : (places d : List ℕ) → Gathering places d d 0
-  gather_starts places d = record { i_le = omega arith; long = refl; rest = refl }
 
   -- the ids are read back at the front; where the room is theirs alone, they are all of it
   module _ (fits : offset + 32 ≤ width) (places d ids : List ℕ) (w : All Within places)

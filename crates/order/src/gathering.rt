@@ -7,7 +7,8 @@ ghost use Rattle.fields.specs.Entries.{joined};
 ghost use Rattle.fields.specs.Overwrite.{overwritten};
 ghost use Rattle.order.specs.Gathered.{gathered};
 
-// An id copied to `to`. All of it is read before it is written, so that it moves by words.
+// An id copied to `to`. All of it is read before it is written, so that it moves by words. `copy_from_slice` was
+// tried: it asks whether the slices overlap, with 64 moves of bytes for when they do; by way of an array 4.6 ns, not 2.0.
 pub fn put_id(table: &[u8], from: usize, ids: &mut [u8], to: usize)
     requires { (from + 32 ≤ length table.now) × (to + 32 ≤ length ids.old) }
     ensures { ids.new ≡ overwritten to (take 32 (drop from table.now)) ids.old }
@@ -28,10 +29,8 @@ pub fn gather(table: &[u8], width: usize, offset: usize, places: &[u16], ids: &m
     requires offset_bound { (offset + 32 ≤ width) × (length places.now * 32 ≤ length ids.old) }
     ensures { ids.new ≡ overwritten 0 (joined (gathered width offset table.now places.now)) ids.old }
 {
-    let mut i = 0;
-    while i < places.len() {
-        let from = crate::places::wide(places[i]) * width + offset;
+    for (i, place) in places.iter().enumerate() {
+        let from = usize::from(*place) * width + offset;
         put_id(table, from, ids, i * 32);
-        i += 1;
     }
 }

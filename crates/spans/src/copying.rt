@@ -1,6 +1,9 @@
 // Copies, zero scans and fills of whole areas at memory speed.
 //
 // A step that may still be refused works on a copy of the state area and copies back what finished: most of its cost is here.
+//
+// Of two slices the first so many bytes: a part of each would be checked twice. Where the library does it in a line, the
+// function is for a contract with the whole slice.
 ghost use Rattle.std.specs.Prelude.{◌≡◌, ◌++◌, ◌+◌, ◌≤◌, length, take, drop};
 ghost use Rattle.fields.specs.Zero.{zeros, all_zero};
 
@@ -9,11 +12,7 @@ pub fn copy(src: &[u8], dst: &mut [u8])
     requires { length src.now ≡ length dst.old }
     ensures { dst.new ≡ src.now }
 {
-    let mut i = 0;
-    while i < src.len() {
-        dst[i] = src[i];
-        i += 1;
-    }
+    dst.copy_from_slice(src);
 }
 
 // Copies the first `count` bytes of src over those of dst.
@@ -21,7 +20,7 @@ pub fn copy_prefix(src: &[u8], count: usize, dst: &mut [u8])
     requires { (count ≤ length src.now) × (count ≤ length dst.old) }
     ensures { dst.new ≡ take count src.now ++ drop count dst.old }
 {
-    copy(&src[..count], &mut dst[..count]);
+    dst[..count].copy_from_slice(&src[..count]);
 }
 
 // A copy of an area of 65,536 bytes to work on. The part says its length to the compiler, which then makes one copy of it.
@@ -30,7 +29,7 @@ pub fn scratch(src: &[u8]) -> [u8; 65536]
     ensures { result ≡ src.now }
 {
     let mut area = [0u8; 65536];
-    copy(&src[..65536], &mut area);
+    copy_prefix(src, 65536, &mut area);
     area
 }
 
@@ -39,10 +38,8 @@ pub fn is_zero(s: &[u8]) -> bool
     ensures { result ≡ all_zero s.now }
 {
     let mut ok = true;
-    let mut i = 0;
-    while i < s.len() {
-        ok = ok & (s[i] == 0);
-        i += 1;
+    for b in s {
+        ok &= *b == 0;
     }
     ok
 }
@@ -51,9 +48,5 @@ pub fn is_zero(s: &[u8]) -> bool
 pub fn fill_zero(s: &mut [u8])
     ensures { s.new ≡ zeros (length s.old) }
 {
-    let mut i = 0;
-    while i < s.len() {
-        s[i] = 0;
-        i += 1;
-    }
+    s.fill(0);
 }

@@ -1,11 +1,12 @@
 -- One pass that keeps the marked entries: entries moved down behind those kept, and the count raised or not.
 use Prim.Native.Nat.{ℕ, ◌+◌, ◌-◌, ◌*◌, ◌≤◌, ◌<◌}
 use mathlib.Core.Path.{◌≡◌, refl, sym, ◌∙◌}
-use mathlib.Core.Bool.{Bool, true, false, cond}
+use mathlib.Core.Bool.{Bool, true, false}
 use mathlib.Core.List.{List, [], ◌++◌, append_assoc, append-nil}
 use native.Mathlib.Nat.{mul-le-mul_right, add-zero}
 use native.Mathlib.Omega.{arith}
 use lib.Dec.{eqb}
+use mir.Val.{bool_byte}
 use lib.ListN.{length, take, drop, get_or, replicate, length-drop, drop_of_length-le}
 use lib.Seq.{drop-drop}
 use borrow.Author.Tests.{eqb-true, eqb-false}
@@ -109,13 +110,14 @@ module _ {width count : ℕ} {marks d t : List ℕ} {left i : ℕ} (s : Keeping 
         rest = still_rest;
       }
 
--- entries that are kept while none was dropped stay
-pub keeps_still_lem : {width count : ℕ} {marks d : List ℕ} {i : ℕ} → Keeping width count marks d d i i → (k : ℕ) → i + k ≤ count
-    → drop i marks ≡ replicate k 1 ++ drop (i + k) marks → Keeping width count marks d d (i + k) (i + k)
+-- the first k entries, where all are kept, stay
+pub starts_still : (width count : ℕ) (marks d : List ℕ) → count * width ≤ length d → (k : ℕ) → k ≤ count → marks ≡ replicate k 1 ++ drop k marks
+    → Keeping width count marks d d k k
 unfolding moved
-keeps_still_lem {width = width} {d = d} {i = i} s k h o =
-    let f : i * width + k * width ≤ length d = (block_fits width i i k (i + k) d (omega arith) refl (omega (arith, s.fits, mul-le-mul_right width h))).1 in
-    keeps_all s k h d (sym (overwritten_same (i * width) (k * width) d f)) o
+starts_still width count marks d f k h o =
+    let z : 0 + k ≡ k = omega arith in
+    let l : 0 * width + k * width ≤ length d = omega (arith, f, mul-le-mul_right width h) in
+    rw z at (keeps_all (starts width count marks d f) k (omega arith) d (sym (overwritten_same (0 * width) (k * width) d l)) (rw z o))
 
 -- one entry, moved down behind those kept
 module _ {width count : ℕ} {marks d t : List ℕ} {left i : ℕ} (s : Keeping width count marks d t left i) (h : i + 1 ≤ count) (l : i < length marks)
@@ -138,12 +140,17 @@ module _ {width count : ℕ} {marks d t : List ℕ} {left i : ℕ} (s : Keeping 
       }
 
   -- whatever its mark is
-  keeps_one : (n : ℕ) → n ≡ cond (eqb (get_or marks i 0) 1) 1 0 → Keeping width count marks d t' (left + n) (i + 1)
+  keeps_one : (n : ℕ) → n ≡ bool_byte (eqb (get_or marks i 0) 1) → Keeping width count marks d t' (left + n) (i + 1)
   keeps_one n e = rw e (go (eqb (get_or marks i 0) 1) refl)
     where
-      go : (test : Bool) → eqb (get_or marks i 0) 1 ≡ test → Keeping width count marks d t' (left + cond test 1 0) (i + 1)
+      go : (test : Bool) → eqb (get_or marks i 0) 1 ≡ test → Keeping width count marks d t' (left + bool_byte test) (i + 1)
       go true r = keeps_all s 1 h t' one_moved (one_mark marks i l (eqb-true (get_or marks i 0) 1 r))
       go false r = rw add-zero (drops_one (eqb-false (get_or marks i 0) 1 r))
+
+-- what a test adds to a count
+pub at_most_one : (test : Bool) → bool_byte test ≤ 1
+at_most_one true = omega arith
+at_most_one false = omega arith
 
 -- ---- a part of the pass, from the table t on
 
@@ -153,7 +160,7 @@ module _ (width : ℕ) (marks t : List ℕ) (kept from : ℕ) where
 
   -- one entry more
   pub pass_one : (u u' : List ℕ) (left i n : ℕ) → i < length marks → Passed width marks t kept from u left i
-      → u' ≡ overwritten (left * width) (entry width i u) u → n ≡ cond (eqb (get_or marks i 0) 1) 1 0 → Passed width marks t kept from u' (left + n) (i + 1)
+      → u' ≡ overwritten (left * width) (entry width i u) u → n ≡ bool_byte (eqb (get_or marks i 0) 1) → Passed width marks t kept from u' (left + n) (i + 1)
   pass_one u u' left i n l p q e count d h k = keeps_one (p count d (omega arith) k) h l u' q n e
 
   -- eight entries that are all kept, as one block

@@ -2,13 +2,14 @@
 use Prim.Native.Nat.{ℕ, zero, suc, ◌+◌, ◌≤◌, ◌<◌}
 use mathlib.Core.Path.{◌≡◌, refl, sym, ap, ◌∙◌}
 use mathlib.Core.Bool.{◌&&◌, true}
-use mathlib.Core.List.{List, [], ◌∷◌, ◌++◌}
+use mathlib.Core.List.{List, [], ◌∷◌, ◌++◌, append_assoc}
 use native.Mathlib.Numerals.{add-one}
 use native.Mathlib.Omega.{arith}
 use lib.Dec.{eqb, leb}
 use lib.ListN.{length, take, drop, get_or, replicate, take-append-drop}
 use lib.Seq.{drop-cons, drop-drop}
 use borrow.Author.Tests.{eqb-true, leb-true, ne_eqb}
+use Rattle.std.proofs.lemmas.List.{replicate-append-replicate}
 use Rattle.fields.specs.Facts.{Bytes}
 use Rattle.fields.specs.Number.{from_be, to_be}
 use Rattle.fields.specs.Filter.{marked}
@@ -42,3 +43,10 @@ module _ (marks : List ℕ) (i : ℕ) where
       let v : word ≡ 0x0101_0101_0101_0101 = eqb-true word 0x0101_0101_0101_0101 (and_right (leb (i + 8) n) (eqb word 0x0101_0101_0101_0101) w) in
       let t : take 8 (drop i marks) ≡ to_be 8 0x0101_0101_0101_0101 = sym (to_be_part i 8 marks (omega arith) b) ∙ ap (to_be 8) v in
       (h, sym (take-append-drop 8 (drop i marks)) ∙ rw (t, drop-drop))
+
+  -- k more marks of 1, behind i of them
+  pub ones_further : (k : ℕ) → marks ≡ replicate i 1 ++ drop i marks → drop i marks ≡ replicate k 1 ++ drop (i + k) marks
+      → marks ≡ replicate (i + k) 1 ++ drop (i + k) marks
+  ones_further k e f =
+      e ∙ ap (λ l. replicate i 1 ++ l) f ∙ sym (append_assoc (replicate i 1) (replicate k 1) (drop (i + k) marks))
+      ∙ ap (λ l. l ++ drop (i + k) marks) (replicate-append-replicate i k 1)

@@ -1,4 +1,6 @@
 // An entry put into a table.
+//
+// The table is written, so width and count stand beside it.
 ghost use Rattle.std.specs.Prelude.{◌≡◌, ◌+◌, ◌*◌, ◌≤◌, length};
 ghost use Rattle.fields.specs.Entries.{entries, inserted_at, replaced};
 

@@ -1,5 +1,7 @@
 // A table cut down to the entries that are marked.
-ghost use Rattle.std.specs.Prelude.{◌≡◌, ◌&&◌, cond, ◌+◌, ◌-◌, ◌*◌, ◌≤◌, min, eqb, leb, length, take, drop};
+//
+// The table is written, so width, count and marks stand beside it.
+ghost use Rattle.std.specs.Prelude.{◌≡◌, ◌&&◌, ◌++◌, ◌+◌, ◌*◌, ◌≤◌, eqb, leb, length, take, drop, replicate};
 ghost use Rattle.fields.specs.Number.{from_be};
 ghost use Rattle.fields.specs.Overwrite.{overwritten};
 ghost use Rattle.fields.specs.Entries.{entries, entry, replaced};
@@ -27,18 +29,9 @@ fn eight_kept(marks: &[u8], at: usize, count: usize) -> bool
     fields::read_u64(marks, at) == 0x0101_0101_0101_0101
 }
 
-// What a mark adds to the count, without a branch: marks can't be foretold.
-fn one_if(test: bool) -> usize
-    ensures { (result ≡ cond test 1 0) × (result ≤ 1) }
-{
-    if test {
-        return 1;
-    }
-    0
-}
-
 // The pass from `from` to `end`, one entry at a time; answers how many are kept then. Each entry moves down behind those
-// kept, and the next one goes over it if it doesn't count.
+// kept, and the next one goes over it if it doesn't count. What a mark adds to the count is added without a branch: marks
+// can't be foretold. The six stay arguments: the table is lent on, and both functions would take a struct of them apart.
 fn keep_each(
     table: &mut [u8],
     width: usize,
@@ -50,12 +43,10 @@ fn keep_each(
     requires { (kept ≤ from) × ((from ≤ end) × ((end ≤ length marks.now) × (end * width ≤ length table.old))) }
     ensures { Passed width marks.now table.old kept from table.new result end }
 {
-    let mut i = from;
     let mut left = kept;
-    while i < end {
+    for i in from..end {
         move_entry(table, width, i, left);
-        left += one_if(marks[i] == 1);
-        i += 1;
+        left += usize::from(marks[i] == 1);
     }
     left
 }
@@ -80,15 +71,18 @@ fn keep_eight(
     keep_each(table, width, from, end, kept, marks)
 }
 
-// Where eight entries from `at` on end, or the table does.
-fn eight_on(at: usize, count: usize) -> usize
-    requires { at ≤ count }
-    ensures { result ≡ min (at + 8) count }
+// How many entries stay where they are: eights that are kept, up to the first that is not.
+fn still(marks: &[u8], count: usize) -> usize
+    requires { count ≤ length marks.now }
+    ensures within { result ≤ count }
+    ensures ones { marks.now ≡ replicate result 1 ++ drop result marks.now }
 {
-    if count - at < 8 {
-        return count;
+    for at in (0..count).step_by(8) {
+        if !eight_kept(marks, at, count) {
+            return at;
+        }
     }
-    at + 8
+    count
 }
 
 // Keeps the entries whose mark is 1, in one pass; answers how many. A test of any kind writes the marks.
@@ -97,16 +91,11 @@ pub fn keep(table: &mut [u8], width: usize, count: usize, marks: &[u8]) -> usize
     ensures value { result ≡ length (marked marks.now (entries width count table.old)) }
     ensures table_after { table.new ≡ replaced width count (marked marks.now (entries width count table.old)) table.old }
 {
-    // Eights that are kept stay where they are, up to the first that is not.
-    let mut i = 0;
-    while eight_kept(marks, i, count) {
-        i += 8;
-    }
-    let mut kept = i;
-    while i < count {
-        let end = eight_on(i, count);
-        kept = keep_eight(table, width, i, end, kept, marks);
-        i = end;
+    let start = still(marks, count);
+    let mut kept = start;
+    for from in (start..count).step_by(8) {
+        let end = from + (count - from).min(8);
+        kept = keep_eight(table, width, from, end, kept, marks);
     }
     spans::moving::clear(table, kept * width, (count - kept) * width);
     kept

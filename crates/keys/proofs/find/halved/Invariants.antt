@@ -8,9 +8,9 @@ use Rattle.keys.proofs.find.halved.Given as goal
 abbrev pub invariant-loop-lo : goal.invariant-loop-lo
 invariant-loop-lo l =
     (l.lo ≤ l.hi)
-    × ((l.hi ≤ l.count)
-    × (((j : ℕ) → j < l.lo → Below l.key (entries l.width l.count l.table) j true)
-    × (l.hi < l.count → Below l.key (entries l.width l.count l.table) l.hi false)))
+    × ((l.hi ≤ l.table.count)
+    × (((j : ℕ) → j < l.lo → Below l.key (entries l.table.width l.table.count l.table.bytes.now) j true)
+    × (l.hi < l.table.count → Below l.key (entries l.table.width l.table.count l.table.bytes.now) l.hi false)))
 
 abbrev pub decreases-loop-lo : goal.decreases-loop-lo
 decreases-loop-lo l = l.hi - l.lo

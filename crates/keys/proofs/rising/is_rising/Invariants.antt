@@ -6,7 +6,4 @@ use Rattle.fields.specs.Entries.{entries, rising}
 use Rattle.keys.proofs.rising.is_rising.Given as goal
 
 abbrev pub invariant-loop-i : goal.invariant-loop-i
-invariant-loop-i l = (0 < l.i) × (rising l.size (entries l.width l.count l.table) ≡ rising l.size (drop (l.i - 1) (entries l.width l.count l.table)))
-
-abbrev pub decreases-loop-i : goal.decreases-loop-i
-decreases-loop-i l = l.count - l.i
+invariant-loop-i l = (0 < l.i) × (rising l.size (entries l.table.width l.table.count l.table.bytes.now) ≡ rising l.size (drop (l.i - 1) (entries l.table.width l.table.count l.table.bytes.now)))

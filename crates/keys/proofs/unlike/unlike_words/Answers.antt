@@ -1,6 +1,6 @@
 use native.Mathlib.Omega.{arith}
 use Prim.Native.Nat.{◌-◌}
-use mathlib.Core.Path.{◌≡◌, refl, sym, ap, ◌∙◌}
+use mathlib.Core.Path.{◌≡◌, sym, ap, ◌∙◌}
 use lib.ListN.{take, drop}
 use lib.Seq.{take-take}
 use Rattle.keys.proofs.UnlikeLaws.{Behind, differ_decides, last_decides, alike_further}
@@ -26,9 +26,6 @@ module _ (c : After-words_at-words) where
         left = c.words_at-words.ensures.0;
         right = c.words_at-words.ensures.1;
       }
-
-pub loop-i-init : goal.loop-i-init
-loop-i-init c = (omega arith, refl)
 
 pub returns-then-words : goal.returns-then-words
 returns-then-words c = let here = (goal.at.returns-then-words c).After-words_at-words in differ_decides (words here) c.if-words.true

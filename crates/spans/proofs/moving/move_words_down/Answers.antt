@@ -12,8 +12,8 @@ loop-done-init c = let a = c.args in (omega arith, (refl, sym (moved_none a.from
 pub loop-done-preserved : goal.loop-done-preserved
 loop-done-preserved c =
     let a = c.args in
-    let turned = down_turn a.from a.to a.size a.s.now c.loop-done.s c.move_block.new.s c.loop-done.done 32 in
-    (omega arith, (omega arith, turned (omega arith) (omega arith) (omega arith) c.loop-done.invariant.1.1 c.move_block.ensures))
+    let turned = down_turn a.from a.to a.size a.s.now c.loop-done.s c.move_part.new.s c.loop-done.done 32 in
+    (omega arith, (omega arith, turned (omega arith) (omega arith) (omega arith) c.loop-done.invariant.1.1 c.move_part.ensures))
 
 pub loop-done-2-init : goal.loop-done-2-init
 loop-done-2-init c = (omega arith, (refl, (λ d h e. e)))
@@ -27,8 +27,8 @@ loop-done-2-preserved c =
       (
         omega arith,
         (λ d h e.
-            down_turn a.from a.to a.size d c.loop-done-2.s c.move_eight.new.s c.loop-done-2.done 8 o h k
-            (c.loop-done-2.invariant.1.1 d h e) c.move_eight.ensures),
+            down_turn a.from a.to a.size d c.loop-done-2.s c.move_part-in-loop-done-2.new.s c.loop-done-2.done 8 o h k
+            (c.loop-done-2.invariant.1.1 d h e) c.move_part-in-loop-done-2.ensures),
       ),
     )
 

@@ -1,65 +1,54 @@
-use Prim.Native.Nat.{◌+◌, ◌≤◌}
-use mathlib.Core.Path.{◌≡◌, sym, ◌∙◌}
-use mathlib.Core.List.{◌++◌}
-use native.Mathlib.Nat.{mul-le-mul_right}
+use Prim.Native.Nat.{◌+◌}
+use mathlib.Core.Path.{◌≡◌}
 use native.Mathlib.Omega.{arith}
-use lib.ListN.{drop, replicate}
+use Rattle.table.specs.Keep.{Keeping}
 use Rattle.table.proofs.EditLaws.{bytes_from}
-use Rattle.table.proofs.MarkLaws.{eight_marks}
-use Rattle.table.proofs.KeepLaws.{starts, keeps_still_lem, finished}
-use Rattle.table.proofs.keep.keep.Goals.{In-loop-i}
+use Rattle.table.proofs.KeepLaws.{starts_still, finished}
+use Rattle.table.proofs.keep.keep.Goals.{Left-loop-from, else-loop-from-test, then-loop-from-test+else-count-from-gt8}
 use Rattle.table.proofs.keep.keep.Goals as goal
 
--- eight marks of 1 while nothing was dropped
-module _ (c : In-loop-i) where
-  ones : (c.loop-i.i + 8 ≤ c.args.count)
-      × (drop c.loop-i.i c.args.marks.now ≡ replicate 8 1 ++ drop (c.loop-i.i + 8) c.args.marks.now)
-  ones =
-      let a = c.args in
-      eight_marks a.marks.now c.loop-i.i a.count c.requires.0 (λ i. omega (arith, c.type_inv.marks i))
-      (sym c.eight_kept.ensures ∙ c.loop-i-test.true)
+-- the pass is at the end, after a last turn or none
+module _ (c : Left-loop-from) where
+  whole : Keeping c.args.width c.args.count c.args.marks.now c.args.table.now c.loop-from-test.table c.loop-from-test.kept c.args.count
+  whole =
+      elim c.loop-from-test.branch [
+        | else-loop-from-test w ↦ (
+            let e : c.loop-from.from ≡ c.args.count = omega (arith, c.loop-from.invariant.i_le) in
+            rw (w.table-is, w.kept-is) (rw e at c.loop-from.invariant)
+            )
+        | then-loop-from-test+else-count-from-gt8 w ↦ (
+            let e : c.loop-from.from + w.min.result ≡ c.args.count = omega arith in
+            rw (w.table-is, w.kept-is) (rw e at (w.keep_eight-kept.ensures c.args.count c.args.table.now (omega arith) c.loop-from.invariant))
+            )
+      ]
 
--- ---- the goals
+pub loop-from-init : goal.loop-from-init
+loop-from-init c =
+    let a = c.args in
+    starts_still a.width a.count a.marks.now a.table.now c.requires.1 c.still-start.result c.still-start.ensures.within c.still-start.ensures.ones
 
-pub loop-i-init : goal.loop-i-init
-loop-i-init c = let a = c.args in starts a.width a.count a.marks.now a.table.now c.requires.1
-
-pub overflow_add-i : goal.overflow_add-i
-overflow_add-i c = let k = c in omega (arith, (ones k).0)
-
-pub loop-i-smaller : goal.loop-i-smaller
-loop-i-smaller c = let k = c in omega (arith, (ones k).0)
-
-pub loop-i-preserved : goal.loop-i-preserved
-loop-i-preserved c = let k = c in keeps_still_lem k.loop-i.invariant 8 (ones k).0 (ones k).1
-
-pub loop-i-2-init : goal.loop-i-2-init
-loop-i-2-init c = c.loop-i.invariant
-
-pub keep_eight-kept-requires : goal.keep_eight-kept-requires
-keep_eight-kept-requires c =
-    let h : c.eight_on-end.result ≤ c.args.count = omega (arith, c.eight_on-end.ensures) in
-    omega (arith, c.eight_on-end.ensures, mul-le-mul_right c.args.width h)
-
-pub loop-i-2-smaller : goal.loop-i-2-smaller
-loop-i-2-smaller c = omega (arith, c.eight_on-end.ensures)
-
-pub loop-i-2-preserved : goal.loop-i-2-preserved
-loop-i-2-preserved c =
-    c.keep_eight-kept.ensures c.args.count c.args.table.now (omega (arith, c.eight_on-end.ensures)) c.loop-i-2.invariant
+pub loop-from-preserved : goal.loop-from-preserved
+loop-from-preserved c =
+    let e : c.min.result ≡ 8 = omega arith in
+    rw e at (c.keep_eight-kept.ensures c.args.count c.args.table.now (omega arith) c.loop-from.invariant)
 
 pub overflow_mul-kept : goal.overflow_mul-kept
 overflow_mul-kept c =
-    omega (arith, bytes_from c.args.width c.args.count c.loop-i-2.kept (omega arith))
+    let pass = (goal.at.overflow_mul-kept c).Left-loop-from in
+    omega (arith, bytes_from c.args.width c.args.count c.loop-from-test.kept (whole pass).left_le)
 
 pub overflow_mul-count : goal.overflow_mul-count
 overflow_mul-count c =
-    omega (arith, bytes_from c.args.width c.args.count c.loop-i-2.kept (omega arith))
+    let pass = (goal.at.overflow_mul-count c).Left-loop-from in
+    omega (arith, bytes_from c.args.width c.args.count c.loop-from-test.kept (whole pass).left_le)
 
 pub clear-requires : goal.clear-requires
 clear-requires c =
-    omega (arith, bytes_from c.args.width c.args.count c.loop-i-2.kept (omega arith))
+    let pass = (goal.at.clear-requires c).Left-loop-from in
+    omega (arith, bytes_from c.args.width c.args.count c.loop-from-test.kept (whole pass).left_le)
 
 pub returns : goal.returns
 returns c =
-    let whole = finished c.clear.new.s c.loop-i-2.invariant (omega arith) c.clear.ensures in record { value = whole.0; table_after = whole.1 }
+    let pass = (goal.at.returns c).Left-loop-from in
+    let done = finished c.clear.new.s (whole pass) (omega arith) c.clear.ensures in
+    record { value = done.0; table_after = done.1 }

@@ -1,5 +1,5 @@
--- The loop: a pass that stood at `from` when it began stands at i. A turn is `pass_one`.
-use Prim.Native.Nat.{◌-◌, ◌≤◌}
+-- A pass that stood at `from` when it began stands at i. A turn is `pass_one`.
+use Prim.Native.Nat.{◌≤◌}
 use mathlib.Core.Path.{◌≡◌}
 use lib.ListN.{length}
 use Rattle.table.specs.Keep.{Passed}
@@ -7,10 +7,4 @@ use Rattle.table.proofs.keep.keep_each.Given as goal
 
 abbrev pub invariant-loop-i : goal.invariant-loop-i
 invariant-loop-i l =
-    (l.left ≤ l.i)
-    × ((l.i ≤ l.end)
-    × ((length l.table ≡ length l.initial.table)
-    × Passed l.width l.marks l.initial.table l.kept l.from l.table l.left l.i))
-
-abbrev pub decreases-loop-i : goal.decreases-loop-i
-decreases-loop-i l = l.end - l.i
+    (l.left ≤ l.i) × ((length l.table ≡ length l.initial.table) × Passed l.width l.marks l.initial.table l.kept l.from l.table l.left l.i)

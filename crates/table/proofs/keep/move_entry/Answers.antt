@@ -1,15 +1,8 @@
 -- One entry moved, or none where it stands there: `moved_entry`, `entry_stays`.
 use mathlib.Core.Path.{◌∙◌}
-use native.Mathlib.Nat.{mul-le-mul_right}
 use native.Mathlib.Omega.{arith}
 use Rattle.table.proofs.KeepLaws.{moved_entry, entry_stays}
 use Rattle.table.proofs.keep.move_entry.Goals as goal
-
-pub overflow_mul-to : goal.overflow_mul-to
-overflow_mul-to c = omega (arith, mul-le-mul_right c.args.width c.requires.0)
-
-pub move_down-requires : goal.move_down-requires
-move_down-requires c = omega (arith, mul-le-mul_right c.args.width c.requires.0)
 
 pub returns-then-to-from : goal.returns-then-to-from
 returns-then-to-from c =
