@@ -1,4 +1,6 @@
 // The header of the state area, by value.
+//
+// Read from any area that is long enough, so its size is a clause.
 ghost use Rattle.std.specs.Prelude.{◌≡◌, ◌+◌, ◌≤◌, length};
 ghost use Rattle.model.specs.Image.{field};
 ghost use Rattle.image.specs.Heads.{head_in};
@@ -7,7 +9,9 @@ use settings::{SendClock, Settings};
 
 #[derive(Clone, Copy)]
 pub struct Head {
+    // The area's byte and no enum: it is read from any bytes, and what asks of it answers for any byte.
     pub mode: u8,
+    // two marks that count beside the mode
     pub used: bool,
     pub sent: bool,
     pub clock: u64,
@@ -27,10 +31,11 @@ pub fn count_at(area: &[u8], at: usize) -> usize
     requires { at + 2 ≤ length area.now }
     ensures { result ≡ field at 2 area.now }
 {
-    fields::read_u16(area, at) as usize
+    usize::from(fields::read_u16(area, at))
 }
 
 // The four settings.
+#[tactic(auto, unfolding(crate::specs::Heads::head_in))]
 pub fn read_settings(area: &[u8]) -> Settings
     requires { 74 ≤ length area.now }
     ensures { result ≡ (head_in area.now).settings }
@@ -40,17 +45,6 @@ pub fn read_settings(area: &[u8]) -> Settings
         checks: fields::read_u32(area, 20),
         interval: fields::read_u32(area, 24),
         stall: fields::read_u32(area, 28),
-    }
-}
-
-// Last send and sends counted.
-fn read_send_clock(area: &[u8]) -> SendClock
-    requires { 74 ≤ length area.now }
-    ensures { result ≡ (head_in area.now).send }
-{
-    SendClock {
-        last: fields::read_u64(area, 40),
-        sends: fields::read_u32(area, 56),
     }
 }
 
@@ -66,7 +60,10 @@ pub fn read_head(area: &[u8]) -> Head
         clock: fields::read_u64(area, 8),
         settings: read_settings(area),
         progress: fields::read_u64(area, 32),
-        send: read_send_clock(area),
+        send: SendClock {
+            last: fields::read_u64(area, 40),
+            sends: fields::read_u32(area, 56),
+        },
         peer: fields::read_u64(area, 48),
         downloaded: fields::read_u32(area, 60),
         tip: fields::read_u32(area, 64),

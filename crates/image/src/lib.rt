@@ -6,5 +6,6 @@
 #![tactic(auto)]
 
 pub mod head;
+pub mod mode;
 pub mod opening;
 pub mod writing;

@@ -15,7 +15,7 @@ pub fn open(area: &mut [u8], settings: Settings, clock: u64, height: u32)
 {
     spans::copying::fill_zero(area);
     let head = Head {
-        mode: 0,
+        mode: crate::mode::NEW,
         used: false,
         sent: false,
         clock,

@@ -1,13 +1,9 @@
--- A peer among those from an index on, flags that say it is none of them, and the peers as they are read.
-use Prim.Native.Nat.{ℕ, zero, suc, ◌+◌, ◌-◌, ◌%◌, ◌≤◌, ◌<◌}
-use mathlib.Core.Path.{◌≡◌, refl, sym, ap, ◌∙◌}
-use mathlib.Core.Bool.{Bool, true, false, not, ◌&&◌, ◌||◌, false≢true}
-use mathlib.Core.List.{List, [], ◌∷◌, map}
-use native.Mathlib.Nat.{lt_irrefl, mod-lt, sub-zero}
-use native.Mathlib.Omega.{arith}
-use lib.Dec.{eqb}
-use lib.ListN.{length, take, drop, get_or, set, length-drop}
-use lib.Seq.{get_or-set_same}
+-- A peer among others, flags that say it is none of them, and the peers as they are read.
+use Rattle.std.proofs.Common.{ℕ, zero, suc, ◌+◌, ◌-◌, ◌%◌, ◌≤◌, ◌<◌, ◌≡◌, refl, sym, ap, ◌∙◌, Bool, true, false, not, ◌&&◌, ◌||◌, eqb, List, [], ◌∷◌, map, length}
+use Rattle.std.proofs.Common.{take, drop, get_or, set, length-drop, length-set, drop-cons, add-one, arith}
+use Rattle.std.proofs.lemmas.Bool.{false≢true}
+use Rattle.std.proofs.Math.Seq.{get_or-set_same, drop-length, take_all}
+use native.Mathlib.Nat.{lt_irrefl, mod-lt}
 use borrow.Author.Tests.{eqb-true}
 use Rattle.fields.specs.Number.{from_be}
 use Rattle.fields.specs.Entries.{entries}
@@ -15,26 +11,23 @@ use Rattle.fields.proofs.OrderLaws.{or_false}
 use Rattle.fields.proofs.EntriesLaws.{entries_take}
 use Rattle.model.specs.Peers.{is_listed}
 use Rattle.model.specs.Image.{none_twice, stalled_of, stalled_count}
-use Rattle.peers.specs.Stalled.{elements, stalled_peers}
-use Rattle.peers.specs.declared.stalled.Stalled.{Stalled}
-use Rattle.peers.proofs.StalledLaws.{elements_next, elements_end}
+use Rattle.peers.specs.Stalled.{stalled_peers}
+use Rattle.peers.specs.declared.stalled_set.Stalled.{Stalled}
+use Rattle.peers.proofs.StalledLaws.{elements_take}
 use Rattle.image_test.specs.Flags.{Flagged}
 use Rattle.model.specs.Layout.{region_at}
 
--- ---- those from an index on
-
-or_turn : (found a b : Bool) → found || (a || b) ≡ (found || a) || b
-or_turn true a b = refl
-or_turn false a b = refl
-
-module _ (places : List ℕ) (n i : ℕ) where
-  pub listed_turn : (found : Bool) (peer : ℕ) → i < n
-      → found || is_listed peer (elements (n - i) i places) ≡ (found || eqb peer (get_or places i 0)) || is_listed peer (elements (n - (i + 1)) (i + 1) places)
-  listed_turn found peer h =
-      rw (elements_next n i places h) (or_turn found (eqb peer (get_or places i 0)) (is_listed peer (elements (n - (i + 1)) (i + 1) places)))
-
-  pub listed_end : (found : Bool) (peer : ℕ) → n ≤ i → found || is_listed peer (elements (n - i) i places) ≡ found
-  listed_end found peer h = rw (elements_end n i places h) (or_false found)
+-- one peer more that may be it
+pub listed_more : (peer : ℕ) (peers : List ℕ) (i : ℕ) → i < length peers
+    → is_listed peer (take (i + 1) peers) ≡ is_listed peer (take i peers) || eqb peer (get_or peers i 0)
+listed_more peer [] i h = absurd (lt_irrefl 0 (omega arith))
+listed_more peer (other ∷ others) zero h = or_false (eqb peer other)
+listed_more peer (other ∷ others) (suc i) h = rw add-one (go (eqb peer other) (rw add-one at (listed_more peer others i (omega arith))))
+  where
+    go : (t : Bool) → is_listed peer (take (suc i) others) ≡ is_listed peer (take i others) || eqb peer (get_or others i 0)
+        → t || is_listed peer (take (suc i) others) ≡ (t || is_listed peer (take i others)) || eqb peer (get_or others i 0)
+    go true e = refl
+    go false e = e
 
 -- ---- flags
 
@@ -66,36 +59,29 @@ flagged_cons flags peers peer l f other h = go (eqb other peer) refl
 
 -- ---- from the last to the first
 
--- the peers from i on have set their flags, and `ok` is what is to be said of them
-pub record Passed (places : List ℕ) (n : ℕ) (flags : List ℕ) (ok : Bool) (i : ℕ) : Type 0 where
-  pub flagged : Flagged flags (elements (n - i) i places)
-  pub told : ok ≡ none_twice (elements (n - i) i places)
+-- these peers have set their flags, and `ok` is what is to be said of them
+pub record Passed (flags : List ℕ) (ok : Bool) (peers : List ℕ) : Type 0 where
+  pub flags_len : length flags ≡ 4096
+  pub flagged : Flagged flags peers
+  pub told : ok ≡ none_twice peers
 
-module _ (places : List ℕ) (n : ℕ) where
-  pub passed_none : (flags : List ℕ) → Passed places n flags true n
-  unfolding none_twice
-  passed_none flags = record { flagged = rw (elements_end n n places (omega arith)) (flagged_none flags); told = rw (elements_end n n places (omega arith)) }
+pub passed_none : (flags peers : List ℕ) → length flags ≡ 4096 → Passed flags true (drop (length peers) peers)
+unfolding none_twice
+passed_none flags peers l = rw drop-length (record { flags_len = l; flagged = flagged_none flags; told = refl })
 
-  pub flagged_behind : (flags : List ℕ) (ok : Bool) (k i : ℕ) → k ≡ i + 1 → Passed places n flags ok k → Flagged flags (elements (n - (i + 1)) (i + 1) places)
-  flagged_behind flags ok k i e p = rw e at p.flagged
-
-  pub passed_next : (flags : List ℕ) (ok listed : Bool) (k i : ℕ) → k ≡ i + 1 → i < n → length flags ≡ 4096
-      → Passed places n flags ok k
-      → listed ≡ is_listed (get_or places i 0) (elements (n - (i + 1)) (i + 1) places)
-      → Passed places n (set flags (get_or places i 0 % 4096) 1) (not listed && ok) i
-  unfolding none_twice
-  passed_next flags ok listed k i e h l p r =
-      let rest : List ℕ = elements (n - (i + 1)) (i + 1) places in
-      let t : ok ≡ none_twice rest = rw e at p.told in
-      record {
-        flagged = rw (elements_next n i places h) (flagged_cons flags rest (get_or places i 0) l (flagged_behind flags ok k i e p));
-        told = rw (elements_next n i places h, r, t);
-      }
-
-  pub passed_all : (flags : List ℕ) (ok : Bool) (i : ℕ) → i ≡ 0 → Passed places n flags ok i → ok ≡ none_twice (elements n 0 places)
-  passed_all flags ok i e p =
-      let t : ok ≡ none_twice (elements (n - 0) 0 places) = rw e at p.told in
-      rw sub-zero at t
+pub passed_next : (flags peers : List ℕ) (ok listed : Bool) (i k : ℕ) → k ≡ i + 1 → i < length peers → Passed flags ok (drop k peers)
+    → listed ≡ is_listed (get_or peers i 0) (take (length peers - (i + 1)) (drop (i + 1) peers))
+    → Passed (set flags (get_or peers i 0 % 4096) 1) (not listed && ok) (drop i peers)
+unfolding none_twice
+passed_next flags peers ok listed i k e h p r =
+    let d : drop i peers ≡ get_or peers i 0 ∷ drop k peers = rw (e, add-one) (drop-cons peers i 0 h) in
+    let b : take (length peers - (i + 1)) (drop (i + 1) peers) ≡ drop k peers =
+    rw e (take_all (length peers - (i + 1)) (drop (i + 1) peers) (rw length-drop (omega arith))) in
+    rw d (record {
+      flags_len = rw length-set p.flags_len;
+      flagged = flagged_cons flags (drop k peers) (get_or peers i 0) p.flags_len p.flagged;
+      told = rw (r, b, p.told);
+    })
 
 -- ---- the peers as they are read
 
@@ -110,10 +96,11 @@ module _ (area : List ℕ) (n : ℕ) (e : n ≡ stalled_count area) where
       go (suc zero) l q = rw (sym q)
       go (suc (suc m)) l q = absurd (lt_irrefl 0 (omega arith))
 
-  pub stalled_read : (stalled : Stalled) → n ≤ 256 → region_at ≤ length area
+  pub stalled_read : (stalled : Stalled) → length stalled.peers ≡ 256 → n ≤ 256 → region_at ≤ length area
       → stalled_peers stalled ≡ map from_be (entries 8 n (take 2048 (drop 512 area))) → stalled.count ≡ n
-      → none_twice (elements n 0 stalled.peers) ≡ none_twice (stalled_of area)
+      → none_twice (take n stalled.peers) ≡ none_twice (stalled_of area)
   unfolding stalled_peers stalled_of
-  stalled_read stalled few l p k =
-      let q : elements n 0 stalled.peers ≡ map from_be (entries 8 n (take 2048 (drop 512 area))) = rw k at p in
+  stalled_read stalled room few l p k =
+      let q : take n stalled.peers ≡ map from_be (entries 8 n (take 2048 (drop 512 area))) =
+      sym (elements_take n stalled.peers (omega arith)) ∙ rw k at p in
       ap none_twice (q ∙ rw (entries_take 8 n 2048 (drop 512 area) (omega arith) (rw (length-drop 512 area) (omega arith)), e))

@@ -1,20 +1,20 @@
 -- The test of an image in parts: records entry by entry, and the parts together.
-use Prim.Native.Nat.{ℕ, suc, ◌+◌, ◌-◌, ◌*◌, ◌≤◌, ◌<◌}
+use Prim.Native.Nat.{ℕ, zero, suc, ◌+◌, ◌-◌, ◌*◌, ◌≤◌, ◌<◌}
 use mathlib.Core.Path.{◌≡◌, refl, sym, ap, ◌∙◌}
 use mathlib.Core.Bool.{Bool, true, false, ◌&&◌, ◌||◌}
 use mathlib.Core.List.{List, [], ◌∷◌, map}
-use native.Mathlib.Numerals.{add-one}
 use native.Mathlib.Omega.{arith}
 use lib.Dec.{eqb, leb, ltb}
-use lib.ListN.{length, take, drop, get_or, drop_of_length-le}
-use lib.Seq.{drop-cons}
+use lib.ListN.{length, take, drop, get_or}
+use lib.Seq.{drop-drop}
+use Rattle.std.specs.List.{list_all, range_with_len}
 use borrow.Author.Tests.{le-leb, lt-leb, eq-eqb, ne_eqb}
 use Rattle.fields.specs.Zero.{all_zero}
 use Rattle.fields.specs.Number.{from_be}
 use Rattle.fields.specs.Order.{same}
 use Rattle.fields.specs.Entries.{entries, entry, rising}
 use Rattle.fields.proofs.NumberLaws.{from_be_one, from_be_split}
-use Rattle.fields.proofs.EntriesLaws.{length_entries, entries_at, length_entry, entry_field}
+use Rattle.fields.proofs.EntriesLaws.{length_entry, entry_field}
 use Rattle.model.specs.Settings.{Settings, most_requests}
 use Rattle.model.specs.State.{has_sync_peer}
 use Rattle.model.specs.Image.{field, mode_of, mode_byte, request_of, request_fits, all_fit, types_narrow, none_twice, settings_of, last_clock_of, pending_of, stalled_of, pending_count, stalled_count, evicted_count, marks_fit, counts_fit, clocks_fit, unused_zero, well_formed}
@@ -49,31 +49,18 @@ and_swap true true x y = refl
 and_swap true false true y = refl
 and_swap true false false y = refl
 
-module _ (settings : Settings) (clock count i : ℕ) (region : List ℕ) where
-  fits_turn : i < count
-      → records_fit settings clock (drop i (entries record_size count region))
-      ≡ record_fits settings clock (entry record_size i region) && records_fit settings clock (drop (i + 1) (entries record_size count region))
-  fits_turn h =
-      let es : List (List ℕ) = entries record_size count region in
-      let e : List ℕ = entry record_size i region in
-      let l : i < length es = rw (length_entries record_size count region) h in
-      let d : drop i es ≡ e ∷ drop (suc i) es = drop-cons es i [] l ∙ rw (entries_at record_size count i region h) in
-      let rest : List (List ℕ) = drop (suc i) es in
-      rw (add-one, d) (and_swap (request_fits settings clock (request_of e)) (eqb (get_or e 40 0) 0) (all_fit settings clock (map request_of rest))
-      (types_narrow rest))
-
-  pub fits_next : {fits : Bool} → fits ≡ record_fits settings clock (entry record_size i region) → fits ≡ true → i < count
-      → records_fit settings clock (drop (i + 1) (entries record_size count region)) ≡ records_fit settings clock (drop i (entries record_size count region))
-  fits_next e f h = sym (fits_turn h ∙ rw (sym e, f))
-
-  pub fits_not : {fits : Bool} → fits ≡ record_fits settings clock (entry record_size i region) → fits ≡ false → i < count
-      → records_fit settings clock (drop i (entries record_size count region)) ≡ false
-  fits_not e f h = fits_turn h ∙ rw (sym e, f)
-
-  pub fits_end : count ≤ i → records_fit settings clock (drop i (entries record_size count region)) ≡ true
-  fits_end h =
-      let l : length (entries record_size count region) ≤ i = rw (length_entries record_size count region) h in
-      rw (drop_of_length-le (entries record_size count region) {i = i} l)
+module _ (settings : Settings) (clock : ℕ) (region : List ℕ) where
+  -- the records from i on, one after another
+  pub fits_all : (n i : ℕ) → list_all (λ (k : ℕ). record_fits settings clock (entry record_size k region)) (range_with_len i n)
+      ≡ records_fit settings clock (entries record_size n (drop (i * record_size) region))
+  unfolding entry
+  fits_all zero i = refl
+  fits_all (suc n) i =
+      let e : List ℕ = take record_size (drop (i * record_size) region) in
+      let rest : List (List ℕ) = entries record_size n (drop record_size (drop (i * record_size) region)) in
+      let next : i * record_size + record_size ≡ (i + 1) * record_size = omega arith in
+      let d : drop record_size (drop (i * record_size) region) ≡ drop ((i + 1) * record_size) region = drop-drop record_size (i * record_size) region ∙ rw next in
+      rw (fits_all n (i + 1), ← d) (sym (and_swap (request_fits settings clock (request_of e)) (eqb (get_or e 40 0) 0) (all_fit settings clock (map request_of rest)) (types_narrow rest)))
 
 -- a record's numbers read where they stand
 module _ (settings : Settings) (clock i : ℕ) (region : List ℕ) (h : i * record_size + record_size ≤ length region) where
@@ -164,6 +151,11 @@ together true true true true true true true true true true false places false be
 together true true true true true true true true true true true false false between = refl
 together true true true true true true true true true true true true false between = refl
 
+and_first : (a b c d : Bool) → a && (b && (c && d)) ≡ ((a && b) && c) && d
+and_first false b c d = refl
+and_first true false c d = refl
+and_first true true c d = refl
+
 module _ (area : List ℕ) where
   -- the parts behind the header, in the order of the tests
   abbrev pub ids_rise : Bool
@@ -192,14 +184,11 @@ module _ (area : List ℕ) where
   pub head_refused : head_fits area ≡ false → false ≡ well_formed area
   head_refused h = sym (formed_parts ∙ rw h)
 
-  pub ids_refused : head_fits area ≡ true → ids_rise ≡ false → false ≡ well_formed area
-  ids_refused h i = sym (formed_parts ∙ rw (h, i))
-
-  pub stalled_refused : head_fits area ≡ true → ids_rise ≡ true → none_twice (stalled_of area) ≡ false → false ≡ well_formed area
-  stalled_refused h i o = sym (formed_parts ∙ rw (h, i, o))
-
-  pub pending_refused : head_fits area ≡ true → ids_rise ≡ true → none_twice (stalled_of area) ≡ true → pending_fits ≡ false → false ≡ well_formed area
-  pending_refused h i o p = sym (formed_parts ∙ rw (h, i, o, p))
-
   pub room_decides : head_fits area ≡ true → ids_rise ≡ true → none_twice (stalled_of area) ≡ true → pending_fits ≡ true → room_zero ≡ well_formed area
   room_decides h i o p = sym (formed_parts ∙ rw (h, i, o, p))
+
+  rest_decides : head_fits area ≡ true → ((ids_rise && none_twice (stalled_of area)) && pending_fits) && room_zero ≡ well_formed area
+  rest_decides h = sym (formed_parts ∙ rw h (and_first ids_rise (none_twice (stalled_of area)) pending_fits room_zero))
+
+  pub rest_refuses : head_fits area ≡ true → (ids_rise && none_twice (stalled_of area)) && pending_fits ≡ false → well_formed area ≡ false
+  rest_refuses h r = sym (rest_decides h) ∙ rw r

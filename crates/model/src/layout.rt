@@ -8,6 +8,15 @@ pub const PAIR_SIZE: usize = 33;
 
 pub const RECORD_SIZE: usize = 54;
 
+// Behind a record's id: its peer, type, stamp and checks.
+pub const PEER_AT: usize = 32;
+
+pub const TYPE_AT: usize = 40;
+
+pub const STAMP_AT: usize = 42;
+
+pub const CHECKS_AT: usize = 50;
+
 pub const PLACE_SIZE: usize = 34;
 
 pub const ROW_SIZE: usize = 103;

@@ -1,19 +1,19 @@
--- The peers that a call lists: the first, those behind it, the one at an index, and the searches for one.
-use Prim.Native.Nat.{ℕ, suc, ◌+◌, ◌*◌, ◌/◌, ◌≤◌, ◌<◌}
-use mathlib.Core.Path.{◌≡◌, refl, sym, ap, ◌∙◌}
-use lib.Dec.{eqb}
-use mathlib.Core.Bool.{Bool, true, false, not, cond, ◌&&◌, false≢true}
-use mathlib.Core.List.{List, [], ◌∷◌, map}
-use mathlib.Core.Option.{none, some}
-use native.Mathlib.Omega.{arith}
-use lib.ListN.{length, take, drop, length-drop}
-use lib.Seq.{drop-drop}
-use borrow.Author.Tests.{eq-eqb, ne_eqb}
+-- The peers that a call lists: the first, those behind it, and the searches for one that passes a test.
+use Rattle.std.proofs.Common.{ℕ, suc, ◌+◌, ◌*◌, ◌/◌, ◌≤◌, ◌<◌, ◌≡◌, refl, sym, ap, ◌∙◌, Bool, true, false, not, cond, ◌&&◌, eqb, List, [], ◌∷◌, map, length, take}
+use Rattle.std.proofs.Common.{drop, length-drop, arith, eq-eqb, ne_eqb}
+use Rattle.std.proofs.Common as program
+use Rattle.std.specs.Option as option
+use Rattle.std.specs.Option.{unwrap_or}
+use Rattle.std.proofs.Math.Option.{Option, none, some}
+use Rattle.std.proofs.Math.Seq.{drop-drop}
 use Rattle.fields.specs.Number.{from_be}
 use Rattle.fields.specs.Entries.{entries}
-use Rattle.model.specs.Peers.{is_listed, is_some, unstalled, first_unstalled}
+use Rattle.fields.specs.Filter.{kept, cons_if}
+use Rattle.fields.proofs.MarkLaws.{kept_kept}
+use Rattle.model.specs.Peers.{first_of, is_listed, is_some, unstalled, first_unstalled}
 use Rattle.model.specs.Check.{considered, first_other, retry_target}
 use Rattle.model.specs.Lists.{peers_in}
+use Rattle.peers.specs.Peers.{listed_peer}
 
 pub peers_none : (bytes : List ℕ) → length bytes < 8 → peers_in bytes ≡ []
 unfolding peers_in
@@ -37,90 +37,55 @@ peers_next bytes i h =
 pub peers_end : (bytes : List ℕ) (i : ℕ) → length bytes / 8 ≤ i → peers_in (drop (i * 8) bytes) ≡ []
 peers_end bytes i h = peers_none (drop (i * 8) bytes) (rw length-drop (omega arith))
 
--- ---- searches, peer by peer
+-- ---- the search, peer by peer
 
-module _ (bytes : List ℕ) (i : ℕ) {peer : ℕ} (h : i < length bytes / 8) (e : peer ≡ from_be (take 8 (drop (i * 8) bytes))) where
-  pub here : peers_in (drop (i * 8) bytes) ≡ peer ∷ peers_in (drop ((i + 1) * 8) bytes)
-  here = peers_next bytes i h ∙ rw e
+module _ (bytes : List ℕ) (i : ℕ) (test : ℕ → Bool) where
+  module _ {peer : ℕ} (h : i < length bytes / 8) (e : peer ≡ from_be (take 8 (drop (i * 8) bytes))) where
+    pub passes_here : true ≡ test peer → first_of (kept test (peers_in (drop (i * 8) bytes))) ≡ some peer
+    passes_here t = rw (peers_next bytes i h, ← e, ← t)
 
-  pub target_here : (failed : ℕ) → (peer ≡ failed → ⊥) → first_other (peers_in (drop (i * 8) bytes)) failed ≡ peer
+    pub passes_later : false ≡ test peer → first_of (kept test (peers_in (drop (i * 8) bytes))) ≡ first_of (kept test (peers_in (drop ((i + 1) * 8) bytes)))
+    passes_later t = rw (peers_next bytes i h, ← e, ← t)
+
+  pub passes_end : length bytes / 8 ≤ i → first_of (kept test (peers_in (drop (i * 8) bytes))) ≡ none
+  passes_end h = rw (peers_end bytes i h)
+
+-- ---- where a retry goes
+
+-- whether one is found
+pub is_found : (found : program.Option ℕ) {model : Option ℕ} {t : Bool} → option.is_some found ≡ t → listed_peer found ≡ model → is_some model ≡ t
+is_found program.None t e = rw (← e) t
+is_found (program.Some x) t e = rw (← e) t
+
+module _ (failed : ℕ) where
+  -- by whether the first of them failed
+  turn : (other : program.Option ℕ) (same : Bool) (peer : ℕ) (rest : List ℕ) {later : ℕ} → (listed_peer other ≡ first_of rest → unwrap_or other failed ≡ later)
+      → listed_peer other ≡ first_of (cons_if (not same) peer rest) → unwrap_or other failed ≡ cond same later peer
+  turn other true peer rest f e = f e
+  turn program.None false peer rest f e = cc
+  turn (program.Some x) false peer rest f e = cc
+
+  -- the first other than the failed one, else the failed one
+  pub other_or_failed : (other : program.Option ℕ) (peers : List ℕ) → listed_peer other ≡ first_of (kept (λ (p : ℕ). not (eqb p failed)) peers)
+      → unwrap_or other failed ≡ first_other peers failed
   unfolding first_other
-  target_here failed n = rw (here, ne_eqb peer failed n)
+  other_or_failed program.None [] e = refl
+  other_or_failed (program.Some x) [] e = cc
+  other_or_failed other (peer ∷ peers) e = turn other (eqb peer failed) peer (kept (λ (p : ℕ). not (eqb p failed)) peers) (other_or_failed other peers) e
 
-  pub target_later : (failed : ℕ) → peer ≡ failed → first_other (peers_in (drop (i * 8) bytes)) failed ≡ first_other (peers_in (drop ((i + 1) * 8) bytes)) failed
-  unfolding first_other
-  target_later failed s = rw (here, eq-eqb peer failed s)
+  module _ (stalled peers : List ℕ) (other : program.Option ℕ) where
+    -- all have stalled: of all listed
+    pub target_all : is_some (first_unstalled stalled peers) ≡ false → listed_peer other ≡ first_of (kept (λ (p : ℕ). not (eqb p failed)) peers)
+        → unwrap_or other failed ≡ retry_target stalled peers failed
+    unfolding retry_target considered
+    target_all a e = other_or_failed other peers e ∙ rw a
 
-  pub unstalled_here : (stalled : List ℕ) → is_listed peer stalled ≡ false → first_unstalled stalled (peers_in (drop (i * 8) bytes)) ≡ some peer
-  unfolding first_unstalled
-  unstalled_here stalled n = rw (here, n)
-
-  pub unstalled_later : (stalled : List ℕ) → is_listed peer stalled ≡ true
-      → first_unstalled stalled (peers_in (drop (i * 8) bytes)) ≡ first_unstalled stalled (peers_in (drop ((i + 1) * 8) bytes))
-  unfolding first_unstalled
-  unstalled_later stalled s = rw (here, s)
-
-  -- ---- of those that have not stalled
-
-  abbrev free_other : ℕ → List ℕ → ℕ
-  free_other failed stalled = first_other (unstalled stalled (peers_in (drop (i * 8) bytes))) failed
-
-  pub free_here : (stalled : List ℕ) (failed : ℕ) → not (is_listed peer stalled) && not (eqb peer failed) ≡ true → free_other failed stalled ≡ peer
-  unfolding first_other
-  free_here stalled failed = go (is_listed peer stalled) refl (eqb peer failed) refl
-    where
-      go : (s : Bool) → is_listed peer stalled ≡ s → (f : Bool) → eqb peer failed ≡ f → not s && not f ≡ true → free_other failed stalled ≡ peer
-      go true e f g h = absurd (false≢true h)
-      go false e true g h = absurd (false≢true h)
-      go false e false g h = rw (here, e, g)
-
-  pub free_later : (stalled : List ℕ) (failed : ℕ) → not (is_listed peer stalled) && not (eqb peer failed) ≡ false
-      → free_other failed stalled ≡ first_other (unstalled stalled (peers_in (drop ((i + 1) * 8) bytes))) failed
-  unfolding first_other
-  free_later stalled failed = go (is_listed peer stalled) refl (eqb peer failed) refl
-    where
-      go : (s : Bool) → is_listed peer stalled ≡ s → (f : Bool) → eqb peer failed ≡ f → not s && not f ≡ false
-          → free_other failed stalled ≡ first_other (unstalled stalled (peers_in (drop ((i + 1) * 8) bytes))) failed
-      go true e f g h = rw (here, e)
-      go false e true g h = rw (here, e, g)
-      go false e false g h = absurd (false≢true (sym h))
-
-module _ (bytes : List ℕ) (i : ℕ) (h : length bytes / 8 ≤ i) where
-  pub target_end : (failed : ℕ) → first_other (peers_in (drop (i * 8) bytes)) failed ≡ failed
-  unfolding first_other
-  target_end failed = rw (peers_end bytes i h)
-
-  pub free_end : (stalled : List ℕ) (failed : ℕ) → first_other (unstalled stalled (peers_in (drop (i * 8) bytes))) failed ≡ failed
-  unfolding first_other
-  free_end stalled failed = rw (peers_end bytes i h)
-
-  pub unstalled_end : (stalled : List ℕ) → first_unstalled stalled (peers_in (drop (i * 8) bytes)) ≡ none
-  unfolding first_unstalled
-  unstalled_end stalled = rw (peers_end bytes i h)
-
--- ---- the peers considered
-
-module _ (peer failed : ℕ) (stalled : List ℕ) {held : Bool} (e : held ≡ is_listed peer stalled) where
-  pub held_not_free : held ≡ true → false ≡ not (is_listed peer stalled) && not (eqb peer failed)
-  held_not_free h = rw (sym e ∙ h)
-
-  pub free_if_other : held ≡ false → not (eqb peer failed) ≡ not (is_listed peer stalled) && not (eqb peer failed)
-  free_if_other h = rw (sym e ∙ h)
-
-pub target_all : (stalled peers : List ℕ) (failed : ℕ) {all : Bool} → all ≡ not (is_some (first_unstalled stalled peers)) → all ≡ true
-    → first_other peers failed ≡ retry_target stalled peers failed
-unfolding retry_target considered
-target_all stalled peers failed a t = go (is_some (first_unstalled stalled peers)) (sym a ∙ t)
-  where
-    go : (some : Bool) → not some ≡ true → first_other peers failed ≡ first_other (cond some (unstalled stalled peers) peers) failed
-    go true e = absurd (false≢true e)
-    go false e = refl
-
-pub target_some : (stalled peers : List ℕ) (failed : ℕ) {all : Bool} → all ≡ not (is_some (first_unstalled stalled peers)) → all ≡ false
-    → first_other (unstalled stalled peers) failed ≡ retry_target stalled peers failed
-unfolding retry_target considered
-target_some stalled peers failed a t = go (is_some (first_unstalled stalled peers)) (sym a ∙ t)
-  where
-    go : (some : Bool) → not some ≡ false → first_other (unstalled stalled peers) failed ≡ first_other (cond some (unstalled stalled peers) peers) failed
-    go true e = refl
-    go false e = absurd (false≢true (sym e))
+    -- else of those that have not
+    pub target_some : is_some (first_unstalled stalled peers) ≡ true
+        → listed_peer other ≡ first_of (kept (λ (p : ℕ). not (is_listed p stalled) && not (eqb p failed)) peers)
+        → unwrap_or other failed ≡ retry_target stalled peers failed
+    unfolding retry_target considered
+    target_some a e =
+        other_or_failed other (unstalled stalled peers)
+        (e ∙ ap first_of (sym (kept_kept (λ (p : ℕ). not (eqb p failed)) (λ (p : ℕ). not (is_listed p stalled)) peers)))
+        ∙ rw a

@@ -1,6 +1,6 @@
 -- What the stalled set stands for in the model.
 use Rattle.std.specs.Prelude.{ℕ, zero, suc, ◌+◌, List, [], ◌∷◌, get_or}
-use Rattle.peers.specs.declared.stalled.Stalled.{Stalled}
+use Rattle.peers.specs.declared.stalled_set.Stalled.{Stalled}
 
 -- the elements at i, i + 1, .., so many of them
 abbrev pub elements : ℕ → ℕ → List ℕ → List ℕ

@@ -5,10 +5,10 @@ ghost use Rattle.model.specs.Lists.{peers_in};
 ghost use Rattle.peers.specs.Stalled.{stalled_peers};
 ghost use Rattle.peers.specs.Aims.{aimed_at};
 
-use crate::Listed;
-use crate::stalled::Stalled;
+use crate::stalled_set::Stalled;
 
-// To their own peer, or to the first peer considered and, for what failed there, to another.
+// To their own peer, or to the first peer considered and, for what failed there, to another. No `Option`: with `Same` no target
+// is missing, each retry has one.
 #[derive(Clone, Copy)]
 pub enum Aim {
     Same,
@@ -16,12 +16,12 @@ pub enum Aim {
 }
 
 // Two targets serve whatever failed.
+#[tactic(auto, using(crate::proofs::AimLaws::aim_nobody, crate::proofs::AimLaws::aim_other))]
 pub fn retry_aim(stalled: Stalled, peers: &[u8]) -> Aim
-    requires { stalled.count ≤ 256 }
     ensures { (failed : ℕ) → aimed_at result failed ≡ retry_target (stalled_peers stalled) (peers_in peers.now) failed }
 {
     match crate::select_peer(stalled, peers) {
-        Listed::Peer(first) => Aim::Other(first, crate::retry_target(stalled, peers, first)),
-        Listed::Nobody => Aim::Same,
+        Some(first) => Aim::Other(first, crate::retry_target(stalled, peers, first)),
+        None => Aim::Same,
     }
 }

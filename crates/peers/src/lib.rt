@@ -7,123 +7,84 @@
 
 pub mod aim;
 pub mod stalled;
+pub mod stalled_set;
 
-ghost use Rattle.std.specs.Prelude.{◌≡◌, not, ◌&&◌, eqb, ◌≤◌};
+ghost use Rattle.std.specs.Prelude.{◌≡◌, ℕ, Bool, not};
+ghost use Rattle.fields.specs.Filter.{kept};
 ghost use Rattle.model.specs.Peers as model;
-ghost use Rattle.model.specs.Check.{first_other, retry_target};
+ghost use Rattle.model.specs.Check.{retry_target};
 ghost use Rattle.model.specs.Lists.{peers_in};
 ghost use Rattle.peers.specs.Stalled.{stalled_peers};
-ghost use Rattle.peers.specs.Peers.{listed_peer};
+ghost use Rattle.peers.specs.Peers.{listed_peer, Tells};
 
-use crate::stalled::Stalled;
-
-#[derive(Clone, Copy)]
-pub enum Listed {
-    Peer(u64),
-    Nobody,
-}
+use crate::stalled_set::Stalled;
 
 // The first listed peer, if one is listed.
-pub fn first_listed(peers: &[u8]) -> Listed
+#[tactic(auto, using(crate::proofs::PeerLaws::peers_none, crate::proofs::PeerLaws::peers_first))]
+pub fn first_listed(peers: &[u8]) -> Option<u64>
     ensures { listed_peer result ≡ model.first_of (peers_in peers.now) }
 {
     if peers.len() < 8 {
-        return Listed::Nobody;
+        return None;
     }
-    Listed::Peer(fields::read_u64(peers, 0))
+    Some(fields::read_u64(peers, 0))
 }
 
-// The first listed peer other than the failed one, else the failed one.
-fn first_other(peers: &[u8], failed: u64) -> u64
-    ensures { result ≡ first_other (peers_in peers.now) failed }
+// The first listed peer that passes a test, if there is one.
+#[tactic(auto, using(crate::proofs::PeerLaws::passes_here, crate::proofs::PeerLaws::passes_later, crate::proofs::PeerLaws::passes_end))]
+fn first_passing<F: Fn(u64) -> bool>(peers: &[u8], passes: F) -> Option<u64>
+    requires { F.IsAlwaysCallable passes }
+    ensures { (test : ℕ → Bool) → Tells (F.post passes) test → listed_peer result ≡ model.first_of (kept test (peers_in peers.now)) }
 {
-    let count = peers.len() / 8;
-    let mut i = 0;
-    while i < count {
+    for i in 0..peers.len() / 8 {
         let peer = fields::read_u64(peers, i * 8);
-        if peer != failed {
-            return peer;
+        if passes(peer) {
+            return Some(peer);
         }
-        i += 1;
     }
-    failed
+    None
 }
 
-// The first listed peer that has not stalled, if there is one.
-fn first_unstalled(stalled: Stalled, peers: &[u8]) -> Listed
-    requires { stalled.count ≤ 256 }
-    ensures { listed_peer result ≡ model.first_unstalled (stalled_peers stalled) (peers_in peers.now) }
+// Whether a peer is among these. With `contains` of a slice, which is more code, the searches below are no longer inlined.
+pub(crate) fn is_among(peers: &[u64], peer: u64) -> bool
+    ensures { result ≡ model.is_listed peer peers.now }
 {
-    let count = peers.len() / 8;
-    let mut i = 0;
-    while i < count {
-        let peer = fields::read_u64(peers, i * 8);
-        if !stalled.contains(peer) {
-            return Listed::Peer(peer);
-        }
-        i += 1;
-    }
-    Listed::Nobody
+    peers.iter().any(|other| *other == peer)
+}
+
+// The first listed peer that is none of the stalled ones, if there is one.
+#[tactic(auto, unfolding(model::specs::Peers::first_unstalled))]
+fn first_unstalled(stalled: &[u64], peers: &[u8]) -> Option<u64>
+    ensures { listed_peer result ≡ model.first_unstalled stalled.now (peers_in peers.now) }
+{
+    first_passing(peers, |peer| !is_among(stalled, peer))
 }
 
 // The peer to sync from (rule 1): the first listed that has not stalled; if all have, the first listed.
-pub fn select_peer(stalled: Stalled, peers: &[u8]) -> Listed
-    requires { stalled.count ≤ 256 }
+#[tactic(auto, unfolding(model::specs::Peers::select_peer))]
+pub fn select_peer(stalled: Stalled, peers: &[u8]) -> Option<u64>
     ensures { listed_peer result ≡ model.select_peer (stalled_peers stalled) (peers_in peers.now) }
 {
-    let Listed::Peer(peer) = first_unstalled(stalled, peers) else {
-        return first_listed(peers);
-    };
-    Listed::Peer(peer)
+    first_unstalled(stalled.held(), peers).or_else(|| first_listed(peers))
 }
 
 // Whether selecting empties the stalled set: no listed peer is outside it, also where none is listed.
 pub fn all_stalled(stalled: Stalled, peers: &[u8]) -> bool
-    requires { stalled.count ≤ 256 }
     ensures { result ≡ not (model.is_some (model.first_unstalled (stalled_peers stalled) (peers_in peers.now))) }
 {
-    let Listed::Peer(_) = first_unstalled(stalled, peers) else {
-        return true;
-    };
-    false
-}
-
-// Whether a peer has not stalled and is not the failed one.
-fn is_free_other(stalled: Stalled, peer: u64, failed: u64) -> bool
-    requires { stalled.count ≤ 256 }
-    ensures { result ≡ not (model.is_listed peer (stalled_peers stalled)) && not (eqb peer failed) }
-{
-    if stalled.contains(peer) {
-        return false;
-    }
-    peer != failed
-}
-
-// The first such listed peer, else the failed one.
-fn first_free_other(stalled: Stalled, peers: &[u8], failed: u64) -> u64
-    requires { stalled.count ≤ 256 }
-    ensures { result ≡ first_other (model.unstalled (stalled_peers stalled) (peers_in peers.now)) failed }
-{
-    let count = peers.len() / 8;
-    let mut i = 0;
-    while i < count {
-        let peer = fields::read_u64(peers, i * 8);
-        if is_free_other(stalled, peer, failed) {
-            return peer;
-        }
-        i += 1;
-    }
-    failed
+    first_unstalled(stalled.held(), peers).is_none()
 }
 
 // Where a timed-out request goes next (F-2): of the listed peers that have not stalled, or of all if all have, the first other
 // than the failed one, else the failed one.
 pub fn retry_target(stalled: Stalled, peers: &[u8], failed: u64) -> u64
-    requires { stalled.count ≤ 256 }
     ensures { result ≡ retry_target (stalled_peers stalled) (peers_in peers.now) failed }
 {
-    if all_stalled(stalled, peers) {
-        return first_other(peers, failed);
-    }
-    first_free_other(stalled, peers, failed)
+    let held = stalled.held();
+    let other = if first_unstalled(held, peers).is_none() {
+        first_passing(peers, |peer| peer != failed)
+    } else {
+        first_passing(peers, |peer| !is_among(held, peer) && peer != failed)
+    };
+    other.unwrap_or(failed)
 }

@@ -2,7 +2,7 @@
 use native.Mathlib.Omega.{arith}
 use lib.ListN.{length-set}
 use Rattle.model.specs.Image.{bit}
-use Rattle.image.proofs.WrittenLaws.{eight_set}
+use Rattle.image.proofs.WrittenLaws.{bit_byte, eight_set}
 use Rattle.image.proofs.writing.write_start.Goals as goal
 
 pub bounds-area-1 : goal.bounds-area-1
@@ -32,4 +32,4 @@ shape_of-area c = simp length-set
 pub returns : goal.returns
 returns c =
     let a = c.args in
-    rw (c.mark-2.ensures, c.mark.ensures) (eight_set 69 68 84 0 1 a.mode (bit a.used) (bit a.sent) a.area.now (omega arith))
+    rw (c.from-2.ensures, c.from.ensures, bit_byte a.sent, bit_byte a.used) (eight_set 69 68 84 0 1 a.mode (bit a.used) (bit a.sent) a.area.now (omega arith))

@@ -1,56 +1,31 @@
--- One law for each way out; behind a header that fits the tables lie within the area.
-use mathlib.Core.Path.{sym, ◌∙◌}
-use native.Mathlib.Omega.{arith}
+-- Behind a header that fits the tables lie within the area; one law for each way out.
+use Rattle.std.proofs.Common.{sym, ◌∙◌}
 use Rattle.image_test.proofs.HeadLaws.{head_few}
-use Rattle.image_test.proofs.TestLaws.{head_refused, ids_refused, stalled_refused, pending_refused, room_decides}
+use Rattle.image_test.proofs.TestLaws.{head_refused, room_decides}
 use Rattle.image_test.proofs.formed.is_well_formed.Goals as goal
+use Rattle.image_test.proofs.formed.is_well_formed.Goals.{then-ids_rise, else-ids_rise, then-stalled_once, else-stalled_once}
 
 pub returns-then-not-head_fits : goal.returns-then-not-head_fits
-returns-then-not-head_fits c =
-    head_refused c.args.area.now (sym c.head_fits.ensures ∙ c.if-not-head_fits.true)
+returns-then-not-head_fits c = head_refused c.args.area.now (sym c.head_fits.ensures ∙ c.if-not-head_fits.true)
 
-pub ids_rise-requires : goal.ids_rise-requires
-ids_rise-requires c =
+pub invariant_of-counted : goal.invariant_of-counted
+invariant_of-counted c =
     let few = head_few c.args.area.now (sym c.head_fits.ensures ∙ c.if-not-head_fits.false) in
-    record { area_len = c.requires; area_bound = omega (arith, few.1) }
+    record { whole = c.requires; few_stalled = few.0; tables_fit = few.1 }
 
-pub returns-then-not-ids_rise : goal.returns-then-not-ids_rise
-returns-then-not-ids_rise c =
+-- where all but the room fit, the room decides
+pub returns-then-pending_fits : goal.returns-then-pending_fits
+returns-then-pending_fits c =
     let head = sym c.head_fits.ensures ∙ c.if-not-head_fits.false in
-    ids_refused c.args.area.now head (sym c.ids_rise.ensures ∙ c.if-not-ids_rise.true)
-
-pub stalled_once-requires : goal.stalled_once-requires
-stalled_once-requires c =
-    let few = head_few c.args.area.now (sym c.head_fits.ensures ∙ c.if-not-head_fits.false) in
-    record { area_len = c.requires; area_bound = few.0 }
-
-pub returns-then-not-stalled_once : goal.returns-then-not-stalled_once
-returns-then-not-stalled_once c =
-    let head = sym c.head_fits.ensures ∙ c.if-not-head_fits.false in
-    let rise = sym c.ids_rise.ensures ∙ c.if-not-ids_rise.false in
-    stalled_refused c.args.area.now head rise (sym c.stalled_once.ensures ∙ c.if-not-stalled_once.true)
-
-pub pending_fits-requires : goal.pending_fits-requires
-pending_fits-requires c =
-    let few = head_few c.args.area.now (sym c.head_fits.ensures ∙ c.if-not-head_fits.false) in
-    record { area_len = c.requires; area_bound = omega (arith, few.1) }
-
-pub returns-then-not-pending_fits : goal.returns-then-not-pending_fits
-returns-then-not-pending_fits c =
-    let head = sym c.head_fits.ensures ∙ c.if-not-head_fits.false in
-    let rise = sym c.ids_rise.ensures ∙ c.if-not-ids_rise.false in
-    let once = sym c.stalled_once.ensures ∙ c.if-not-stalled_once.false in
-    pending_refused c.args.area.now head rise once (sym c.pending_fits.ensures ∙ c.if-not-pending_fits.true)
-
-pub room_is_zero-requires : goal.room_is_zero-requires
-room_is_zero-requires c =
-    let few = head_few c.args.area.now (sym c.head_fits.ensures ∙ c.if-not-head_fits.false) in
-    record { area_len = c.requires; area_bound = few.0; area_bound_2 = few.1 }
-
-pub returns : goal.returns
-returns c =
-    let head = sym c.head_fits.ensures ∙ c.if-not-head_fits.false in
-    let rise = sym c.ids_rise.ensures ∙ c.if-not-ids_rise.false in
-    let once = sym c.stalled_once.ensures ∙ c.if-not-stalled_once.false in
-    let fit = sym c.pending_fits.ensures ∙ c.if-not-pending_fits.false in
-    c.room_is_zero.ensures ∙ room_decides c.args.area.now head rise once fit
+    elim c.if-stalled_once.branch [
+      | then-stalled_once w ↦
+          let pending = sym w.pending_fits.ensures ∙ (sym w.value-is ∙ c.if-pending_fits.true) in
+          elim c.if-ids_rise.branch [
+            | then-ids_rise v ↦
+                let rise = sym c.ids_rise.ensures ∙ v.if-ids_rise.true in
+                let once = sym v.stalled_once.ensures ∙ (sym v.value-is ∙ w.if-stalled_once.true) in
+                c.room_is_zero.ensures ∙ room_decides c.args.area.now head rise once pending
+            | else-ids_rise v ↦ cc
+          ]
+      | else-stalled_once w ↦ cc
+    ]

@@ -1,31 +1,18 @@
-use mathlib.Core.Path.{refl, sym, ◌∙◌}
-use native.Mathlib.Omega.{arith}
+-- A record fits where the model's does, and the answer is that of all: `fits_all`.
+use Rattle.std.proofs.Common.{ℕ, ◌≡◌, ◌-◌, refl, ◌∙◌, arith, rules, tests}
+use Rattle.std.proofs.lemmas.Iterator.{YieldsList-from_range}
+use Rattle.std.proofs.lemmas.Iterator.Search.{all_from_yields_List}
+use Rattle.fields.specs.Entries.{entry}
+use Rattle.model.specs.Layout.{record_size}
 use Rattle.settings.specs.Values.{settings_of}
-use Rattle.image_test.proofs.TestLaws.{fits_next, fits_not, fits_end}
+use Rattle.image_test.proofs.TestLaws.{record_fits, fits_all}
 use Rattle.image_test.proofs.formed.records_fit.Goals as goal
-
-pub loop-i-init : goal.loop-i-init
-loop-i-init c = (omega arith, refl)
-
-pub returns-then-not-record_fits : goal.returns-then-not-record_fits
-returns-then-not-record_fits c =
-    let s = c.args in
-    let fits = c.record_fits in
-    sym (fits_not (settings_of s.settings) s.clock s.count c.loop-i.i s.region.now
-    fits.ensures c.if-not-record_fits.true c.loop-i-test.true)
-    ∙ c.loop-i.invariant.1
-
-pub loop-i-preserved : goal.loop-i-preserved
-loop-i-preserved c =
-    let s = c.args in
-    let fits = c.record_fits in
-    let rest =
-    fits_next (settings_of s.settings) s.clock s.count c.loop-i.i s.region.now
-    fits.ensures c.if-not-record_fits.false c.loop-i-test.true in
-    (omega arith, rest ∙ c.loop-i.invariant.1)
 
 pub returns : goal.returns
 returns c =
-    let l = c.loop-i in
-    let s = c.args in
-    sym (fits_end (settings_of s.settings) s.clock s.count l.i s.region.now c.loop-i-test.false) ∙ l.invariant.1
+    let a = c.args in
+    let settings = settings_of a.settings in
+    let n : a.count - 0 ≡ a.count = omega arith in
+    all_from_yields_List (λ (i : ℕ). record_fits settings a.clock (entry record_size i a.region.now)) _ _ _ c.all.ensures.ran
+    (YieldsList-from_range 0 a.count a.count refl n) (λ x b q k. search (rules, tests))
+    ∙ fits_all settings a.clock a.region.now a.count 0

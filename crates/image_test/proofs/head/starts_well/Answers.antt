@@ -1,8 +1,0 @@
--- The mark byte by byte.
-use native.Mathlib.Omega.{arith}
-use Rattle.image_test.proofs.HeadLaws.{same_three}
-use Rattle.image_test.proofs.head.starts_well.Goals as goal
-
-pub returns : goal.returns
-returns c =
-    rw (c.read_u16-version.ensures, same_three c.args.area.now 69 68 84 (omega arith))
