@@ -1,5 +1,5 @@
 -- The check, request by request.
-use Prim.Native.Nat.{ℕ, suc, ◌+◌, ◌-◌, ◌*◌, ◌^◌, ◌≤◌, ◌<◌}
+use Prim.Native.Nat.{ℕ, suc, ◌+◌, ◌-◌, ◌*◌, ◌≤◌, ◌<◌}
 use mathlib.Core.Path.{◌≡◌, refl, sym, ap, ◌∙◌}
 use mathlib.Core.Bool.{Bool, true, cond}
 use mathlib.Core.List.{List, [], ◌∷◌, ◌++◌, map, append-nil}
@@ -22,16 +22,12 @@ use Rattle.model.specs.Image.{request_of, request_bytes}
 use Rattle.model.proofs.RecordLaws.{bytes_of_request, ids_rise_lem}
 use Rattle.commands.specs.Pending.{requests_in, holding}
 use Rattle.check_timeouts.specs.Checked.{pending_after_check, checked_as, retried_places}
-use Rattle.check_timeouts.specs.Turn.{restarted_to, table_after, places_after, counts_after}
+use Rattle.check_timeouts.specs.Turn.{request_at, Countable, restarted_to, table_after, places_after, counts_after}
 use Rattle.check_timeouts.specs.declared.check.Checked.{Checked}
 use Rattle.check_timeouts.proofs.RetryLaws.{checked_to, length_checked, pending_after}
 use Rattle.commands.proofs.RecordedLaws.{entry_bytes}
 use Rattle.check_timeouts.proofs.RecordLaws.{restarted_long}
 use Rattle.model.specs.Layout.{id_size, record_size}
-use Rattle.model.specs.Protocol.{tracked_limit}
-
-abbrev pub none : Checked
-none = record { pending = 0; retried = 0; abandoned = 0; forgotten = 0 }
 
 -- the requests of the table from the i-th on
 abbrev requests_from : ℕ → ℕ → List ℕ → List Request
@@ -59,35 +55,12 @@ pub record Checking (settings : Settings) (clock : ℕ) (target : ℕ → ℕ) (
   pub abandoned_counted : Counted settings clock abandoned s.abandoned (requests_from i count d) (requests_in count d)
   pub forgotten_counted : Counted settings clock forgotten s.forgotten (requests_from i count d) (requests_in count d)
   pub rest : drop (i * record_size) t ≡ drop (i * record_size) d
-  pub stamps : All (λ (r : Request). r.stamp ≤ clock) (requests_from i count d)
-  pub checks : All (λ (r : Request). r.checks + 1 < 2 ^ 32) (requests_from i count d)
+  pub countable : All Countable (requests_from i count d)
 
 none_counted : (settings : Settings) (clock : ℕ) (v : Verdict) (n : ℕ) (whole : List Request) → Counted settings clock v n [] whole
     → n ≡ length (judged settings clock v whole)
 unfolding judged
 none_counted settings clock v n whole e = omega arith
-
-pub starts : (settings : Settings) (clock : ℕ) (target : ℕ → ℕ) (count : ℕ) (d places : List ℕ)
-    → All (λ (r : Request). r.stamp ≤ clock) (requests_in count d) → All (λ (r : Request). r.checks + 1 < 2 ^ 32) (requests_in count d)
-    → Checking settings clock target count d places d places none 0
-starts settings clock target count d places a b =
-    record {
-      i_le = omega arith;
-      pending_le = omega arith;
-      retried_le = omega arith;
-      abandoned_le = omega arith;
-      forgotten_le = omega arith;
-      long = refl;
-      places_long = refl;
-      kept = refl;
-      listed = refl;
-      retried_counted = omega arith;
-      abandoned_counted = omega arith;
-      forgotten_counted = omega arith;
-      rest = refl;
-      stamps = a;
-      checks = b;
-    }
 
 module _ {settings : Settings} {clock : ℕ} {target : ℕ → ℕ} {count : ℕ} {d noted t places : List ℕ} {s : Checked} {i : ℕ}
     (c : Checking settings clock target count d noted t places s i) (h : i < count) (l : count * record_size ≤ length d) where
@@ -103,21 +76,9 @@ module _ {settings : Settings} {clock : ℕ} {target : ℕ → ℕ} {count : ℕ
       let e : get_or (entries record_size count d) i [] ≡ entry record_size i t = entries_at record_size count i d h ∙ ap (take record_size) (sym c.rest) in
       drop-cons (entries record_size count d) i [] (rw length_entries h) ∙ rw (e, add-one)
 
-  stamp_here : (request_of (entry record_size i t)).stamp ≤ clock
-  stamp_here = (rw here at c.stamps).0
-
-  checks_here : (request_of (entry record_size i t)).checks + 1 < 2 ^ 32
-  checks_here = (rw here at c.checks).0
-
-  -- what `turn` asks
-  pub turn_asks : count ≤ tracked_limit → count ≤ length noted
-      → ((i * record_size + record_size ≤ length t) × ((i < length places) × (i < tracked_limit)))
-      × (((s.pending ≤ i) × ((s.retried ≤ i) × ((s.abandoned ≤ i) × (s.forgotten ≤ i))))
-      × (((request_of (entry record_size i t)).stamp ≤ clock) × ((request_of (entry record_size i t)).checks + 1 < 2 ^ 32)))
-  turn_asks few room = (
-    (in_table, (omega (arith, c.places_long), omega arith)),
-    ((c.pending_le, (c.retried_le, (c.abandoned_le, c.forgotten_le))), (stamp_here, checks_here)),
-  )
+  -- what `turn` asks of the request
+  pub judged_here : Countable (request_at t i)
+  judged_here = (rw here at c.countable).0
 
   rest_next : drop ((i + 1) * record_size) t ≡ drop ((i + 1) * record_size) d
   rest_next =
@@ -175,8 +136,7 @@ module _ {settings : Settings} {clock : ℕ} {target : ℕ → ℕ} {count : ℕ
           abandoned_counted = rw (here, e) at c.abandoned_counted;
           forgotten_counted = rw (here, e) at c.forgotten_counted;
           rest = rest_kept x lx;
-          stamps = (rw here at c.stamps).1;
-          checks = (rw here at c.checks).1;
+          countable = (rw here at c.countable).1;
         }
     turned retried e =
         let x : List ℕ = request_bytes (restarted_to clock target r) in
@@ -199,8 +159,7 @@ module _ {settings : Settings} {clock : ℕ} {target : ℕ → ℕ} {count : ℕ
           abandoned_counted = rw (here, e) at c.abandoned_counted;
           forgotten_counted = rw (here, e) at c.forgotten_counted;
           rest = rest_kept x lx;
-          stamps = (rw here at c.stamps).1;
-          checks = (rw here at c.checks).1;
+          countable = (rw here at c.countable).1;
         }
     turned abandoned e = record {
       i_le = omega arith;
@@ -216,8 +175,7 @@ module _ {settings : Settings} {clock : ℕ} {target : ℕ → ℕ} {count : ℕ
       abandoned_counted = counted_more s.abandoned abandoned (rw (here, e) at c.abandoned_counted);
       forgotten_counted = rw (here, e) at c.forgotten_counted;
       rest = rest_next;
-      stamps = (rw here at c.stamps).1;
-      checks = (rw here at c.checks).1;
+      countable = (rw here at c.countable).1;
     }
     turned forgotten e = record {
       i_le = omega arith;
@@ -233,8 +191,7 @@ module _ {settings : Settings} {clock : ℕ} {target : ℕ → ℕ} {count : ℕ
       abandoned_counted = rw (here, e) at c.abandoned_counted;
       forgotten_counted = counted_more s.forgotten forgotten (rw (here, e) at c.forgotten_counted);
       rest = rest_next;
-      stamps = (rw here at c.stamps).1;
-      checks = (rw here at c.checks).1;
+      countable = (rw here at c.countable).1;
     }
 
     -- by what the code has in its hands after the turn

@@ -28,7 +28,7 @@ use Rattle.model.specs.Layout.{id_size, record_size}
 -- ---- what is read
 
 module _ (i : ℕ) (t : List ℕ) where
-  pub stamp_read : from_be (take 8 (drop (i * record_size + 42) t)) ≡ (request_of (entry record_size i t)).stamp
+  stamp_read : from_be (take 8 (drop (i * record_size + 42) t)) ≡ (request_of (entry record_size i t)).stamp
   unfolding request_of
   stamp_read = ap from_be (sym (entry_field record_size i 42 8 t (omega arith)))
 

@@ -17,16 +17,6 @@ use Rattle.model.proofs.IdLaws.{not_among_kept}
 use Rattle.model.proofs.Well.{RisingIds}
 use Rattle.check_timeouts.specs.Checked.{pending_after_check}
 use Rattle.check_timeouts.specs.Turn.{restarted_to}
-use Rattle.peers.specs.Aims.{aimed_at}
-use Rattle.peers.specs.declared.aim.Aim.TheVariants.{Same}
-
--- ---- the aim
-
-pub aim_shut : (target : ℕ → ℕ) (gate : Bool) → gate ≡ false → (failed : ℕ) → aimed_at Same failed ≡ cond gate (target failed) failed
-aim_shut target gate e failed = rw e
-
-pub aim_open : (target : ℕ → ℕ) (gate : Bool) → gate ≡ true → (failed : ℕ) → target failed ≡ cond gate (target failed) failed
-aim_open target gate e failed = rw e
 
 -- ---- marking
 

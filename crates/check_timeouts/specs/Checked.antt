@@ -1,5 +1,5 @@
 -- The delivery check on a table: where retries go, and what it counts.
-use Rattle.std.specs.Prelude.{ℕ, suc, Bool, cond, List, [], ◌∷◌, length, eqb}
+use Rattle.std.specs.Prelude.{ℕ, suc, Bool, List, [], ◌∷◌, length}
 use Rattle.model.specs.Settings.{Settings}
 use Rattle.model.specs.Delivery.{Request, Verdict, waiting, retried, abandoned, forgotten, verdict, judged, check_timeouts}
 use Rattle.model.specs.Check.{retries, mark_all_retried}

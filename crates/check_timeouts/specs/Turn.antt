@@ -1,5 +1,5 @@
 -- One turn of the check: what it makes of a request's record, of the places noted and of the counts.
-use Rattle.std.specs.Prelude.{ℕ, ◌+◌, ◌*◌, List, set}
+use Rattle.std.specs.Prelude.{ℕ, ◌+◌, ◌*◌, ◌^◌, ◌≤◌, ◌<◌, List, set}
 use Rattle.fields.specs.Entries.{entry}
 use Rattle.fields.specs.Overwrite.{overwritten}
 use Rattle.model.specs.Delivery.{Request, with_peer, restarted}
@@ -9,6 +9,18 @@ use Rattle.check_timeouts.specs.declared.check.Checked.{Checked}
 use Rattle.check_timeouts.specs.declared.check.Verdict.{Verdict}
 use Rattle.check_timeouts.specs.declared.check.Verdict.TheVariants.{Waiting, Retried, Abandoned, Forgotten}
 use Rattle.model.specs.Layout.{record_size}
+
+-- request i of a table
+abbrev pub request_at : List ℕ → ℕ → Request
+request_at table i = request_of (entry record_size i table)
+
+-- one check more can be written down
+abbrev pub Countable : Request → Type 0
+Countable r = r.checks + 1 < 2 ^ 32
+
+-- what the requests before the i-th can come to
+abbrev pub AtMost : ℕ → Checked → Type 0
+AtMost i c = (c.pending ≤ i) × ((c.retried ≤ i) × ((c.abandoned ≤ i) × (c.forgotten ≤ i)))
 
 abbrev pub verdict_of : Verdict → delivery.Verdict
 verdict_of Waiting = delivery.waiting
@@ -24,7 +36,7 @@ restarted_to clock target r = with_peer (target r.peer) (restarted clock r)
 abbrev pub table_after : ℕ → (ℕ → ℕ) → delivery.Verdict → ℕ → ℕ → List ℕ → List ℕ
 table_after clock target delivery.waiting i place table = overwritten (place * record_size) (entry record_size i table) table
 table_after clock target delivery.retried i place table =
-    overwritten (place * record_size) (request_bytes (restarted_to clock target (request_of (entry record_size i table)))) table
+    overwritten (place * record_size) (request_bytes (restarted_to clock target (request_at table i))) table
 table_after clock target delivery.abandoned i place table = table
 table_after clock target delivery.forgotten i place table = table
 

@@ -3,12 +3,13 @@ use Prim.Native.Nat.{ℕ, zero, suc, ◌+◌, ◌-◌, ◌*◌, ◌/◌, ◌%◌
 use mathlib.Core.Path.{◌≡◌, refl, sym, ap, ◌∙◌}
 use mathlib.Core.List.{List, [], ◌∷◌, ◌++◌}
 use native.Mathlib.Omega.{arith}
-use lib.ListN.{length, take, drop, length-append, length-drop, drop_of_length-le}
+use lib.ListN.{length, take, drop, get_or, length-append, length-drop, drop_of_length-le}
 use lib.Seq.{drop-drop, take_all, length-take-le}
-use Rattle.fields.specs.Entries.{entries}
+use Rattle.std.specs.Simd.{first_chunks}
+use Rattle.fields.specs.Entries.{entries, entry}
 use Rattle.fields.specs.Overwrite.{overwritten}
 use Rattle.fields.proofs.OverwriteLaws.{overwritten_nil, overwritten_next, length_overwritten}
-use Rattle.fields.proofs.EntriesLaws.{length_entries, take_entries, drop_entries, entries_take}
+use Rattle.fields.proofs.EntriesLaws.{length_entries, entries_at, take_entries, drop_entries, entries_take}
 use Rattle.model.specs.Protocol.{Id, request_size, tracked_limit}
 use Rattle.model.specs.Requests.{request, runs, runs_within, commands_of}
 use Rattle.model.specs.Lists.{ids_in}
@@ -89,30 +90,22 @@ module _ (m : ℕ) (bytes : List ℕ) (whole : length bytes % id_size ≡ 0) whe
           let t : drop m ids ≡ entries id_size (number - m) (drop (m * id_size) bytes) = rw s at (drop_entries id_size m (number - m) bytes) in
           t ∙ rw n
 
--- ---- one id after another
+-- ---- ids as arrays
 
-ids_next : (bytes : List ℕ) → length bytes % id_size ≡ 0 → 0 < length bytes → ids_in bytes ≡ take id_size bytes ∷ ids_in (drop id_size bytes)
+chunks_are_entries : (width n : ℕ) (bytes : List ℕ) → first_chunks width n bytes ≡ entries width n bytes
+chunks_are_entries width zero bytes = refl
+chunks_are_entries width (suc n) bytes = ap (λ (es : List (List ℕ)). take width bytes ∷ es) (chunks_are_entries width n (drop width bytes))
+
+-- what `as_chunks` gives
+pub chunks_are_ids : (bytes : List ℕ) → first_chunks id_size (length bytes / id_size) bytes ≡ ids_in bytes
 unfolding ids_in
-ids_next bytes h l =
-    let d : length (drop id_size bytes) ≡ length bytes - 32 = length-drop id_size bytes in
-    let q : length bytes / id_size ≡ suc (length (drop id_size bytes) / id_size) = rw d (omega arith) in
-    rw q
+chunks_are_ids bytes = chunks_are_entries id_size (length bytes / id_size) bytes
 
-pub ids_none : ids_in [] ≡ []
-unfolding ids_in
-ids_none = refl
-
-pub ids_from : (at : ℕ) (bytes : List ℕ) → length bytes % id_size ≡ 0 → at % id_size ≡ 0 → at < length bytes
-    → ids_in (drop at bytes) ≡ take (at + id_size - at) (drop at bytes) ∷ ids_in (drop (at + id_size) bytes)
-ids_from at bytes h a o =
-    let k : at + id_size - at ≡ id_size = omega arith in
-    let d : length (drop at bytes) ≡ length bytes - at = length-drop at bytes in
-    ids_next (drop at bytes) (rw d (omega arith)) (rw d (omega arith)) ∙ rw (k, drop-drop)
-
-pub length_id : (at : ℕ) (bytes : List ℕ) → at + id_size ≤ length bytes → length (take (at + id_size - at) (drop at bytes)) ≡ id_size
-length_id at bytes h =
-    let k : at + id_size - at ≡ id_size = omega arith in
-    rw k (length-take-le 32 (drop at bytes) (rw (length-drop at bytes) (omega arith)))
+pub chunk_at : (bytes : List ℕ) (i : ℕ) → i * id_size + id_size ≤ length bytes
+    → get_or (first_chunks id_size (length bytes / id_size) bytes) i [] ≡ entry id_size i bytes
+chunk_at bytes i h =
+    let count : ℕ = length bytes / id_size in
+    ap (λ (es : List (List ℕ)). get_or es i []) (chunks_are_entries id_size count bytes) ∙ entries_at id_size count i bytes (omega arith)
 
 -- ---- the commands of a list
 
@@ -147,9 +140,6 @@ pub record Putting (type_id batch peer at : ℕ) (bytes d out : List ℕ) (place
   pub rest : overwritten place (requests_for type_id batch peer (drop done bytes)) out ≡ overwritten at (requests_for type_id batch peer bytes) d
 
 module _ {type_id batch peer at : ℕ} {bytes : List ℕ} {count : ℕ} {d : List ℕ} (all : Run type_id batch peer at bytes count d) where
-  pub put_starts : Putting type_id batch peer at bytes d d at 0 count
-  put_starts = record { cut = omega (arith, all.whole); long = refl; to = refl; rest = refl }
-
   module _ {out : List ℕ} {place done left : ℕ} (s : Putting type_id batch peer at bytes d out place done left) where
     left_whole : length (drop done bytes) ≡ left * id_size
     left_whole = length-drop done bytes ∙ omega (arith, s.cut)
@@ -157,13 +147,13 @@ module _ {type_id batch peer at : ℕ} {bytes : List ℕ} {count : ℕ} {d : Lis
     -- the next n ids of what is left
     module _ (some : 0 < left) {n : ℕ} (counted : n ≡ min request_size left) where
       -- some, and no more than are left
-      pub next_some : (0 < n) × (n ≤ left)
+      next_some : (0 < n) × (n ≤ left)
       next_some = (omega arith, omega arith)
 
-      pub next_within : done + n * id_size ≤ length bytes
+      next_within : done + n * id_size ≤ length bytes
       next_within = omega (arith, next_some, s.cut)
 
-      pub next_few : n ≤ tracked_limit
+      next_few : n ≤ tracked_limit
       next_few = omega arith
 
       module _ {run : List ℕ} (e : run ≡ take (n * id_size) (drop done bytes)) where
@@ -173,7 +163,7 @@ module _ {type_id batch peer at : ℕ} {bytes : List ℕ} {count : ℕ} {d : Lis
         abbrev others : List ℕ
         others = requests_for type_id batch peer (drop (n * id_size) (drop done bytes))
 
-        pub run_whole : length run ≡ n * id_size
+        run_whole : length run ≡ n * id_size
         run_whole = ap length e ∙ length-take-le (n * id_size) (drop done bytes) (omega (arith, next_some, left_whole))
 
         this_first : requests_for type_id batch peer (drop done bytes) ≡ this ++ others

@@ -1,9 +1,13 @@
 -- Pending requests as a table of records at the front of some bytes.
-use Rattle.std.specs.Prelude.{ℕ, List, map}
+use Rattle.std.specs.Prelude.{ℕ, ◌+◌, ◌*◌, ◌≤◌, List, map, length}
 use Rattle.fields.specs.Entries.{entries, replaced}
 use Rattle.model.specs.Delivery.{Request}
 use Rattle.model.specs.Image.{request_of, request_bytes}
 use Rattle.model.specs.Layout.{record_size}
+
+-- record i stands in the table
+abbrev pub Stands : List ℕ → ℕ → Type 0
+Stands table i = i * record_size + record_size ≤ length table
 
 -- the requests in the first `count` records
 abbrev pub requests_in : ℕ → List ℕ → List Request

@@ -10,10 +10,7 @@ use model::layout::ID_SIZE;
 pub fn next_count(left: usize) -> usize
     ensures { result ≡ min request_size left }
 {
-    if left < MAX_MODIFIER_REQUEST_IDS {
-        return left;
-    }
-    MAX_MODIFIER_REQUEST_IDS
+    left.min(MAX_MODIFIER_REQUEST_IDS)
 }
 
 // The next `count` ids from byte `at` on, as a part of the caller's bytes.

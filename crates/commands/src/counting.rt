@@ -11,11 +11,13 @@ pub fn count_commands(bytes: &[u8]) -> usize
 {
     let mut count = 0;
     let mut at = 0;
+    // No `for`: each command's own header says how far it reaches.
     while at < bytes.len() {
         count += 1;
         if bytes.len() - at < 16 {
             return count;
         }
+        // No `From`: a `usize` may be shorter in Rust.
         let ids = fields::read_u32(bytes, at + 12) as usize;
         at = at + 16 + ids * ID_SIZE;
     }
@@ -27,9 +29,10 @@ pub fn count_ids(ids: &[u8]) -> usize
     ensures { result ≡ length (ids_in ids.now) }
 {
     let mut whole = 0;
-    let mut at = 0;
-    while ID_SIZE <= ids.len() - at {
-        at += ID_SIZE;
+    let mut left = ids.len();
+    // Counted off, since the library's ways to count runs of a slice divide.
+    while ID_SIZE <= left {
+        left -= ID_SIZE;
         whole += 1;
     }
     whole

@@ -1,16 +1,18 @@
 -- A table cut down as bytes is the requests cut down.
 use Prim.Native.Nat.{ℕ, ◌+◌, ◌-◌, ◌*◌, ◌/◌, ◌%◌, ◌≤◌, ◌<◌, max}
-use mathlib.Core.Path.{◌≡◌, sym, ap, ◌∙◌}
-use mathlib.Core.Bool.{Bool, true, false, not}
+use mathlib.Core.Path.{◌≡◌, refl, sym, ap, ◌∙◌}
+use mathlib.Core.Bool.{Bool, true, false, not, cond}
 use mathlib.Core.List.{List, ◌++◌}
 use native.Mathlib.Omega.{arith}
 use lib.Dec.{eqb, leb}
 use lib.ListN.{length, take, drop, length-append, length-map}
 use borrow.Author.Tests.{le-leb, lt-leb}
+use Rattle.std.specs.List.{count_by}
+use Rattle.std.proofs.lemmas.List.Recursion.{is_count_by}
 use Rattle.fields.specs.Facts.{All, Bytes}
 use Rattle.fields.specs.Overwrite.{overwritten}
 use Rattle.fields.specs.Entries.{entries, joined, replaced}
-use Rattle.fields.specs.Filter.{kept, marked}
+use Rattle.fields.specs.Filter.{cons_if, kept, marked}
 use Rattle.fields.proofs.AllLaws.{all_kept}
 use Rattle.fields.proofs.FilterLaws.{length_kept}
 use Rattle.fields.proofs.MarkLaws.{kept_map, length_marks_left}
@@ -27,8 +29,17 @@ use Rattle.model.proofs.RecordLaws.{records_of_requests}
 use Rattle.commands.specs.Pending.{requests_in, holding}
 use Rattle.delivery.specs.Records.{unlisted}
 use Rattle.delivery.specs.Region.{evicted_in, ending_with, scheduled_as, region_then}
-use Rattle.delivery.specs.declared.evict.Evicted.TheVariants.{Pending, Full}
+use Rattle.std.proofs.Common.{Ok, Err}
+use Rattle.commands.specs.declared.tracker.TrackerError.TheVariants.{Full}
 use Rattle.model.specs.Layout.{id_size, record_size, table_size}
+
+-- counted as the library counts
+kept_counted : (test : ℕ → Bool) (xs : List ℕ) → count_by test xs ≡ length (kept test xs)
+kept_counted test xs = sym (is_count_by (λ (ys : List ℕ). length (kept test ys)) test refl (λ y ys. go (test y) y ys) xs)
+  where
+    go : (t : Bool) (y : ℕ) (ys : List ℕ) → length (cons_if t y (kept test ys)) ≡ cond t (1 + length (kept test ys)) (length (kept test ys))
+    go true y ys = omega arith
+    go false y ys = refl
 
 module _ (count : ℕ) (table : List ℕ) where
   pub length_filtered : (test : Request → Bool)
@@ -102,7 +113,7 @@ pub record Scheduling (count evicted left : ℕ) (marks ids region : List ℕ) :
   pub few : count + evicted ≤ tracked_limit
   pub long : table_size ≤ length region
   pub bytes : Bytes region
-  pub counted : left ≡ length (kept (λ (n : ℕ). eqb n 1) (take count marks))
+  pub counted : left ≡ count_by (λ (n : ℕ). eqb n 1) (take count marks)
   pub stay : marked marks (entries record_size count region) ≡ unlisted (ids_in ids) (entries record_size count region)
 
 module _ {count evicted left : ℕ} {marks ids region : List ℕ} (s : Scheduling count evicted left marks ids region) where
@@ -124,14 +135,14 @@ module _ {count evicted left : ℕ} {marks ids region : List ℕ} (s : Schedulin
       let k : length records ≡ count = length_entries record_size count region in
       let enough : length records ≤ length marks = omega (arith, s.few, s.marks_long) in
       let z : length (marked marks records) ≡ length (kept (λ (n : ℕ). eqb n 1) (take count marks)) = rw k at (length_marks_left marks records enough) in
-      s.counted ∙ sym z ∙ ap length s.stay ∙ length_filtered count region (λ (r : Request). not (is_among r.id (ids_in ids)))
+      s.counted ∙ kept_counted (λ (n : ℕ). eqb n 1) (take count marks) ∙ sym z ∙ ap length s.stay ∙ length_filtered count region (λ (r : Request). not (is_among r.id (ids_in ids)))
 
   -- whether both lists fit, by the numbers that the code adds
   fits_by : (answer : Bool) → leb (left + (evicted + length ids / id_size)) tracked_limit ≡ answer → leb (length pending + length after) tracked_limit ≡ answer
   fits_by answer b = rw (← left_pending, length_after evicted ids region) b
 
   pub scheduled_full : tracked_limit < left + evicted + length ids / id_size
-      → (Full ≡ scheduled_as tracked_limit pending after) × (region ≡ region_then tracked_limit count pending after region)
+      → ((Err Full) ≡ scheduled_as tracked_limit pending after) × (region ≡ region_then tracked_limit count pending after region)
   unfolding scheduled_as region_then
   scheduled_full o =
       let b = fits_by false (lt-leb (left + (evicted + length ids / id_size)) tracked_limit (omega arith)) in
@@ -163,8 +174,8 @@ module _ {count evicted left : ℕ} {marks ids region : List ℕ} (s : Schedulin
         rw (lx, d)
 
     pub scheduled : left + evicted + length ids / id_size ≤ tracked_limit
-        → (Pending left ≡ scheduled_as tracked_limit pending after) × (y ≡ region_then tracked_limit count pending after region)
+        → (Ok left ≡ scheduled_as tracked_limit pending after) × (y ≡ region_then tracked_limit count pending after region)
     unfolding scheduled_as region_then
     scheduled o =
         let b = fits_by true (le-leb (left + (evicted + length ids / id_size)) tracked_limit (omega arith)) in
-        (rw b (ap Pending left_pending), q ∙ rw (evicted_stay, b, ← held))
+        (rw b (ap Ok left_pending), q ∙ rw (evicted_stay, b, ← held))

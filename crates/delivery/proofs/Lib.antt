@@ -1,4 +1,3 @@
-pub mod CountLaws
 pub mod HeldLaws
 pub mod ListedLaws
 pub mod OtherLaws

@@ -1,10 +1,12 @@
 -- Records whose id is listed: marks taken from them, id by id.
-use Prim.Native.Nat.{ℕ, ◌+◌, ◌-◌, ◌%◌, ◌≤◌, ◌<◌}
+use Prim.Native.Nat.{ℕ, ◌+◌, ◌≤◌, ◌<◌}
 use mathlib.Core.Path.{◌≡◌, refl, sym, ap, ◌∙◌}
 use mathlib.Core.Bool.{Bool, true, false, not, ◌&&◌, ◌||◌}
 use mathlib.Core.List.{List, [], ◌∷◌}
+use native.Mathlib.Numerals.{add-one}
 use native.Mathlib.Omega.{arith}
 use lib.ListN.{length, take, drop, get_or, set, drop_of_length-le}
+use lib.Seq.{drop-cons}
 use Rattle.fields.specs.Facts.{All}
 use Rattle.fields.specs.Order.{same}
 use Rattle.fields.specs.Entries.{entries, rising}
@@ -15,12 +17,9 @@ use Rattle.fields.proofs.OrderLaws.{same_sym, before_not_same}
 use Rattle.fields.proofs.RisingLaws.{rising_at}
 use Rattle.fields.proofs.EntriesLaws.{length_entries}
 use Rattle.keys.specs.Find.{found}
-use Rattle.keys.specs.declared.find.Found.{Found}
-use Rattle.keys.specs.declared.find.Found.TheVariants.{At, Gap}
+use Rattle.std.proofs.Common.{Result, Ok, Err}
 use Rattle.keys.proofs.FindLaws.{at_inside, at_same, at_key, gap_absent}
 use Rattle.model.specs.Protocol.{Id, is_among}
-use Rattle.model.specs.Lists.{ids_in}
-use Rattle.commands.proofs.RunLaws.{ids_from, ids_none, length_id}
 use Rattle.delivery.specs.Records.{unlisted}
 use Rattle.model.specs.Layout.{id_size, record_size}
 
@@ -60,8 +59,8 @@ module _ {count : ℕ} {table id marks : List ℕ} (u : Unmarking count table id
   abbrev key : ℕ → List ℕ
   key j = take id_size (get_or es j [])
 
-  module _ {i : ℕ} {answer : Found} (e : answer ≡ found id 0 es) (h : answer ≡ At i) where
-    at : found id 0 es ≡ At i
+  module _ {i : ℕ} {answer : Result ℕ ℕ} (e : answer ≡ found id 0 es) (h : answer ≡ Ok i) where
+    at : found id 0 es ≡ Ok i
     at = sym e ∙ h
 
     inside : i < length es
@@ -85,7 +84,7 @@ module _ {count : ℕ} {table id marks : List ℕ} (u : Unmarking count table id
         rw b)
 
   -- or none has it
-  pub unmarked_nowhere : {i : ℕ} {answer : Found} → answer ≡ found id 0 es → answer ≡ Gap i → marked marks es ≡ unlisted (id ∷ []) (marked marks es)
+  pub unmarked_nowhere : {i : ℕ} {answer : Result ℕ ℕ} → answer ≡ found id 0 es → answer ≡ Err i → marked marks es ≡ unlisted (id ∷ []) (marked marks es)
   unfolding unlisted is_among
   unmarked_nowhere {i} e h =
       let rises : rising (length id) es ≡ true = rw u.long u.rises in
@@ -99,37 +98,23 @@ module _ {count : ℕ} {table id marks : List ℕ} (u : Unmarking count table id
 
 -- ---- one after another
 
--- The ids from `at` on are still to come: what is marked, less these, is what was marked, less all ids.
-pub record Unlisting (count : ℕ) (table ids marks₀ marks : List ℕ) (at : ℕ) : Type 0 where
-  pub whole : at % id_size ≡ 0
-  pub at_le : at ≤ length ids
+-- The ids from i on are still to come: what is marked, less these, is what was marked, less all ids.
+pub record Unlisting (count : ℕ) (table : List ℕ) (ids : List Id) (marks₀ marks : List ℕ) (i : ℕ) : Type 0 where
   pub long : length marks ≡ length marks₀
-  pub left : unlisted (ids_in (drop at ids)) (marked marks (entries record_size count table))
-      ≡ unlisted (ids_in ids) (marked marks₀ (entries record_size count table))
+  pub left : unlisted (drop i ids) (marked marks (entries record_size count table)) ≡ unlisted ids (marked marks₀ (entries record_size count table))
 
-pub listed_starts : (count : ℕ) (table ids marks : List ℕ) → Unlisting count table ids marks marks 0
-listed_starts count table ids marks = record { whole = refl; at_le = omega arith; long = refl; left = refl }
+module _ {count : ℕ} {table : List ℕ} {ids : List Id} {marks₀ marks : List ℕ} {i : ℕ} (s : Unlisting count table ids marks₀ marks i) where
+  pub listed_turn : i < length ids → {marks' : List ℕ} → length marks' ≡ length marks
+      → marked marks' (entries record_size count table) ≡ unlisted (get_or ids i [] ∷ []) (marked marks (entries record_size count table))
+      → Unlisting count table ids marks₀ marks' (i + 1)
+  listed_turn h l e =
+      let id : Id = get_or ids i [] in
+      let rest : List Id = drop (i + 1) ids in
+      let n : drop i ids ≡ id ∷ rest = rw add-one (drop-cons ids i [] h) in
+      record {
+        long = l ∙ s.long;
+        left = ap (unlisted rest) e ∙ unlisted_cons id rest (marked marks (entries record_size count table)) ∙ rw n at s.left;
+      }
 
-module _ {count : ℕ} {table ids marks₀ marks : List ℕ} {at : ℕ} (s : Unlisting count table ids marks₀ marks at) where
-  module _ (h : length ids % id_size ≡ 0) (o : at < length ids) where
-    pub id_long : length (take (at + id_size - at) (drop at ids)) ≡ id_size
-    id_long = length_id at ids (omega (arith, s.whole))
-
-    pub listed_turn : {marks' : List ℕ} → length marks' ≡ length marks
-        → marked marks' (entries record_size count table) ≡ unlisted (take (at + id_size - at) (drop at ids) ∷ []) (marked marks (entries record_size count table))
-        → Unlisting count table ids marks₀ marks' (at + id_size)
-    listed_turn l e =
-        let id : Id = take (at + id_size - at) (drop at ids) in
-        let now-marked : List (List ℕ) = marked marks (entries record_size count table) in
-        let n : ids_in (drop at ids) ≡ id ∷ ids_in (drop (at + id_size) ids) = ids_from at ids h s.whole o in
-        record {
-          whole = omega (arith, s.whole);
-          at_le = omega (arith, s.whole);
-          long = l ∙ s.long;
-          left = ap (unlisted (ids_in (drop (at + id_size) ids))) e ∙ unlisted_cons id (ids_in (drop (at + id_size) ids)) now-marked ∙ rw n at s.left;
-        }
-
-  pub listed_ends : length ids ≤ at → marked marks (entries record_size count table) ≡ unlisted (ids_in ids) (marked marks₀ (entries record_size count table))
-  listed_ends h =
-      let d : drop at ids ≡ [] = drop_of_length-le ids {i = at} h in
-      sym (unlisted_none (marked marks (entries record_size count table))) ∙ rw (d, ids_none) at s.left
+  pub listed_ends : length ids ≤ i → marked marks (entries record_size count table) ≡ unlisted ids (marked marks₀ (entries record_size count table))
+  listed_ends h = sym (unlisted_none (marked marks (entries record_size count table))) ∙ rw (drop_of_length-le ids {i = i} h) at s.left

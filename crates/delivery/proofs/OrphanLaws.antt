@@ -99,14 +99,10 @@ orphans_from peer count table i = kept (is_orphan peer) (drop i (entries record_
 -- The pass at record i: `found` pairs are written.
 pub record Gathering (peer count : ℕ) (table pairs₀ pairs : List ℕ) (found i : ℕ) : Type 0 where
   pub found_le : found ≤ i
-  pub i_le : i ≤ count
   pub long : length pairs ≡ length pairs₀
   pub number : found + length (orphans_from peer count table i) ≡ length (orphans_from peer count table 0)
   pub written : overwritten (found * pair_size) (joined (map pair_in (orphans_from peer count table i))) pairs
       ≡ overwritten 0 (joined (map pair_in (orphans_from peer count table 0))) pairs₀
-
-pub starts : (peer count : ℕ) (table pairs : List ℕ) → Gathering peer count table pairs pairs 0 0
-starts peer count table pairs = record { found_le = omega arith; i_le = omega arith; long = refl; number = omega arith; written = refl }
 
 module _ {peer count : ℕ} {table pairs₀ pairs : List ℕ} {found i : ℕ} (s : Gathering peer count table pairs₀ pairs found i) (h : i < count) where
   abbrev one : List ℕ
@@ -126,7 +122,6 @@ module _ {peer count : ℕ} {table pairs₀ pairs : List ℕ} {found i : ℕ} (s
       let no : is_orphan peer one ≡ false = sym a ∙ b in
       rw (e, f) (record {
         found_le = omega (arith, s.found_le);
-        i_le = omega arith;
         long = s.long;
         number = rw (next, no) at s.number;
         written = rw (next, no) at s.written;
@@ -156,7 +151,6 @@ module _ {peer count : ℕ} {table pairs₀ pairs : List ℕ} {found i : ℕ} (s
         let at : (found + 1) * pair_size ≡ found * pair_size + length (pair_in one) = omega arith in
         rw (e, f) (record {
           found_le = omega (arith, s.found_le);
-          i_le = omega arith;
           long = length_overwritten (found * pair_size) (pair_in one) pairs (omega arith) ∙ le;
           number = omega arith;
           written = rw at (overwritten_next (found * pair_size) (pair_in one) (joined (map pair_in rest)) pairs (omega arith)) ∙ rw (next, yes) at s.written;

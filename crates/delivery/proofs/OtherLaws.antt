@@ -1,12 +1,12 @@
 -- Marks for the records of other peers, and the table that they leave.
 use Prim.Native.Nat.{ℕ, zero, suc, ◌+◌, ◌-◌, ◌*◌, ◌≤◌, ◌<◌}
 use mathlib.Core.Path.{◌≡◌, refl, sym, ap, ◌∙◌}
-use mathlib.Core.Bool.{Bool, true, false, not, cond}
+use mathlib.Core.Bool.{not, cond}
 use mathlib.Core.List.{List, [], ◌∷◌, map}
 use native.Mathlib.Nat.{not-suc-le-zero, le_of_suc-le-suc}
 use native.Mathlib.Omega.{arith}
 use lib.Dec.{eqb}
-use lib.ListN.{length, take, drop, get_or, set, length-map, length-set}
+use lib.ListN.{length, take, drop, get_or, set, length-map}
 use lib.Seq.{take_all}
 use Rattle.fields.specs.Zero.{zeros}
 use Rattle.fields.specs.Number.{from_be}
@@ -14,10 +14,9 @@ use Rattle.fields.specs.Overwrite.{overwritten}
 use Rattle.fields.specs.Entries.{entries, entry, replaced}
 use Rattle.fields.specs.Filter.{kept}
 use Rattle.fields.proofs.ZeroLaws.{length_zeros}
-use Rattle.fields.proofs.OverwriteLaws.{overwritten_nil, turn_up}
+use Rattle.fields.proofs.OverwriteLaws.{turn_up}
 use Rattle.fields.proofs.EntriesLaws.{length_entries, entries_at, replaced_fewer}
 use Rattle.model.specs.Delivery.{Request, purge_peer, purge_all}
-use Rattle.model.specs.Image.{request_of}
 use Rattle.commands.specs.Pending.{requests_in, holding}
 use Rattle.commands.proofs.RecordedLaws.{peer_read}
 use Rattle.delivery.proofs.HeldLaws.{Table, cut_down}
@@ -32,33 +31,21 @@ get_d_map f (x ∷ xs) (suc i) a b h = get_d_map f xs i a b (le_of_suc-le-suc h)
 -- ---- whose a record is
 
 module _ (i : ℕ) (table : List ℕ) where
-  pub other_mark : (asked peer : ℕ) (t : Bool) → asked ≡ from_be (take 8 (drop (i * record_size + id_size) table)) → eqb asked peer ≡ t
-      → ◌≡◌ {A = ℕ} (cond t 0 1) (cond (of_other peer (entry record_size i table)) 1 0)
+  pub other_test : (asked peer : ℕ) → asked ≡ from_be (take 8 (drop (i * record_size + id_size) table)) → not (eqb asked peer) ≡ of_other peer (entry record_size i table)
   unfolding of_other
-  other_mark asked peer t a e =
-      let e' : eqb (request_of (entry record_size i table)).peer peer ≡ t = rw (a ∙ peer_read i table) at e in
-      rw e' (go t)
-    where
-      go : (t : Bool) → ◌≡◌ {A = ℕ} (cond t 0 1) (cond (not t) 1 0)
-      go true = refl
-      go false = refl
+  other_test asked peer a = rw (a ∙ peer_read i table)
 
 -- ---- marks for the others, written one by one
 
 abbrev others_marks : ℕ → ℕ → List ℕ → List ℕ
 others_marks peer count table = map (λ (e : List ℕ). cond (of_other peer e) 1 0) (entries record_size count table)
 
--- The first i marks are written.
-pub record Marking (peer count : ℕ) (table marks₀ marks : List ℕ) (i : ℕ) : Type 0 where
-  pub i_le : i ≤ count
-  pub long : length marks ≡ length marks₀
-  pub written : marks ≡ overwritten 0 (take i (others_marks peer count table)) marks₀
-
 length_others : (peer count : ℕ) (table : List ℕ) → length (others_marks peer count table) ≡ count
 length_others peer count table = length-map (entries record_size count table) (λ (e : List ℕ). cond (of_other peer e) 1 0) ∙ length_entries record_size count table
 
-pub others_starts : (peer count : ℕ) (table marks : List ℕ) → Marking peer count table marks marks 0
-others_starts peer count table marks = record { i_le = omega arith; long = refl; written = sym (overwritten_nil 0 marks) }
+-- The first i marks are written.
+pub record Marking (peer count : ℕ) (table marks₀ marks : List ℕ) (i : ℕ) : Type 0 where
+  pub written : marks ≡ overwritten 0 (take i (others_marks peer count table)) marks₀
 
 module _ {peer count : ℕ} {table marks₀ marks : List ℕ} {i : ℕ} (s : Marking peer count table marks₀ marks i) where
   pub others_turn : i < count → count ≤ length marks₀ → {mark : ℕ} → mark ≡ cond (of_other peer (entry record_size i table)) 1 0
@@ -70,11 +57,7 @@ module _ {peer count : ℕ} {table marks₀ marks : List ℕ} {i : ℕ} (s : Mar
       let n : length (map f es) ≡ count = length_others peer count table in
       let g : get_or (map f es) i 0 ≡ mark = get_d_map f es i [] 0 (omega arith) ∙ ap f (entries_at record_size count i table h) ∙ sym m in
       let z : 0 + i ≡ i = omega arith in
-      record {
-        i_le = omega arith;
-        long = length-set marks i mark ∙ s.long;
-        written = rw (s.written, ← g) (rw z at (turn_up 0 i (map f es) marks₀ (omega arith) (omega arith)));
-      }
+      record { written = rw (s.written, ← g) (rw z at (turn_up 0 i (map f es) marks₀ (omega arith) (omega arith))) }
 
   pub others_end : count ≤ i → marks ≡ overwritten 0 (others_marks peer count table) marks₀
   others_end h =

@@ -1,36 +1,38 @@
 // The orphans of a lost peer: its requests that are no transactions, as pairs of type and id. delivery.rs, purge_peer.
+//
+// A table and a count, as in purge: the same region is written there.
 ghost use Rattle.std.specs.Prelude.{◌≡◌, true, map, ◌+◌, ◌*◌, ◌≤◌, length, get_or};
 ghost use Rattle.fields.specs.Entries.{entries, entry, joined};
 ghost use Rattle.fields.specs.Overwrite.{overwritten};
 ghost use Rattle.model.specs.Delivery.{Request, orphans_of};
 ghost use Rattle.model.specs.Calls.{pair_bytes};
 ghost use Rattle.model.specs.Image.{types_narrow};
-ghost use Rattle.commands.specs.Pending.{requests_in};
+ghost use Rattle.commands.specs.Pending.{Stands, requests_in};
 ghost use Rattle.delivery.specs.Orphans.{is_orphan, pair_in};
 ghost use Rattle.model.specs.Layout.{pair_size, record_size};
 
-use model::layout::{ID_SIZE, PAIR_SIZE, RECORD_SIZE};
+use model::layout::{PAIR_SIZE, PEER_AT, RECORD_SIZE, TYPE_AT};
 
 // Whether record i is the peer's and no transaction.
 fn is_orphan(table: &[u8], i: usize, peer: u64) -> bool
-    requires { i * record_size + record_size ≤ length table.now }
+    requires { Stands table.now i }
     ensures { result ≡ is_orphan peer (entry record_size i table.now) }
 {
     let at = i * RECORD_SIZE;
-    let asked = fields::read_u64(table, at + ID_SIZE);
-    let typeid = fields::read_u16(table, at + 40);
-    (asked == peer) & !(typeid == model::TRANSACTION)
+    let asked = fields::read_u64(table, at + PEER_AT);
+    let typeid = fields::read_u16(table, at + TYPE_AT);
+    (asked == peer) & (typeid != model::TRANSACTION)
 }
 
 // Writes record i's type and id at index `to` of the pairs. The type's high byte is zero.
 fn put_pair(table: &[u8], i: usize, pairs: &mut [u8], to: usize)
-    requires record_size_in_bounds { (i * record_size + record_size ≤ length table.now) × (to * pair_size + pair_size ≤ length pairs.old) }
+    requires record_size_in_bounds { Stands table.now i × (to * pair_size + pair_size ≤ length pairs.old) }
     requires table_value { get_or (entry record_size i table.now) 40 0 ≡ 0 }
     ensures { pairs.new ≡ overwritten (to * pair_size) (pair_in (entry record_size i table.now)) pairs.old }
 {
     let from = i * RECORD_SIZE;
     let at = to * PAIR_SIZE;
-    pairs[at] = table[from + 41];
+    pairs[at] = table[from + (TYPE_AT + 1)];
     order::gathering::put_id(table, from, pairs, at + 1);
 }
 
@@ -43,13 +45,11 @@ pub fn orphans(table: &[u8], count: usize, peer: u64, pairs: &mut [u8]) -> usize
     ensures pairs_after { pairs.new ≡ overwritten 0 (joined (map (λ (r : Request). pair_bytes r.type_id r.id) (orphans_of peer (requests_in count table.now)))) pairs.old }
 {
     let mut found = 0;
-    let mut i = 0;
-    while i < count {
+    for i in 0..count {
         if is_orphan(table, i, peer) {
             put_pair(table, i, pairs, found);
             found += 1;
         }
-        i += 1;
     }
     found
 }

@@ -1,26 +1,25 @@
 // purge_peer and purge_all of delivery.rs, on the region of an image. What is removed is zero again.
+//
+// The table is written, so count and facts stand beside it.
 ghost use Rattle.std.specs.Prelude.{◌≡◌, cond, List, map, ℕ, ◌+◌, ◌*◌, ◌≤◌, length};
 ghost use Rattle.fields.specs.Entries.{entries, entry};
 ghost use Rattle.fields.specs.Overwrite.{overwritten};
 ghost use Rattle.fields.specs.Filter.{marked, kept};
 ghost use Rattle.model.specs.Delivery.{purge_peer, purge_all};
-ghost use Rattle.commands.specs.Pending.{requests_in, holding};
+ghost use Rattle.commands.specs.Pending.{Stands, requests_in, holding};
 ghost use Rattle.delivery.specs.Others.{of_other};
 ghost use Rattle.model.specs.Layout.{record_size};
 ghost use Rattle.model.specs.Protocol.{tracked_limit};
 
-use model::layout::{ID_SIZE, RECORD_SIZE, TRACKED_LIMIT};
+use model::layout::{PEER_AT, RECORD_SIZE, TRACKED_LIMIT};
 
 // A mark for record i: 1 if it is another peer's.
 fn mark_of_other(table: &[u8], i: usize, peer: u64) -> u8
-    requires { i * record_size + record_size ≤ length table.now }
+    requires { Stands table.now i }
     ensures { result ≡ cond (of_other peer (entry record_size i table.now)) 1 0 }
 {
-    let asked = fields::read_u64(table, i * RECORD_SIZE + ID_SIZE);
-    if asked == peer {
-        return 0;
-    }
-    1
+    let asked = fields::read_u64(table, i * RECORD_SIZE + PEER_AT);
+    u8::from(asked != peer)
 }
 
 // Marks for the records of other peers.
@@ -28,10 +27,8 @@ fn mark_others(table: &[u8], count: usize, peer: u64, marks: &mut [u8])
     requires { (count * record_size ≤ length table.now) × (count ≤ length marks.old) }
     ensures { marks.new ≡ overwritten 0 (map (λ (r : List ℕ). cond (of_other peer r) 1 0) (entries record_size count table.now)) marks.old }
 {
-    let mut i = 0;
-    while i < count {
+    for i in 0..count {
         marks[i] = mark_of_other(table, i, peer);
-        i += 1;
     }
 }
 
@@ -40,6 +37,7 @@ fn marks_of_others(table: &[u8], count: usize, peer: u64) -> [u8; TRACKED_LIMIT]
     requires { (count ≤ tracked_limit) × (count * record_size ≤ length table.now) }
     ensures { marked result (entries record_size count table.now) ≡ kept (of_other peer) (entries record_size count table.now) }
 {
+    // Marks for as many as there may be: there is no heap here.
     let mut marks = [0u8; TRACKED_LIMIT];
     mark_others(table, count, peer, &mut marks);
     marks

@@ -3,37 +3,37 @@ use Prim.Native.Nat.{ℕ, ◌≤◌, ◌<◌}
 use mathlib.Core.Path.{◌≡◌, refl}
 use mathlib.Core.Bool.{Bool, true, false, cond}
 use mathlib.Core.List.{List}
-use native.Mathlib.Omega.{arith}
-use native.Mathlib.Nat.{lt_irrefl}
 use lib.Dec.{leb}
 use lib.ListN.{length}
 use borrow.Author.Tests.{le-leb, lt-leb}
 use Rattle.model.specs.Delivery.{Request}
 use Rattle.commands.specs.Pending.{holding}
 use Rattle.mark_requested.specs.Marking.{marked_as, held_within}
-use Rattle.mark_requested.specs.declared.entering.Marked.TheVariants.{Pending, Full}
+use Rattle.std.proofs.Common.{Ok, Err}
+use Rattle.commands.specs.declared.tracker.TrackerError.{TrackerError}
+use Rattle.commands.specs.declared.tracker.TrackerError.TheVariants.{Full}
 
-pub marked_pending : (most x : ℕ) (rs : List Request) → Pending x ≡ marked_as most rs → (leb (length rs) most ≡ true) × (x ≡ length rs)
+pub marked_pending : (most x : ℕ) (rs : List Request) → Ok x ≡ marked_as most rs → (leb (length rs) most ≡ true) × (x ≡ length rs)
 unfolding marked_as
 marked_pending most x rs = go (leb (length rs) most) refl
   where
-    go : (b : Bool) → leb (length rs) most ≡ b → Pending x ≡ cond b (Pending (length rs)) Full → (leb (length rs) most ≡ true) × (x ≡ length rs)
+    go : (b : Bool) → leb (length rs) most ≡ b → Ok x ≡ cond b (Ok (length rs)) (Err Full) → (leb (length rs) most ≡ true) × (x ≡ length rs)
     go true e h = (e, cc)
-    go false e h = let z : ◌≡◌ {A = ℕ} 0 1 = cc in absurd (lt_irrefl 0 (omega arith))
+    go false e h = cc
 
-pub marked_full : (most : ℕ) (rs : List Request) → Full ≡ marked_as most rs → leb (length rs) most ≡ false
+pub marked_full : (most : ℕ) (rs : List Request) {e : TrackerError} → Err e ≡ marked_as most rs → leb (length rs) most ≡ false
 unfolding marked_as
-marked_full most rs = go (leb (length rs) most) refl
+marked_full most rs {e} = go (leb (length rs) most) refl
   where
-    go : (b : Bool) → leb (length rs) most ≡ b → Full ≡ cond b (Pending (length rs)) Full → leb (length rs) most ≡ false
-    go true e h = let z : ◌≡◌ {A = ℕ} 0 1 = cc in absurd (lt_irrefl 0 (omega arith))
-    go false e h = e
+    go : (b : Bool) → leb (length rs) most ≡ b → Err e ≡ cond b (Ok (length rs)) (Err Full) → leb (length rs) most ≡ false
+    go true l h = cc
+    go false l h = l
 
-pub few_marked : (most : ℕ) (rs : List Request) → length rs ≤ most → Pending (length rs) ≡ marked_as most rs
+pub few_marked : (most : ℕ) (rs : List Request) → length rs ≤ most → Ok (length rs) ≡ marked_as most rs
 unfolding marked_as
 few_marked most rs h = rw (le-leb (length rs) most h)
 
-pub many_marked : (most : ℕ) (rs : List Request) → most < length rs → Full ≡ marked_as most rs
+pub many_marked : (most : ℕ) (rs : List Request) → most < length rs → Err Full ≡ marked_as most rs
 unfolding marked_as
 many_marked most rs h = rw (lt-leb (length rs) most h)
 

@@ -23,8 +23,9 @@ use Rattle.model.proofs.RecordLaws.{records_of_requests, ids_rise_lem}
 use Rattle.commands.specs.Pending.{requests_in}
 use Rattle.mark_requested.specs.Marking.{marked_as, new_request}
 use Rattle.mark_requested.specs.Choices.{ids_at}
-use Rattle.mark_requested.specs.declared.entering.Marked.{Marked}
-use Rattle.mark_requested.specs.declared.entering.Marked.TheVariants.{Pending, Full}
+use Rattle.std.proofs.Common.{Result, Ok, Err}
+use Rattle.commands.specs.declared.tracker.TrackerError.{TrackerError}
+use Rattle.commands.specs.declared.tracker.TrackerError.TheVariants.{Full}
 use Rattle.mark_requested.specs.declared.merging.Front.{Front}
 use Rattle.mark_requested.proofs.AnswerLaws.{few_marked, many_marked}
 use Rattle.mark_requested.proofs.EnterLaws.{enter, enter_all, all_marked_entered}
@@ -121,19 +122,19 @@ module _ {clock type_id peer most count : ℕ} {t ids places first : List ℕ} (
         let taken = entries_take record_size k (k * record_size) tail (omega arith) ld in
         rw (← as_many, e, behind, taken, ← d) rest_is
 
-  pub merge_ends : {answer : Marked} {room' : List ℕ} → ltb front.ids (length places) && leb front.held most ≡ false
-      → (answer ≡ cond (leb total most) (Pending total) Full)
+  pub merge_ends : {answer : (Result ℕ TrackerError)} {room' : List ℕ} → ltb front.ids (length places) && leb front.held most ≡ false
+      → (answer ≡ cond (leb total most) (Ok total) (Err Full))
       × (leb total most ≡ true → room' ≡ filled)
       → (answer ≡ marked_as most all) × (leb (length all) most ≡ true → entries record_size (length all) room' ≡ map request_bytes all)
   merge_ends {answer} {room'} over p = go (leb total most) refl p.0 p.1
     where
-      go : (b : Bool) → leb total most ≡ b → answer ≡ cond b (Pending total) Full
+      go : (b : Bool) → leb total most ≡ b → answer ≡ cond b (Ok total) (Err Full)
           → (b ≡ true → room' ≡ filled)
           → (answer ≡ marked_as most all) × (leb (length all) most ≡ true → entries record_size (length all) room' ≡ map request_bytes all)
       go true h a w =
           let few : total ≤ most = leb-true total most h in
           let n : total ≡ length all = as_many few over in
-          (a ∙ ap Pending n ∙ few_marked most all (omega arith), λ u. in_place few over room' (w refl))
+          (a ∙ ap Ok n ∙ few_marked most all (omega arith), λ u. in_place few over room' (w refl))
       go false h a w =
           let m : most < length all = omega (arith, leb-false total most h, at_least) in
           (a ∙ many_marked most all m, λ u. absurd (false≢true (sym (lt-leb (length all) most m) ∙ u)))

@@ -22,8 +22,8 @@ use Rattle.commands.specs.Pending.{requests_in, holding}
 use Rattle.commands.proofs.WriteLaws.{length_ids}
 use Rattle.commands.proofs.HoldingLaws.{length_requests}
 use Rattle.mark_requested.specs.Marking.{marked_as, held_within}
-use Rattle.mark_requested.specs.declared.entering.Marked.{Marked}
-use Rattle.mark_requested.specs.declared.entering.Marked.TheVariants.{Pending, Full}
+use Rattle.std.proofs.Common.{Result, Ok, Err}
+use Rattle.commands.specs.declared.tracker.TrackerError.{TrackerError}
 use Rattle.mark_requested.proofs.AnswerLaws.{marked_pending, marked_full, few_marked, few_held, many_held}
 use Rattle.mark_requested.proofs.MarkedLaws.{marked_length}
 use Rattle.mark_requested.specs.Choices.{ids_at}
@@ -34,13 +34,13 @@ use Rattle.model.specs.Layout.{id_size, record_size}
 pub few_ids : (clock type_id peer most count : ℕ) (ids t : List ℕ) {t' : List ℕ} {held : ℕ} → count + length ids / id_size ≤ most
     → (held ≡ length (mark_requested clock type_id peer (ids_in ids) (requests_in count t)))
     × (t' ≡ holding count (mark_requested clock type_id peer (ids_in ids) (requests_in count t)) t)
-    → (Pending held ≡ marked_as most (mark_requested clock type_id peer (ids_in ids) (requests_in count t)))
+    → (Ok held ≡ marked_as most (mark_requested clock type_id peer (ids_in ids) (requests_in count t)))
     × (t' ≡ held_within most count (mark_requested clock type_id peer (ids_in ids) (requests_in count t)) t)
 few_ids clock type_id peer most count ids t room e =
     let all : List Request = mark_requested clock type_id peer (ids_in ids) (requests_in count t) in
     let longer = marked_length clock type_id peer (ids_in ids) (requests_in count t) in
     let fits : length all ≤ most = omega (arith, longer, length_requests count t, length_ids ids) in
-    (ap Pending e.0 ∙ few_marked most all fits, e.1 ∙ sym (few_held most count all t (le-leb (length all) most fits)))
+    (ap Ok e.0 ∙ few_marked most all fits, e.1 ∙ sym (few_held most count all t (le-leb (length all) most fits)))
 
 pub still_sorted : (ids places : List ℕ) → ids_at ids places ≡ sorted before (ids_in ids) → sorted before (ids_at ids places) ≡ ids_at ids places
 still_sorted ids places e = rw e (sorted_twice before before_order (ids_in ids))
@@ -63,13 +63,14 @@ module _ {clock type_id peer most count : ℕ} {ids places t : List ℕ} (p : Pl
       let ascend = rising_ascending id_size (entries record_size count t) p.rises in
       rw p.order (marked_sorted clock type_id peer (ids_in ids) (requests_in count t) (ids_rise_lem (entries record_size count t) ascend))
 
-  pub too_many : {answer : Marked} → answer ≡ Full → answer ≡ marked_as most all_placed → (Full ≡ marked_as most all) × (t ≡ held_within most count all t)
-  too_many full a =
-      let q : Full ≡ marked_as most all = rw (full, as_given) at a in
+  pub too_many : {e : TrackerError} {answer : Result ℕ TrackerError} → answer ≡ Err e → answer ≡ marked_as most all_placed
+      → (Err e ≡ marked_as most all) × (t ≡ held_within most count all t)
+  too_many {e} full a =
+      let q : Err e ≡ marked_as most all = rw (full, as_given) at a in
       (q, sym (many_held most count all t (marked_full most all q)))
 
-  module _ (held : ℕ) {answer : Marked} (pending : answer ≡ Pending held) (a : answer ≡ marked_as most all_placed) where
-    told : Pending held ≡ marked_as most all
+  module _ (held : ℕ) {answer : Result ℕ TrackerError} (pending : answer ≡ Ok held) (a : answer ≡ marked_as most all_placed) where
+    told : Ok held ≡ marked_as most all
     told = rw (pending, as_given) at a
 
     says : (leb (length all) most ≡ true) × (held ≡ length all)
@@ -80,7 +81,7 @@ module _ {clock type_id peer most count : ℕ} {ids places t : List ℕ} (p : Pl
 
     pub copied_back : (room : List ℕ) {t' : List ℕ}
         → (leb (length all_placed) most ≡ true → entries record_size (length all_placed) room ≡ map request_bytes all_placed)
-        → t' ≡ take (held * record_size) room ++ drop (held * record_size) t → (Pending held ≡ marked_as most all) × (t' ≡ held_within most count all t)
+        → t' ≡ take (held * record_size) room ++ drop (held * record_size) t → (Ok held ≡ marked_as most all) × (t' ≡ held_within most count all t)
     unfolding holding
     copied_back room {t'} w et =
         let new : List (List ℕ) = map request_bytes all in

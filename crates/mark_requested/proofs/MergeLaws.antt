@@ -9,6 +9,7 @@ use lib.Dec.{ltb, leb}
 use lib.ListN.{length, drop, get_or}
 use borrow.Author.Tests.{ltb-true, leb-true}
 use lib.Seq.{append_snoc}
+use Rattle.std.specs.List.{EachIndex}
 use Rattle.fields.specs.Facts.{All, Bytes}
 use Rattle.fields.specs.Order.{before, same}
 use Rattle.fields.specs.Sort.{sorted}
@@ -87,9 +88,6 @@ new_split : (clock type_id peer : ℕ) (id blank : List ℕ) → blank ≡ reque
 unfolding request_bytes
 new_split clock type_id peer id blank e = rw e
 
-blank_long : (clock type_id peer : ℕ) (blank : List ℕ) → blank ≡ request_bytes (new_request clock type_id peer (zeros id_size)) → length blank ≡ record_size
-blank_long clock type_id peer blank e = ap length e ∙ length_request (new_request clock type_id peer (zeros id_size)) refl
-
 entry_bytes : (i : ℕ) (t : List ℕ) → Bytes t → Bytes (entry record_size i t)
 unfolding entry
 entry_bytes i t f = bytes_take record_size (drop (i * record_size) t) (bytes_drop (i * record_size) t f)
@@ -108,7 +106,7 @@ pub record Pass (clock type_id peer most count : ℕ) (t ids places first : List
   pub most_le : most ≤ tracked_limit
   pub places_le : length places ≤ tracked_limit
   pub fits : most * record_size + record_size ≤ length first
-  pub listed : All (Listed ids) places
+  pub listed : EachIndex places (λ k. Listed ids (get_or places k 0))
   pub order : sorted before (ids_at ids places) ≡ ids_at ids places
   pub rises : rising id_size (entries record_size count t) ≡ true
   pub bytes : Bytes t
@@ -129,9 +127,6 @@ module _ {clock type_id peer most count : ℕ} {t ids places first : List ℕ} (
   abbrev left : Front → List (List ℕ)
   left front = left_over clock type_id peer t ids places count front.ids front.records
 
-  pub merge_starts : Held first (record { records = 0; ids = 0; held = 0 })
-  merge_starts = record { records_le = omega arith; ids_le = omega arith; held_le = omega arith; long = refl; done = refl }
-
   -- a turn, with ids left and no record too many
   module _ {room : List ℕ} {front : Front} (s : Held room front) (test : ltb front.ids (length places) && leb front.held most ≡ true) where
     abbrev requests : List Request
@@ -148,15 +143,6 @@ module _ {clock type_id peer most count : ℕ} {t ids places first : List ℕ} (
 
     in-room : front.held * record_size + record_size ≤ length room
     in-room = omega (arith, mul-le-mul_right record_size held, s.long, pass.fits)
-
-    -- what a turn asks
-    pub turn_asks : (blank : List ℕ) → blank ≡ request_bytes (new_request clock type_id peer (zeros id_size))
-        → ((count * record_size ≤ length t) × ((front.records ≤ count) × ((count ≤ tracked_limit) × (length blank ≡ record_size))))
-        × (All (Listed ids) places × ((front.ids < length places) × ((length places ≤ tracked_limit) × (front.held * record_size + record_size ≤ length room))))
-    turn_asks blank e = (
-      (pass.records_in, (s.records_le, (omega (arith, pass.count_le, pass.most_le), blank_long clock type_id peer blank e))),
-      (pass.listed, (inside, (pass.places_le, in-room))),
-    )
 
     skipped : left front ≡ left_over clock type_id peer t ids places count (front.ids + 1) front.records
         → Held room (record { records = front.records; ids = front.ids + 1; held = front.held })

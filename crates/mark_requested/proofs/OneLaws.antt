@@ -14,8 +14,7 @@ use Rattle.fields.specs.Entries.{entries, rising, inserted_at, replaced}
 use Rattle.fields.proofs.SortLaws.{length_inserted, map_inserted}
 use Rattle.fields.proofs.EntriesLaws.{Wide, length_entries, entries_wide, entries_bytes}
 use Rattle.keys.specs.Find.{found}
-use Rattle.keys.specs.declared.find.Found.{Found}
-use Rattle.keys.specs.declared.find.Found.TheVariants.{At, Gap}
+use Rattle.std.proofs.Common.{Result, Ok, Err}
 use Rattle.keys.proofs.FindLaws.{gap_stop}
 use Rattle.model.specs.Delivery.{Request, is_pending, id_before, mark_requested}
 use Rattle.model.specs.Image.{request_of, request_bytes}
@@ -68,13 +67,13 @@ module _ {clock type_id peer count : ℕ} {id t : List ℕ} (one : One clock typ
   pub new_long : length (request_bytes new) ≡ record_size
   new_long = length_request new one.long
 
-  pub one_pending : {i : ℕ} {answer : Found} → answer ≡ found id 0 es → answer ≡ At i → (count ≡ length marked) × (t ≡ holding count marked t)
+  pub one_pending : {i : ℕ} {answer : Result ℕ ℕ} → answer ≡ found id 0 es → answer ≡ Ok i → (count ≡ length marked) × (t ≡ holding count marked t)
   one_pending {i} e h =
       let p : is_pending id (requests_in count t) ≡ true = pending_key id es one.long ∙ found_has id es i (sym e ∙ h) in
       rw p (sym (length_requests count t), sym (holding_same count t one.fits one.bytes))
 
-  module _ {g : ℕ} {answer : Found} (e : answer ≡ found id 0 es) (h : answer ≡ Gap g) where
-    gap : found id 0 es ≡ Gap g
+  module _ {g : ℕ} {answer : Result ℕ ℕ} (e : answer ≡ found id 0 es) (h : answer ≡ Err g) where
+    gap : found id 0 es ≡ Err g
     gap = sym e ∙ h
 
     absent : is_pending id (requests_in count t) ≡ false

@@ -1,11 +1,11 @@
 -- The places of all ids, sorted.
-use Prim.Native.Nat.{ℕ, ◌/◌, ◌≤◌}
+use Prim.Native.Nat.{ℕ, ◌/◌}
 use mathlib.Core.Path.{◌≡◌, ap, ◌∙◌}
 use mathlib.Core.List.{List}
 use native.Mathlib.Omega.{arith}
-use lib.ListN.{length, take, replicate, length-replicate}
-use lib.Seq.{length-take-le}
-use Rattle.fields.specs.Facts.{All}
+use lib.ListN.{length, get_or}
+use Rattle.std.specs.List.{EachIndex}
+use Rattle.fields.proofs.AllLaws.{all_at}
 use Rattle.fields.specs.Order.{before}
 use Rattle.fields.specs.Sort.{sorted}
 use Rattle.order.specs.Numbers.{numbers_from}
@@ -13,8 +13,7 @@ use Rattle.order.specs.Places.{key_below}
 use Rattle.order.proofs.WholeLaws as whole
 use Rattle.model.specs.Lists.{ids_in}
 use Rattle.mark_requested.specs.Choices.{Listed, ids_at}
-use Rattle.model.specs.Layout.{id_list_size, id_size}
-use Rattle.model.specs.Protocol.{tracked_limit}
+use Rattle.model.specs.Layout.{id_size}
 
 module _ (ids : List ℕ) {numbers places : List ℕ} (n : ℕ) (en : n ≡ length ids / id_size)
     (e₁ : numbers ≡ numbers_from 0 n) (e₂ : places ≡ sorted (key_below 32 0 32 ids) numbers) where
@@ -25,15 +24,5 @@ module _ (ids : List ℕ) {numbers places : List ℕ} (n : ℕ) (en : n ≡ leng
   unfolding ids_in
   sorted_ids = rw en at (whole.sorted_entries id_size ids places n (omega arith) both)
 
-  pub sorted_listed : All (Listed ids) places
-  sorted_listed = whole.sorted_within 32 ids places n (omega arith) both
-
--- ---- room for the places
-
-abbrev no_places : List ℕ
-no_places = replicate tracked_limit 0
-
-pub room_long : (size : ℕ) → size ≤ id_list_size → length (take (size / id_size) no_places) ≡ size / id_size
-room_long size h =
-    let l : length no_places ≡ tracked_limit = length-replicate {A = ℕ} tracked_limit 0 in
-    length-take-le (size / id_size) no_places (omega arith)
+  pub sorted_listed : EachIndex places (λ j. Listed ids (get_or places j 0))
+  sorted_listed = λ j h. all_at (Listed ids) places j 0 h (whole.sorted_within 32 ids places n (omega arith) both)

@@ -1,5 +1,5 @@
 -- A table of requests and a sorted list of ids: which of the two comes next.
-use Rattle.std.specs.Prelude.{ℕ, ◌+◌, ◌*◌, ◌≤◌, Bool, true, false, cond, List, [], ◌∷◌, map, length}
+use Rattle.std.specs.Prelude.{ℕ, ◌+◌, ◌*◌, ◌≤◌, Bool, false, cond, List, [], ◌∷◌, map, length}
 use Rattle.fields.specs.Order.{before, same}
 use Rattle.fields.specs.Entries.{entry}
 use Rattle.model.specs.Protocol.{Id}

@@ -1,7 +1,9 @@
 // A new request: its record, and the places of a few ids in the table of pending requests.
 //
 // An id costs a search and a move of the records behind it.
-ghost use Rattle.std.specs.Prelude.{◌≡◌, true, ◌+◌, ◌*◌, ◌/◌, ◌%◌, ◌≤◌, [], ◌∷◌, length};
+//
+// The table is written, so count and facts stand beside it.
+ghost use Rattle.std.specs.Prelude.{◌≡◌, true, ◌+◌, ◌*◌, ◌/◌, ◌≤◌, [], ◌∷◌, length};
 ghost use Rattle.fields.specs.Overwrite.{overwritten};
 ghost use Rattle.model.specs.Image.{request_bytes};
 ghost use Rattle.fields.specs.Entries.{entries, rising};
@@ -11,50 +13,54 @@ ghost use Rattle.commands.specs.Pending.{requests_in, holding};
 ghost use Rattle.mark_requested.specs.Marking.{new_request};
 ghost use Rattle.model.specs.Layout.{id_size, record_size};
 
-use keys::find::Found;
-use model::layout::{ID_SIZE, RECORD_SIZE};
+use keys::Entries;
+use model::layout::{CHECKS_AT, ID_SIZE, PEER_AT, RECORD_SIZE, STAMP_AT, TYPE_AT};
 
-// How many requests are pending, or that they would be too many.
+// What the new requests of one call have in common.
 #[derive(Clone, Copy)]
-pub enum Marked {
-    Pending(usize),
-    Full,
+pub struct Asking {
+    pub clock: u64,
+    pub typeid: u8,
+    pub peer: u64,
 }
 
 // The record of a new request at `at`.
-fn put_record(out: &mut [u8], at: usize, clock: u64, typeid: u8, peer: u64, id: &[u8])
-    requires { (length id.now ≡ id_size) × (at + record_size ≤ length out.old) }
-    ensures { out.new ≡ overwritten at (request_bytes (new_request clock typeid peer id.now)) out.old }
+fn put_record(out: &mut [u8], at: usize, asking: Asking, id: &[u8; ID_SIZE])
+    requires { at + record_size ≤ length out.old }
+    ensures { out.new ≡ overwritten at (request_bytes (new_request asking.clock asking.typeid asking.peer id.now)) out.old }
 {
-    let kind = typeid as u16;
     spans::moving::overwrite(out, at, id);
-    fields::write_u64(out, at + ID_SIZE, peer);
-    fields::write_u16(out, at + 40, kind);
-    fields::write_u64(out, at + 42, clock);
-    fields::write_u32(out, at + 50, 0);
+    fields::write_u64(out, at + PEER_AT, asking.peer);
+    fields::write_u16(out, at + TYPE_AT, u16::from(asking.typeid));
+    fields::write_u64(out, at + STAMP_AT, asking.clock);
+    fields::write_u32(out, at + CHECKS_AT, 0);
 }
 
 // The record of a new request.
-pub fn new_record(clock: u64, typeid: u8, peer: u64, id: &[u8]) -> [u8; RECORD_SIZE]
-    requires { length id.now ≡ id_size }
-    ensures { result ≡ request_bytes (new_request clock typeid peer id.now) }
+pub fn new_record(asking: Asking, id: &[u8; ID_SIZE]) -> [u8; RECORD_SIZE]
+    ensures { result ≡ request_bytes (new_request asking.clock asking.typeid asking.peer id.now) }
 {
     let mut record = [0u8; RECORD_SIZE];
-    put_record(&mut record, 0, clock, typeid, peer, id);
+    put_record(&mut record, 0, asking, id);
     record
 }
 
 // One id, by a search and a move of the records behind it. Answers how many requests are pending then.
-fn mark_one(table: &mut [u8], count: usize, clock: u64, typeid: u8, peer: u64, id: &[u8]) -> usize
-    requires id_len { (length id.now ≡ id_size) × (count * record_size + record_size ≤ length table.old) }
+fn mark_one(table: &mut [u8], count: usize, asking: Asking, id: &[u8; ID_SIZE]) -> usize
+    requires room { count * record_size + record_size ≤ length table.old }
     requires table_value { rising id_size (entries record_size count table.old) ≡ true }
-    ensures value { result ≡ length (mark_requested clock typeid peer (id.now ∷ []) (requests_in count table.old)) }
-    ensures table_after { table.new ≡ holding count (mark_requested clock typeid peer (id.now ∷ []) (requests_in count table.old)) table.old }
+    ensures value { result ≡ length (mark_requested asking.clock asking.typeid asking.peer (id.now ∷ []) (requests_in count table.old)) }
+    ensures table_after { table.new ≡ holding count (mark_requested asking.clock asking.typeid asking.peer (id.now ∷ []) (requests_in count table.old)) table.old }
 {
-    match keys::find::find(table, RECORD_SIZE, count, id) {
-        Found::At(_) => count,
-        Found::Gap(gap) => {
-            let record = new_record(clock, typeid, peer, id);
+    let records = Entries {
+        bytes: table,
+        width: RECORD_SIZE,
+        count,
+    };
+    match keys::find::find(records, id) {
+        Ok(_) => count,
+        Err(gap) => {
+            let record = new_record(asking, id);
             table::edit::insert(table, RECORD_SIZE, count, gap, &record);
             count + 1
         }
@@ -62,25 +68,15 @@ fn mark_one(table: &mut [u8], count: usize, clock: u64, typeid: u8, peer: u64, i
 }
 
 // Ids one after another into a table that has room for all of them. Answers how many requests are pending then.
-pub fn mark_each(
-    table: &mut [u8],
-    count: usize,
-    clock: u64,
-    typeid: u8,
-    peer: u64,
-    ids: &[u8],
-) -> usize
-    requires id_size_len { (length ids.now % id_size ≡ 0) × ((count + length ids.now / id_size) * record_size ≤ length table.old) }
+pub fn mark_each(table: &mut [u8], count: usize, asking: Asking, ids: &[u8]) -> usize
+    requires room { (count + length ids.now / id_size) * record_size ≤ length table.old }
     requires table_value { rising id_size (entries record_size count table.old) ≡ true }
-    ensures value { result ≡ length (mark_requested clock typeid peer (ids_in ids.now) (requests_in count table.old)) }
-    ensures table_after { table.new ≡ holding count (mark_requested clock typeid peer (ids_in ids.now) (requests_in count table.old)) table.old }
+    ensures value { result ≡ length (mark_requested asking.clock asking.typeid asking.peer (ids_in ids.now) (requests_in count table.old)) }
+    ensures table_after { table.new ≡ holding count (mark_requested asking.clock asking.typeid asking.peer (ids_in ids.now) (requests_in count table.old)) table.old }
 {
     let mut pending = count;
-    let mut at = 0;
-    while at < ids.len() {
-        let end = at + ID_SIZE;
-        pending = mark_one(table, pending, clock, typeid, peer, &ids[at..end]);
-        at = end;
+    for id in ids.as_chunks::<ID_SIZE>().0 {
+        pending = mark_one(table, pending, asking, id);
     }
     pending
 }

@@ -3,14 +3,15 @@
 // Equal to `mark_requested` of model/specs/Delivery.antt, one id after another. Only the table is written; where it would
 // hold too many, it stays. A few ids cost a search and a move of the records behind them each. Many are sorted and merged
 // with the table in one pass.
+//
+// The table is written, so count and facts stand beside it: a ghost field would have to hold at each write.
 #![tactic(auto)]
 
-pub mod choosing;
+mod choosing;
 pub mod entering;
 pub mod merging;
 
-ghost use Rattle.std.specs.Prelude.{◌≡◌, true, ◌+◌, ◌*◌, ◌/◌, ◌%◌, ◌≤◌, length};
-ghost use Rattle.fields.specs.Facts.{All};
+ghost use Rattle.std.specs.Prelude.{◌≡◌, true, ◌+◌, ◌*◌, ◌/◌, ◌%◌, ◌≤◌, length, slice_index, EachIndex};
 ghost use Rattle.fields.specs.Order.{before};
 ghost use Rattle.fields.specs.Sort.{sorted};
 ghost use Rattle.fields.specs.Entries.{entries, rising};
@@ -22,17 +23,35 @@ ghost use Rattle.mark_requested.specs.Choices.{Listed, ids_at};
 ghost use Rattle.model.specs.Layout.{id_list_size, id_size, record_size};
 ghost use Rattle.model.specs.Protocol.{tracked_limit};
 
-use crate::entering::Marked;
+use commands::pending::Pending;
+use commands::tracker::TrackerError;
+use entering::Asking;
 use model::layout::{ID_SIZE, RECORD_SIZE, TRACKED_LIMIT};
+use order::SortKey;
+
+// Ids, and places of some of them.
+#[derive(Clone, Copy)]
+pub struct Placed<'a> {
+    pub ids: &'a [u8],
+    pub places: &'a [u16],
+    ghost listed: { EachIndex places.now (λ j. Listed ids.now (slice_index places.now j)) },
+    ghost few: { length places.now ≤ tracked_limit },
+}
 
 // The places of all ids, in the order of the ids.
 fn sort_ids(ids: &[u8], places: &mut [u16], spare: &mut [u16])
     requires { (length places.old ≡ length ids.now / id_size) × ((length spare.old ≡ length places.old) × (length ids.now ≤ id_list_size)) }
     ensures places_after { ids_at ids.now places.new ≡ sorted before (ids_in ids.now) }
-    ensures all { All (Listed ids.now) places.new }
+    ensures listed { EachIndex places.new (λ j. Listed ids.now (slice_index places.new j)) }
 {
     order::places::number(places);
-    order::sort(ids, 32, 0, 32, places, spare);
+    let whole = SortKey {
+        table: ids,
+        width: ID_SIZE,
+        at: 0,
+        size: ID_SIZE,
+    };
+    order::sort(whole, places, spare);
 }
 
 // The same as `mark_requested` for many ids at once, with room to work in: `places`, `spare` and `room`.
@@ -40,28 +59,23 @@ fn mark_many(
     table: &mut [u8],
     count: usize,
     most: usize,
-    clock: u64,
-    typeid: u8,
-    peer: u64,
+    asking: Asking,
     ids: &[u8],
     places: &mut [u16],
     spare: &mut [u16],
     room: &mut [u8],
-) -> Marked
+) -> Result<usize, TrackerError>
     requires id_size_len { (length ids.now % id_size ≡ 0) × ((length ids.now ≤ id_list_size) × ((count ≤ most) × ((most ≤ tracked_limit) × (most * record_size ≤ length table.old)))) }
     requires places_len { (length places.old ≡ length ids.now / id_size) × ((length spare.old ≡ length places.old) × (most * record_size + record_size ≤ length room.old)) }
     requires table_value { rising id_size (entries record_size count table.old) ≡ true }
-    ensures value { result ≡ marked_as most (mark_requested clock typeid peer (ids_in ids.now) (requests_in count table.old)) }
-    ensures table_after { table.new ≡ held_within most count (mark_requested clock typeid peer (ids_in ids.now) (requests_in count table.old)) table.old }
+    ensures value { result ≡ marked_as most (mark_requested asking.clock asking.typeid asking.peer (ids_in ids.now) (requests_in count table.old)) }
+    ensures table_after { table.new ≡ held_within most count (mark_requested asking.clock asking.typeid asking.peer (ids_in ids.now) (requests_in count table.old)) table.old }
 {
     sort_ids(ids, places, spare);
-    match crate::merging::merge(table, count, most, clock, typeid, peer, ids, places, room) {
-        Marked::Full => Marked::Full,
-        Marked::Pending(held) => {
-            spans::copying::copy_prefix(room, held * RECORD_SIZE, table);
-            Marked::Pending(held)
-        }
-    }
+    let pending = Pending { table, count };
+    let held = crate::merging::merge(pending, most, asking, Placed { ids, places }, room)?;
+    spans::copying::copy_prefix(room, held * RECORD_SIZE, table);
+    Ok(held)
 }
 
 // Each id enters once, with type and peer, stamp `clock` and checks 0, unless it is pending. With more than `most`
@@ -74,17 +88,23 @@ pub fn mark_requested(
     typeid: u8,
     peer: u64,
     ids: &[u8],
-) -> Marked
+) -> Result<usize, TrackerError>
     requires id_size_len { (length ids.now % id_size ≡ 0) × ((length ids.now ≤ id_list_size) × ((count ≤ most) × ((most ≤ tracked_limit) × (most * record_size ≤ length table.old)))) }
     requires table_value { rising id_size (entries record_size count table.old) ≡ true }
     ensures value { result ≡ marked_as most (mark_requested clock typeid peer (ids_in ids.now) (requests_in count table.old)) }
     ensures table_after { table.new ≡ held_within most count (mark_requested clock typeid peer (ids_in ids.now) (requests_in count table.old)) table.old }
 {
+    let asking = Asking {
+        clock,
+        typeid,
+        peer,
+    };
     let number = ids.len() / ID_SIZE;
     // A table that fills up must stay as it was, so ids go in one after another only where all of them have room.
     if (number <= 8) & (count + number <= most) {
-        return Marked::Pending(crate::entering::mark_each(table, count, clock, typeid, peer, ids));
+        return Ok(crate::entering::mark_each(table, count, asking, ids));
     }
+    // Arrays, of which a part is used: there is no heap here.
     let mut places = [0u16; TRACKED_LIMIT];
     let mut spare = [0u16; TRACKED_LIMIT];
     let mut room = [0u8; 55350];
@@ -92,9 +112,7 @@ pub fn mark_requested(
         table,
         count,
         most,
-        clock,
-        typeid,
-        peer,
+        asking,
         ids,
         &mut places[..number],
         &mut spare[..number],

@@ -1,23 +1,25 @@
 // The pending requests and sorted ids merged into a room, in one pass.
-ghost use Rattle.std.specs.Prelude.{◌≡◌, true, cond, ◌++◌, map, ◌+◌, ◌-◌, ◌*◌, ◌≤◌, ◌<◌, length, take, drop, get_or, leb};
-ghost use Rattle.fields.specs.Facts.{All};
+ghost use Rattle.std.specs.Prelude.{◌≡◌, true, cond, ◌++◌, map, ◌+◌, ◌-◌, ◌*◌, ◌≤◌, ◌<◌, length, take, drop, get_or, leb, Ok, Err};
 ghost use Rattle.fields.specs.Zero.{zeros};
 ghost use Rattle.fields.specs.Order.{before};
 ghost use Rattle.fields.specs.Sort.{sorted};
-ghost use Rattle.fields.specs.Entries.{entries, entry, rising};
+ghost use Rattle.fields.specs.Entries.{entries, entry};
 ghost use Rattle.fields.specs.Overwrite.{overwritten};
 ghost use Rattle.model.specs.Delivery.{mark_requested};
 ghost use Rattle.model.specs.Image.{request_of, request_bytes};
 ghost use Rattle.commands.specs.Pending.{requests_in};
 ghost use Rattle.mark_requested.specs.Marking.{marked_as, new_request};
-ghost use Rattle.mark_requested.specs.declared.entering.Marked.TheVariants.{Pending, Full};
-ghost use Rattle.mark_requested.specs.Choices.{Listed, ids_at, choice_at};
+ghost use Rattle.commands.specs.declared.tracker.TrackerError.TheVariants.{Full};
+ghost use Rattle.mark_requested.specs.Choices.{ids_at, choice_at};
 ghost use Rattle.mark_requested.specs.Turns.{front_after, room_after};
 ghost use Rattle.model.specs.Layout.{id_size, record_size};
 ghost use Rattle.model.specs.Protocol.{tracked_limit};
 
+use crate::Placed;
 use crate::choosing::Choice;
-use crate::entering::Marked;
+use crate::entering::Asking;
+use commands::pending::Pending;
+use commands::tracker::TrackerError;
 use model::layout::{ID_SIZE, RECORD_SIZE};
 
 // How far the pass is: records and ids dealt with, records in the room.
@@ -29,16 +31,16 @@ pub struct Front {
 }
 
 // A new request without its id: all of them share what follows the id.
-fn blank_record(clock: u64, typeid: u8, peer: u64) -> [u8; RECORD_SIZE]
-    ensures { result ≡ request_bytes (new_request clock typeid peer (zeros id_size)) }
+fn blank_record(asking: Asking) -> [u8; RECORD_SIZE]
+    ensures { result ≡ request_bytes (new_request asking.clock asking.typeid asking.peer (zeros id_size)) }
 {
-    let id = [0u8; 32];
-    crate::entering::new_record(clock, typeid, peer, &id)
+    let id = [0u8; ID_SIZE];
+    crate::entering::new_record(asking, &id)
 }
 
 // A new request's record, its id and then what all share.
-fn put_new(room: &mut [u8], at: usize, id: &[u8], blank: &[u8])
-    requires { (length id.now ≡ id_size) × ((length blank.now ≡ record_size) × (at + record_size ≤ length room.old)) }
+fn put_new(room: &mut [u8], at: usize, id: &[u8; ID_SIZE], blank: &[u8; RECORD_SIZE])
+    requires { at + record_size ≤ length room.old }
     ensures { room.new ≡ overwritten at (id.now ++ drop id_size blank.now) room.old }
 {
     spans::moving::overwrite(room, at, id);
@@ -47,46 +49,39 @@ fn put_new(room: &mut [u8], at: usize, id: &[u8], blank: &[u8])
 
 // One step of the pass; `blank` has what follows a new id.
 fn turn(
-    table: &[u8],
-    count: usize,
-    ids: &[u8],
-    places: &[u16],
-    blank: &[u8],
+    pending: Pending,
+    new: Placed,
+    blank: &[u8; RECORD_SIZE],
     front: Front,
     room: &mut [u8],
 ) -> Front
-    requires record_size_in_bounds { (count * record_size ≤ length table.now) × ((front.records ≤ count) × ((count ≤ tracked_limit) × (length blank.now ≡ record_size))) }
-    requires all { All (Listed ids.now) places.now × ((front.ids < length places.now) × ((length places.now ≤ tracked_limit) × (front.held * record_size + record_size ≤ length room.old))) }
-    ensures value { result ≡ front_after (choice_at (ids_at ids.now (drop front.ids places.now)) (map request_of (drop front.records (entries record_size count table.now)))) front }
-    ensures room_after { room.new ≡ room_after (choice_at (ids_at ids.now (drop front.ids places.now)) (map request_of (drop front.records (entries record_size count table.now)))) (entry record_size front.records table.now) (entry id_size (get_or places.now front.ids 0) ids.now ++ drop id_size blank.now) front.held room.old }
+    requires { (front.records ≤ pending.count) × ((front.ids < length new.places.now) × (front.held * record_size + record_size ≤ length room.old)) }
+    ensures value { result ≡ front_after (choice_at (ids_at new.entry.ids.now (drop front.ids new.entry.places.now)) (map request_of (drop front.records (entries record_size pending.entry.count pending.entry.table.now)))) front }
+    ensures room_after { room.new ≡ room_after (choice_at (ids_at new.entry.ids.now (drop front.ids new.entry.places.now)) (map request_of (drop front.records (entries record_size pending.entry.count pending.entry.table.now)))) (entry record_size front.records pending.entry.table.now) (entry id_size (get_or new.entry.places.now front.ids 0) new.entry.ids.now ++ drop id_size blank.now) front.held room.old }
 {
-    let records = front.records;
-    let done = front.ids;
-    let held = front.held;
-    match crate::choosing::next_choice(table, count, records, ids, places, done) {
+    match crate::choosing::next_choice(pending, front.records, new, front.ids) {
         Choice::Keep => {
-            let from = records * RECORD_SIZE;
+            let from = front.records * RECORD_SIZE;
             let end = from + RECORD_SIZE;
-            spans::moving::overwrite(room, held * RECORD_SIZE, &table[from..end]);
+            spans::moving::overwrite(room, front.held * RECORD_SIZE, &pending.table[from..end]);
             Front {
-                records: records + 1,
-                ids: done,
-                held: held + 1,
+                records: front.records + 1,
+                held: front.held + 1,
+                ..front
             }
         }
         Choice::Skip => Front {
-            records,
-            ids: done + 1,
-            held,
+            ids: front.ids + 1,
+            ..front
         },
         Choice::Enter => {
-            let from = order::places::wide(places[done]) * ID_SIZE;
-            let end = from + ID_SIZE;
-            put_new(room, held * RECORD_SIZE, &ids[from..end], blank);
+            let (ids, _) = new.ids.as_chunks::<ID_SIZE>();
+            let id = &ids[usize::from(new.places[front.ids])];
+            put_new(room, front.held * RECORD_SIZE, id, blank);
             Front {
-                records,
-                ids: done + 1,
-                held: held + 1,
+                ids: front.ids + 1,
+                held: front.held + 1,
+                ..front
             }
         }
     }
@@ -94,53 +89,47 @@ fn turn(
 
 // The records that are left go behind those in the room, unless they are too many.
 fn put_rest(
-    table: &[u8],
-    count: usize,
+    pending: Pending,
     most: usize,
-    records: usize,
-    held: usize,
+    front: Front,
     room: &mut [u8],
-) -> Marked
-    requires { (count * record_size ≤ length table.now) × ((records ≤ count) × ((count ≤ tracked_limit) × ((held ≤ 1025) × (most * record_size ≤ length room.old)))) }
-    ensures value { result ≡ cond (leb (held + (count - records)) most) (Pending (held + (count - records))) Full }
-    ensures room_after { leb (held + (count - records)) most ≡ true → room.new ≡ overwritten (held * record_size) (take ((count - records) * record_size) (drop (records * record_size) table.now)) room.old }
+) -> Result<usize, TrackerError>
+    requires { (front.records ≤ pending.count) × ((front.held ≤ 1025) × (most * record_size ≤ length room.old)) }
+    ensures value { result ≡ cond (leb (front.held + (pending.entry.count - front.records)) most) (Ok (front.held + (pending.entry.count - front.records))) (Err Full) }
+    ensures room_after { leb (front.held + (pending.entry.count - front.records)) most ≡ true → room.new ≡ overwritten (front.held * record_size) (take ((pending.entry.count - front.records) * record_size) (drop (front.records * record_size) pending.entry.table.now)) room.old }
 {
-    let total = held + (count - records);
+    let total = front.held + (pending.count - front.records);
     if most < total {
-        return Marked::Full;
+        return Err(TrackerError::Full);
     }
-    let from = records * RECORD_SIZE;
-    let end = count * RECORD_SIZE;
-    spans::moving::overwrite(room, held * RECORD_SIZE, &table[from..end]);
-    Marked::Pending(total)
+    let from = front.records * RECORD_SIZE;
+    let end = pending.count * RECORD_SIZE;
+    spans::moving::overwrite(room, front.held * RECORD_SIZE, &pending.table[from..end]);
+    Ok(total)
 }
 
 // Table and sorted ids merged into the room. The pass stops where one record too many is in it.
 pub fn merge(
-    table: &[u8],
-    count: usize,
+    pending: Pending,
     most: usize,
-    clock: u64,
-    typeid: u8,
-    peer: u64,
-    ids: &[u8],
-    places: &[u16],
+    asking: Asking,
+    new: Placed,
     room: &mut [u8],
-) -> Marked
-    requires record_size_in_bounds { (count * record_size ≤ length table.now) × ((count ≤ most) × ((most ≤ tracked_limit) × ((length places.now ≤ tracked_limit) × (most * record_size + record_size ≤ length room.old)))) }
-    requires all { All (Listed ids.now) places.now × (sorted before (ids_at ids.now places.now) ≡ ids_at ids.now places.now) }
-    requires table_value { rising id_size (entries record_size count table.now) ≡ true }
-    ensures value { result ≡ marked_as most (mark_requested clock typeid peer (ids_at ids.now places.now) (requests_in count table.now)) }
-    ensures room_after { leb (length (mark_requested clock typeid peer (ids_at ids.now places.now) (requests_in count table.now))) most ≡ true → entries record_size (length (mark_requested clock typeid peer (ids_at ids.now places.now) (requests_in count table.now))) room.new ≡ map request_bytes (mark_requested clock typeid peer (ids_at ids.now places.now) (requests_in count table.now)) }
+) -> Result<usize, TrackerError>
+    requires le_most { (pending.count ≤ most) × ((most ≤ tracked_limit) × (most * record_size + record_size ≤ length room.old)) }
+    requires in_order { sorted before (ids_at new.ids.now new.places.now) ≡ ids_at new.ids.now new.places.now }
+    ensures value { result ≡ marked_as most (mark_requested asking.clock asking.typeid asking.peer (ids_at new.entry.ids.now new.entry.places.now) (requests_in pending.entry.count pending.entry.table.now)) }
+    ensures room_after { leb (length (mark_requested asking.clock asking.typeid asking.peer (ids_at new.entry.ids.now new.entry.places.now) (requests_in pending.entry.count pending.entry.table.now))) most ≡ true → entries record_size (length (mark_requested asking.clock asking.typeid asking.peer (ids_at new.entry.ids.now new.entry.places.now) (requests_in pending.entry.count pending.entry.table.now))) room.new ≡ map request_bytes (mark_requested asking.clock asking.typeid asking.peer (ids_at new.entry.ids.now new.entry.places.now) (requests_in pending.entry.count pending.entry.table.now)) }
 {
-    let blank = blank_record(clock, typeid, peer);
+    let blank = blank_record(asking);
     let mut front = Front {
         records: 0,
         ids: 0,
         held: 0,
     };
-    while (front.ids < places.len()) & (front.held <= most) {
-        front = turn(table, count, ids, places, &blank, front, room);
+    // No `for`: a turn takes a record, an id or both, and what they are decides which.
+    while (front.ids < new.places.len()) & (front.held <= most) {
+        front = turn(pending, new, &blank, front, room);
     }
-    put_rest(table, count, most, front.records, front.held, room)
+    put_rest(pending, most, front, room)
 }

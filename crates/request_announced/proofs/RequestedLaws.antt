@@ -1,10 +1,11 @@
 -- One list through rule 3: what is answered and written in each of its ways out.
-use Prim.Native.Nat.{ℕ, ◌+◌, ◌*◌, ◌/◌, ◌%◌, ◌^◌, ◌≤◌, ◌<◌}
-use mathlib.Core.Path.{◌≡◌, refl, sym, ap, ◌∙◌}
+use Prim.Native.Nat.{ℕ, ◌+◌, ◌*◌, ◌/◌, ◌^◌, ◌≤◌, ◌<◌}
+use Rattle.std.proofs.Common.{◌≢◌}
+use mathlib.Core.Path.{◌≡◌, refl, sym, ap, subst, ◌∙◌}
 use mathlib.Core.Bool.{Bool, true, false, not}
 use mathlib.Core.List.{List, [], ◌∷◌, ◌++◌, append-nil}
 use native.Mathlib.Omega.{arith}
-use native.Mathlib.Nat.{add-zero, mul-le-mul_right}
+use native.Mathlib.Nat.{mul-le-mul_right}
 use lib.Dec.{leb}
 use lib.ListN.{length, take}
 use borrow.Author.Tests.{le-leb, not-true, not-false}
@@ -12,12 +13,13 @@ use Rattle.fields.specs.Facts.{Bytes}
 use Rattle.fields.specs.Entries.{entries, joined, rising}
 use Rattle.fields.specs.Filter.{kept}
 use Rattle.fields.specs.Overwrite.{overwritten}
-use Rattle.fields.proofs.OverwriteLaws.{overwritten_nil, front_read_back}
+use Rattle.fields.proofs.OverwriteLaws.{front_read_back}
 use Rattle.fields.proofs.FilterLaws.{length_kept}
+use Rattle.fields.proofs.NumberLaws.{bytes_take}
 use Rattle.fields.proofs.EntriesLaws.{Wide, entries_joined, length_joined}
 use Rattle.model.specs.Protocol.{Id, tracked_limit}
 use Rattle.model.specs.Delivery.{Request, is_pending, mark_requested}
-use Rattle.model.specs.Requests.{is_stored, request, commands_of, request_of, wanted, request_announced, perform, ask}
+use Rattle.model.specs.Requests.{Sending, is_stored, request, commands_of, request_of, wanted, request_announced, perform, ask}
 use Rattle.model.specs.Requests as model
 use Rattle.model.specs.Commands.{all_command_bytes}
 use Rattle.model.specs.Lists.{ids_in, pairs_in}
@@ -26,46 +28,49 @@ use Rattle.model.proofs.PendingLaws.{wanted_well}
 use Rattle.model.proofs.CommandLaws.{ids_wide}
 use Rattle.model.proofs.SendingLaws.{sendings_bytes}
 use Rattle.commands.specs.Pending.{requests_in}
-use Rattle.commands.specs.Sent.{sent_bytes}
+use Rattle.commands.specs.Sent.{sent_at, behind}
+use Rattle.commands.specs.declared.place.Place.{Place}
+use Rattle.commands.proofs.SentLaws.{sent_none, behind_none, sent_one}
 use Rattle.mark_requested.specs.Marking.{marked_as, held_within}
-use Rattle.mark_requested.specs.declared.entering.Marked.{Marked}
-use Rattle.mark_requested.specs.declared.entering.Marked.TheVariants as marked
+use Rattle.std.proofs.Common.{Result, Ok, Err}
+use Rattle.commands.specs.declared.tracker.TrackerError.{TrackerError}
+use Rattle.commands.specs.declared.tracker.TrackerError.TheVariants.{Full}
 use Rattle.commands.proofs.WriteLaws.{length_ids, counted_ids}
 use Rattle.mark_requested.proofs.AnswerLaws.{marked_pending, marked_full, few_held}
 use Rattle.commands.proofs.RecordedLaws.{well_ids}
 use Rattle.commands.proofs.HoldingLaws.{length_requests, holding_same}
 use Rattle.request_announced.specs.Requested.{requested_as, sent_within}
-use Rattle.request_announced.specs.declared.request.Requested.{Requested}
 use Rattle.request_announced.specs.declared.request.Written.{Written}
-use Rattle.request_announced.specs.declared.request.Requested.TheVariants.{Done, Full}
 use Rattle.model.specs.Layout.{command_size, id_list_size, id_size, record_size}
 
 -- ---- the answer, by how many would be pending
 
 -- what is answered of acts for which there is room
-abbrev pub written_to : ℕ → ℕ → model.Done → Written
-written_to at batch done =
-    record { count = length done.pending; at = at + length (sent_bytes batch done.sendings); batch = batch + length done.sendings }
+abbrev pub written_to : Place → model.Done → Written
+written_to place done = record { count = length done.pending; place = behind place done.sendings }
 
-module _ (most at batch : ℕ) (done : model.Done) where
-  pub few_requested : leb (length done.pending) most ≡ true → requested_as most at batch done ≡ Done (written_to at batch done)
+module _ (most : ℕ) (place : Place) (done : model.Done) where
+  pub few_requested : leb (length done.pending) most ≡ true → requested_as most place done ≡ Ok (written_to place done)
   unfolding requested_as
   few_requested h = rw h
 
-  pub many_requested : leb (length done.pending) most ≡ false → requested_as most at batch done ≡ Full
+  pub many_requested : leb (length done.pending) most ≡ false → requested_as most place done ≡ Err Full
   unfolding requested_as
   many_requested h = rw h
 
-  pub few_sent : (o : List ℕ) → leb (length done.pending) most ≡ true
-      → sent_within most at batch done o ≡ overwritten at (sent_bytes batch done.sendings) o
+  pub few_sent : (o : List ℕ) → leb (length done.pending) most ≡ true → sent_within most place done o ≡ sent_at place done.sendings o
   unfolding sent_within
   few_sent o h = rw h
 
-  pub many_sent : (o : List ℕ) → leb (length done.pending) most ≡ false → sent_within most at batch done o ≡ o
+  pub many_sent : (o : List ℕ) → leb (length done.pending) most ≡ false → sent_within most place done o ≡ o
   unfolding sent_within
   many_sent o h = rw h
 
--- ---- what a list goes through rule 3 with: the parameters of `mark_and_send`
+-- the tracker has one error
+pub is_full : (e : TrackerError) → e ≡ Full
+is_full Full = refl
+
+-- ---- what a list goes through rule 3 with
 
 pub record Given : Type 0 where
   pub table : List ℕ
@@ -76,12 +81,14 @@ pub record Given : Type 0 where
   pub peer : ℕ
   pub ids : List ℕ
   pub out : List ℕ
-  pub at : ℕ
-  pub batch : ℕ
+  pub place : Place
+
+abbrev pub given : List ℕ → ℕ → ℕ → ℕ → ℕ → ℕ → List ℕ → List ℕ → Place → Given
+given table count most clock typeid peer ids out place =
+    record { table = table; count = count; most = most; clock = clock; typeid = typeid; peer = peer; ids = ids; out = out; place = place }
 
 -- what is required of it, and what its types say
 pub record Entered (g : Given) : Type 0 where
-  pub whole : length g.ids % id_size ≡ 0
   pub few : length g.ids ≤ id_list_size
   pub held : g.count ≤ g.most
   pub limit : g.most ≤ tracked_limit
@@ -93,10 +100,10 @@ pub record Entered (g : Given) : Type 0 where
   pub peer_fits : g.peer < 2 ^ 64
 
 -- the answer, the table and the area are as this says
-abbrev pub Answers : Given → model.Done → Requested → List ℕ → List ℕ → Type 0
+abbrev pub Answers : Given → model.Done → Result Written TrackerError → List ℕ → List ℕ → Type 0
 Answers g done answer table out =
-    (answer ≡ requested_as g.most g.at g.batch done)
-    × ((table ≡ held_within g.most g.count done.pending g.table) × (out ≡ sent_within g.most g.at g.batch done g.out))
+    (answer ≡ requested_as g.most g.place done)
+    × ((table ≡ held_within g.most g.count done.pending g.table) × (out ≡ sent_within g.most g.place done g.out))
 
 -- the ids that the rule leaves, and what it does
 abbrev pub wanted_of : List ℕ → Given → List Id
@@ -112,24 +119,29 @@ marked_of g = mark_requested g.clock g.typeid g.peer (ids_in g.ids) (requests_in
 abbrev pub announced_of : Given → model.Done
 announced_of g = request_announced true g.clock g.typeid g.peer (ids_in g.ids) (requests_in g.count g.table)
 
+-- the answer when so many are pending, and one batch is sent
+abbrev pub sent_to : Given → ℕ → ℕ → Written
+sent_to g held end = record { count = held; place = record { at = end; batch = g.place.batch + 1 } }
+
 abbrev pub batch_of : Given → List ℕ
-batch_of g = all_command_bytes (commands_of g.batch (request g.typeid g.peer (ids_in g.ids)))
+batch_of g = all_command_bytes (commands_of g.place.batch (request g.typeid g.peer (ids_in g.ids)))
 
 -- the wanted ids, n of them, at the front of the room
 pub record Left (stored : List ℕ) (g : Given) (d rest : List ℕ) (n : ℕ) : Type 0 where
+  pub entered : Entered g
+  pub rest_bytes : Bytes rest
   pub written : rest ≡ overwritten 0 (joined (wanted_of stored g)) d
   pub number : n ≡ length (wanted_of stored g)
 
 -- ---- nothing done
 
-none_left : (ids : List Id) → length ids < 1 → ids ≡ []
+none_left : (ids : List Id) → length ids ≡ 0 → ids ≡ []
 none_left [] h = refl
 none_left (id ∷ ids) h = absurd (omega arith)
 
 module _ {g : Given} (e : Entered g) where
   untouched : (done : model.Done) → done ≡ record { pending = requests_in g.count g.table; sendings = [] }
-      → Answers g done (Done (record { count = g.count; at = g.at; batch = g.batch })) g.table g.out
-  unfolding sent_bytes
+      → Answers g done (Ok (record { count = g.count; place = g.place })) g.table g.out
   untouched done q =
       let rs : List Request = requests_in g.count g.table in
       let none : model.Done = record { pending = rs; sendings = [] } in
@@ -137,22 +149,55 @@ module _ {g : Given} (e : Entered g) where
       let b : leb (length rs) g.most ≡ true = le-leb (length rs) g.most (omega (arith, e.held)) in
       let fits : g.count * record_size ≤ length g.table = omega (arith, mul-le-mul_right record_size e.held, e.room) in
       rw q (
-        sym (few_requested g.most g.at g.batch none b ∙ rw (l, add-zero g.at, add-zero g.batch)),
+        sym (few_requested g.most g.place none b ∙ rw (l, behind_none g.place)),
         (
           sym (few_held g.most g.count rs g.table b ∙ holding_same g.count g.table fits e.table_bytes),
-          sym (few_sent g.most g.at g.batch none g.out b ∙ overwritten_nil g.at g.out),
+          sym (few_sent g.most g.place none g.out b ∙ sent_none g.place g.out),
         ),
       )
 
   module _ (gate : Bool) (stored : List ℕ) where
     -- "gate shut, nothing"
-    pub gate_shut_lem : not gate ≡ true → Answers g (asked_of gate stored g) (Done (record { count = g.count; at = g.at; batch = g.batch })) g.table g.out
+    pub gate_shut_lem : not gate ≡ true → Answers g (asked_of gate stored g) (Ok (record { count = g.count; place = g.place })) g.table g.out
     gate_shut_lem shut = untouched (asked_of gate stored g) (rw (not-true gate shut))
 
-    pub none_wanted : not gate ≡ false → {d rest : List ℕ} {n : ℕ} → Left stored g d rest n → n < 1
-        → Answers g (asked_of gate stored g) (Done (record { count = g.count; at = g.at; batch = g.batch })) g.table g.out
-    none_wanted ajar w h =
-        untouched (asked_of gate stored g) (rw (not-false gate ajar, none_left (wanted_of stored g) (omega (arith, w.number))))
+-- ---- marked, then sent
+
+-- with some ids, one request
+some_asked : (type_id peer : ℕ) (ids : List Id) → 0 < length ids → request_of type_id peer ids ≡ request type_id peer ids ∷ []
+some_asked type_id peer [] h = absurd (omega arith)
+some_asked type_id peer (id ∷ ids) h = refl
+
+module _ {g : Given} (e : Entered g) where
+  -- room for so many ids is room for their requests
+  pub put_room : (number : ℕ) → length g.ids ≡ number * id_size → g.place.at + number * command_size ≤ length g.out
+      → g.place.at + length (batch_of g) ≤ length g.out
+  put_room number whole room =
+      let one = request g.typeid g.peer (ids_in g.ids) in
+      let well : WellList g.typeid g.peer (ids_in g.ids) =
+      record { type_id = e.type_fits; peer = e.peer_fits; ids = well_ids g.ids e.ids_bytes } in
+      let a = sendings_bytes g.place.batch (one ∷ []) (well, tt) in
+      let q : all_command_bytes (commands_of g.place.batch one ++ []) ≡ batch_of g = rw append-nil in
+      omega (arith, ap length q, counted_ids g.ids whole)
+
+  module _ {answer : Result ℕ TrackerError} {table : List ℕ}
+      (m : (answer ≡ marked_as g.most (marked_of g)) × (table ≡ held_within g.most g.count (marked_of g) g.table)) where
+    pub marked_too_many : answer ≡ Err Full → Answers g (announced_of g) (Err Full) table g.out
+    marked_too_many full =
+        let many : leb (length (marked_of g)) g.most ≡ false = marked_full g.most (marked_of g) (rw full at m.0) in
+        (sym (many_requested g.most g.place (announced_of g) many), (m.1, sym (many_sent g.most g.place (announced_of g) g.out many)))
+
+    pub marked_then_sent : 0 < length (ids_in g.ids) → {held end : ℕ} {out : List ℕ} → answer ≡ Ok held
+        → (out ≡ overwritten g.place.at (batch_of g) g.out) × (end ≡ g.place.at + length (batch_of g))
+        → Answers g (announced_of g) (Ok (sent_to g held end)) table out
+    marked_then_sent some {held} {end} {out} pending sent =
+        let p = marked_pending g.most held (marked_of g) (rw pending at m.0) in
+        let one : Sending = request g.typeid g.peer (ids_in g.ids) in
+        let s = some_asked g.typeid g.peer (ids_in g.ids) some in
+        let bytes = sent_one g.place.batch one in (
+          sym (few_requested g.most g.place (announced_of g) p.0 ∙ rw (s, bytes, ← sent.1, ← p.1)),
+          (m.1, sym (few_sent g.most g.place (announced_of g) g.out p.0 ∙ rw (s, bytes) (sym sent.0))),
+        )
 
 -- ---- some wanted
 
@@ -163,7 +208,16 @@ all_ids es w =
     let n : length (joined es) / id_size ≡ length es = omega arith in
     rw n (rw (append-nil (joined es)) at (entries_joined 32 es [] w))
 
-module _ {stored : List ℕ} {g : Given} {d rest : List ℕ} {n : ℕ} (e : Entered g) (w : Left stored g d rest n) where
+module _ {stored : List ℕ} {g : Given} {d rest : List ℕ} {n : ℕ} (w : Left stored g d rest n) where
+  abbrev e : Entered g
+  e = w.entered
+
+  -- with none of them, nothing is done
+  pub none_wanted : (gate : Bool) → not gate ≡ false → n ≡ 0
+      → Answers g (asked_of gate stored g) (Ok (record { count = g.count; place = g.place })) g.table g.out
+  none_wanted gate ajar h =
+      untouched e (asked_of gate stored g) (rw (not-false gate ajar, none_left (wanted_of stored g) (omega (arith, w.number))))
+
   wide : Wide id_size (wanted_of stored g)
   wide =
       let list : WellList g.typeid g.peer (ids_in g.ids) =
@@ -190,63 +244,36 @@ module _ {stored : List ℕ} {g : Given} {d rest : List ℕ} {n : ℕ} (e : Ente
       let b = length_kept (λ (id : Id). not (is_stored (pairs_in stored) g.typeid id)) (kept new (ids_in g.ids)) in
       omega (arith, length_ids g.ids, w.number)
 
-  -- what `mark_and_send` asks
-  pub send_asks : 1 ≤ n → g.at + length g.ids / id_size * command_size ≤ length g.out → g.batch + 1 < 65536
-      → ((length (take (n * id_size) rest) ≡ n * id_size)
-      × ((n ≤ tracked_limit) × ((g.count ≤ g.most) × ((g.most ≤ tracked_limit) × (g.most * record_size ≤ length g.table)))))
-      × ((rising id_size (entries record_size g.count g.table) ≡ true)
-      × ((0 < n) × ((g.at + n * command_size ≤ length g.out) × (g.batch + 1 < 65536))))
-  send_asks more room number = (
-    (front_long, (omega (arith, e.few, few_wanted), (e.held, (e.limit, e.room)))),
-    (e.rise, (omega arith, (omega (arith, few_wanted), number))),
-  )
+  -- the wanted ids in the list's place
+  abbrev pub left : Given
+  left = record g { ids = take (n * id_size) rest }
 
-  -- the wanted ids, marked and sent, are what rule 3 does
-  pub wanted_sent : (gate : Bool) → not gate ≡ false → {answer : Requested} {table out : List ℕ}
-      → Answers g (request_announced true g.clock g.typeid g.peer (ids_in (take (n * id_size) rest)) (requests_in g.count g.table)) answer table out
-      → Answers g (asked_of gate stored g) answer table out
-  wanted_sent gate ajar r =
-      let q : request_announced true g.clock g.typeid g.peer (ids_in (take (n * id_size) rest)) (requests_in g.count g.table) ≡ asked_of gate stored g =
-      rw (not-false gate ajar, front_ids) in (
-        r.0 ∙ ap (requested_as g.most g.at g.batch) q,
-        (
-          r.1.0 ∙ ap (λ (done : model.Done). held_within g.most g.count done.pending g.table) q,
-          r.1.1 ∙ ap (λ (done : model.Done). sent_within g.most g.at g.batch done g.out) q,
-        ),
-      )
+  pub left_entered : Entered left
+  left_entered = record {
+    few = omega (arith, front_long, few_wanted, e.few);
+    held = e.held;
+    limit = e.limit;
+    room = e.room;
+    rise = e.rise;
+    table_bytes = e.table_bytes;
+    ids_bytes = bytes_take (n * id_size) rest w.rest_bytes;
+    type_fits = e.type_fits;
+    peer_fits = e.peer_fits;
+  }
 
--- ---- marked, then sent
+  -- marked and sent, they are what rule 3 does
+  left_asked : (gate : Bool) → not gate ≡ false → announced_of left ≡ asked_of gate stored g
+  left_asked gate ajar = rw (not-false gate ajar, front_ids)
 
-sent_one : (batch type_id peer : ℕ) (ids : List Id) → 0 < length ids
-    → (sent_bytes batch (request_of type_id peer ids) ≡ all_command_bytes (commands_of batch (request type_id peer ids)))
-    × (length (request_of type_id peer ids) ≡ 1)
-unfolding sent_bytes
-sent_one batch type_id peer [] h = absurd (omega arith)
-sent_one batch type_id peer (id ∷ ids) h = (rw append-nil, refl)
+  module _ (gate : Bool) (ajar : not gate ≡ false) {answer : Result ℕ TrackerError} {table : List ℕ}
+      (m : (answer ≡ marked_as g.most (marked_of left)) × (table ≡ held_within g.most g.count (marked_of left) g.table)) where
+    pub wanted_too_many : answer ≡ Err Full → Answers g (asked_of gate stored g) (Err Full) table g.out
+    wanted_too_many full =
+        subst (λ (done : model.Done). Answers g done (Err Full) table g.out) (left_asked gate ajar) (marked_too_many left_entered m full)
 
-module _ {g : Given} (e : Entered g) where
-  -- room for so many ids is room for their requests
-  pub put_room : (number : ℕ) → length g.ids ≡ number * id_size → g.at + number * command_size ≤ length g.out
-      → g.at + length (batch_of g) ≤ length g.out
-  put_room number whole room =
-      let one = request g.typeid g.peer (ids_in g.ids) in
-      let a = sendings_bytes g.batch (one ∷ []) (record { type_id = e.type_fits; peer = e.peer_fits; ids = well_ids g.ids e.ids_bytes }, tt) in
-      let q : all_command_bytes (commands_of g.batch one ++ []) ≡ batch_of g = rw append-nil in
-      omega (arith, ap length q, counted_ids g.ids whole)
-
-  module _ {answer : Marked} {table : List ℕ}
-      (m : (answer ≡ marked_as g.most (marked_of g)) × (table ≡ held_within g.most g.count (marked_of g) g.table)) where
-    pub marked_too_many : answer ≡ marked.Full → Answers g (announced_of g) Full table g.out
-    marked_too_many full =
-        let many : leb (length (marked_of g)) g.most ≡ false = marked_full g.most (marked_of g) (rw full at m.0) in
-        (sym (many_requested g.most g.at g.batch (announced_of g) many), (m.1, sym (many_sent g.most g.at g.batch (announced_of g) g.out many)))
-
-    pub marked_then_sent : 0 < length g.ids → {held place : ℕ} {out : List ℕ} → answer ≡ marked.Pending held
-        → (out ≡ overwritten g.at (batch_of g) g.out) × (place ≡ g.at + length (batch_of g))
-        → Answers g (announced_of g) (Done (record { count = held; at = place; batch = g.batch + 1 })) table out
-    marked_then_sent some {held} {place} {out} pending sent =
-        let p = marked_pending g.most held (marked_of g) (rw pending at m.0) in
-        let s = sent_one g.batch g.typeid g.peer (ids_in g.ids) (omega (arith, length_ids g.ids, e.whole)) in (
-          sym (few_requested g.most g.at g.batch (announced_of g) p.0 ∙ rw (s.0, s.1, ← sent.1, ← p.1)),
-          (m.1, sym (few_sent g.most g.at g.batch (announced_of g) g.out p.0 ∙ rw s.0 (sym sent.0))),
-        )
+    pub wanted_sent : n ≢ 0 → {held end : ℕ} {out : List ℕ} → answer ≡ Ok held
+        → (out ≡ overwritten g.place.at (batch_of left) g.out) × (end ≡ g.place.at + length (batch_of left))
+        → Answers g (asked_of gate stored g) (Ok (sent_to g held end)) table out
+    wanted_sent some {held} {end} {out} ok sent =
+        subst (λ (done : model.Done). Answers g done (Ok (sent_to g held end)) table out) (left_asked gate ajar)
+        (marked_then_sent left_entered m (omega (arith, ap length front_ids, w.number)) ok sent)

@@ -5,6 +5,7 @@
 // commands are written. An id costs a search of the table and one of the stored pairs, then what mark_requested costs.
 #![tactic(auto)]
 
+mod asks;
 pub mod by_type;
 pub mod pairs;
 pub mod request;

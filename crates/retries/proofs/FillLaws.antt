@@ -6,7 +6,7 @@ use native.Mathlib.Omega.{arith}
 use native.Mathlib.Nat.{add-zero}
 use native.Mathlib.Numerals.{add-one}
 use lib.ListN.{length, take, drop, set, get_or, length-set, length-drop, length-map, take-append-drop}
-use lib.Seq.{drop-set-lt, take-suc-set}
+use lib.Seq.{drop-set-lt, take-suc-set, take_at}
 use borrow.Author.Tests.{lt-ltb, le-ltb}
 use Rattle.retries.specs.Items.{item_at, items_at, alike}
 use Rattle.retries.specs.Batches.{batch_at, batches_from, batches_in, filled_with}
@@ -126,3 +126,8 @@ module _ {t places : List ℕ} {ys list : List Batch} {k f : ℕ} (s : Filling t
       let as-stored = ap (λ (rest : List Batch). filling k rest list) (sym none) in
       let number = ap length none in
       (sym (filling_done k list) ∙ as-stored ∙ s.fills, (omega (arith, number, s.counts), omega (arith, s.behind, s.upto)))
+
+-- the batches are at the front of a list that was filled with them
+pub front_filled : (bs start : List Batch) {list : List Batch} {n : ℕ} → list ≡ filled_with bs start → n ≡ length bs → take n list ≡ bs
+unfolding filled_with
+front_filled bs start {list} {n} e l = rw e (take_at bs (drop (length bs) start) n (sym l))

@@ -1,17 +1,15 @@
 -- The records at some places, as items: what is read of them, and where a batch ends.
 use Prim.Native.Nat.{ℕ, suc, ◌+◌, ◌-◌, ◌*◌, ◌≤◌, ◌<◌}
-use mathlib.Core.Path.{◌≡◌, sym, ◌∙◌}
-use mathlib.Core.Bool.{Bool, true, false, not, cond, ◌&&◌}
+use mathlib.Core.Path.{◌≡◌, ◌∙◌}
+use mathlib.Core.Bool.{Bool, true, false, cond, ◌&&◌}
 use mathlib.Core.List.{List, [], ◌∷◌}
 use native.Mathlib.Omega.{arith}
 use lib.Dec.{eqb}
-use lib.ListN.{length, take, drop, get_or, drop_of_length-le}
-use borrow.Author.Tests.{not-true, not-false}
+use lib.ListN.{length, take, drop, get_or}
 use Rattle.fields.specs.Facts.{All}
 use Rattle.fields.specs.Number.{from_be}
 use Rattle.fields.specs.Entries.{entry}
 use Rattle.fields.proofs.AllLaws.{all_at}
-use Rattle.order.proofs.MappedLaws.{next_mapped}
 use Rattle.model.specs.Sections.{Item}
 use Rattle.model.specs.Image.{request_of}
 use Rattle.commands.proofs.RecordedLaws.{peer_read, type_read}
@@ -53,45 +51,8 @@ span_le test (i ∷ items) = go (test i) (span_le test items)
     go false h = omega arith
 
 -- how many items from place j on are alike to that at `first`, one after another
-abbrev alike_from : List ℕ → List ℕ → ℕ → ℕ → ℕ
+abbrev pub alike_from : List ℕ → List ℕ → ℕ → ℕ → ℕ
 alike_from t places first j = span (alike (item_at t (get_or places first 0))) (items_at t (drop j places))
-
--- The batch that starts at `first` reaches `end` and goes on with what is alike behind it.
-pub record Ending (t places : List ℕ) (first end : ℕ) : Type 0 where
-  pub behind : first < end
-  pub end_le : end ≤ length places
-  pub spans : end + alike_from t places first end ≡ first + suc (alike_from t places first (first + 1))
-
-pub ending_starts : (t places : List ℕ) (first : ℕ) → first < length places → Ending t places first (first + 1)
-ending_starts t places first h = record { behind = omega arith; end_le = omega arith; spans = omega arith }
-
-module _ {t places : List ℕ} {first end : ℕ} (s : Ending t places first end) where
-  abbrev head : Item
-  head = item_at t (get_or places first 0)
-
-  abbrev next : Item
-  next = item_at t (get_or places end 0)
-
-  abbrev whole : ℕ
-  whole = first + suc (alike_from t places first (first + 1))
-
-  module _ (h : end < length places) {answer : Bool} (e : answer ≡ alike head next) where
-    pub goes_on_lem : not answer ≡ false → Ending t places first (end + 1)
-    goes_on_lem n =
-        let yes : alike head next ≡ true = sym e ∙ not-false answer n in
-        let one : alike_from t places first end ≡ suc (alike_from t places first (end + 1)) = rw (next_mapped (item_at t) places end h, yes) in
-        record { behind = omega (arith, s.behind); end_le = omega arith; spans = omega (arith, s.spans) }
-
-    pub stops : not answer ≡ true → end ≡ whole
-    stops n =
-        let no : alike head next ≡ false = sym e ∙ not-true answer n in
-        let none : alike_from t places first end ≡ 0 = rw (next_mapped (item_at t) places end h, no) in
-        omega (arith, s.spans)
-
-  pub all_alike : length places ≤ end → end ≡ whole
-  all_alike h =
-      let none : alike_from t places first end ≡ 0 = rw (drop_of_length-le places {i = end} h) in
-      omega (arith, s.spans)
 
 -- ---- one batch by value
 
@@ -102,10 +63,6 @@ pub record First (t places : List ℕ) (first : ℕ) : Type 0 where
 
 module _ {t places : List ℕ} {first : ℕ} (s : First t places first) where
   module _ {place : ℕ} (e : place ≡ get_or places first 0) where
-    -- its record stands in the table
-    pub place_inside : place * record_size + record_size ≤ length t
-    place_inside = rw e (all_at (Asked t) places first 0 s.inside s.asked).0
-
     -- a type of one byte
     pub type_small : {typeid : ℕ} → typeid ≡ from_be (take 2 (drop (place * record_size + 40) t)) → typeid < 256
     type_small {typeid} b =

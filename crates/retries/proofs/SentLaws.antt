@@ -1,38 +1,44 @@
 -- Retries sent, or none: the gate is shut, or no place is noted.
-use Prim.Native.Nat.{ℕ, ◌+◌}
+use Prim.Native.Nat.{ℕ}
 use mathlib.Core.Path.{◌≡◌, refl, sym}
 use mathlib.Core.Bool.{Bool, true, false, cond}
-use mathlib.Core.List.{List, []}
-use native.Mathlib.Nat.{add-zero}
-use lib.ListN.{length}
-use Rattle.fields.specs.Overwrite.{overwritten}
-use Rattle.fields.proofs.OverwriteLaws.{overwritten_nil}
+use mathlib.Core.List.{List, [], ◌∷◌}
+use Rattle.fields.specs.Facts.{All}
 use Rattle.model.specs.Sections.{Item, batches_of}
+use Rattle.model.specs.Requests.{Sending}
 use Rattle.model.specs.Check.{retry_sendings}
-use Rattle.commands.specs.Sent.{sent_bytes}
+use Rattle.commands.specs.Sent.{sent_at, behind}
+use Rattle.commands.specs.declared.place.Place.{Place}
+use Rattle.commands.proofs.SentLaws.{sent_none, behind_none}
+use Rattle.commands.specs.Pending.{Stands}
+use Rattle.retries.specs.Items.{Narrow, Asked, item_at, items_at}
+use Rattle.retries.specs.Retried.{sent_of}
 
--- what is written of some items, and what is answered
-abbrev SendsAs : List Item → ℕ → ℕ → List ℕ → ℕ → ℕ → List ℕ → Type 0
-SendsAs items at batch out at' batch' out' =
-    (out' ≡ overwritten at (sent_bytes batch (retry_sendings items)) out)
-    × ((at' ≡ at + length (sent_bytes batch (retry_sendings items))) × (batch' ≡ batch + length (retry_sendings items)))
+pub asked_both : (t places : List ℕ) → All (Stands t) places → All (Narrow t) places → All (Asked t) places
+asked_both t [] a b = tt
+asked_both t (place ∷ places) a b = ((a.0, b.0), asked_both t places a.1 b.1)
 
-sends_none : (at batch : ℕ) (out : List ℕ) → SendsAs [] at batch out at batch out
-unfolding retry_sendings batches_of sent_bytes
-sends_none at batch out = (sym (overwritten_nil at out), (sym (add-zero at), sym (add-zero batch)))
+-- what is written and answered where nothing is sent
+pub nothing_sent : (place : Place) (out : List ℕ) {sendings : List Sending} → sendings ≡ []
+    → (out ≡ sent_at place sendings out) × (place ≡ behind place sendings)
+nothing_sent place out e = rw e (sym (sent_none place out), sym (behind_none place))
 
-module _ (gate : Bool) (items : List Item) (at batch : ℕ) (out : List ℕ) where
-  pub unsent : gate ≡ false → SendsAs (cond gate items []) at batch out at batch out
-  unsent e = rw e (sends_none at batch out)
+no_retries : retry_sendings [] ≡ []
+unfolding retry_sendings batches_of
+no_retries = refl
 
-  pub sent : {at' batch' : ℕ} {out' : List ℕ} → gate ≡ true → SendsAs items at batch out at' batch' out'
-      → SendsAs (cond gate items []) at batch out at' batch' out'
-  sent e h = rw e h
+module _ (gate : Bool) (t places : List ℕ) where
+  pub unsent : gate ≡ false → sent_of gate t places ≡ []
+  unsent e = rw e no_retries
+
+  pub sent : gate ≡ true → retry_sendings (items_at t places) ≡ sent_of gate t places
+  unfolding item_at
+  sent e = rw e
 
   -- no place is noted
-  pub none_sent : items ≡ [] → SendsAs (cond gate items []) at batch out at batch out
-  none_sent e = rw (e, either_way gate) (sends_none at batch out)
+  pub none_sent : places ≡ [] → sent_of gate t places ≡ []
+  none_sent e = rw (e, either_way gate) no_retries
     where
-      either_way : (t : Bool) → cond {A = List Item} t [] [] ≡ []
+      either_way : (b : Bool) → cond {A = List Item} b [] [] ≡ []
       either_way true = refl
       either_way false = refl

@@ -5,5 +5,7 @@ use Rattle.mark_requested.proofs.sort_ids.Goals as goal
 
 pub returns : goal.returns
 returns c =
-    let a = c.args in
-    record { places_after = sorted_ids a.ids.now (length a.places.now) c.requires.0 c.number.ensures c.sort.ensures; all = sorted_listed a.ids.now (length a.places.now) c.requires.0 c.number.ensures c.sort.ensures }
+    let a = c.args in record {
+      places_after = sorted_ids a.ids.now (length a.places.now) c.requires.0 c.number.ensures c.sort.ensures;
+      listed = sorted_listed a.ids.now (length a.places.now) c.requires.0 c.number.ensures c.sort.ensures;
+    }

@@ -1,31 +1,28 @@
 -- With the gate shut, or with no place, nothing is written: `unsent`, `none_sent`, `sent`.
-use native.Mathlib.Omega.{arith}
-use mathlib.Core.Path.{sym}
-use lib.Seq.{length-take-le}
-use Rattle.retries.proofs.SentLaws.{unsent, none_sent, sent}
+use Rattle.std.proofs.Common.{◌≡◌, length, arith}
+use Rattle.std.proofs.lemmas.Bool.Decides.{nat_tests}
+use Rattle.std.proofs.lemmas.List.{nil_from_length}
+use Rattle.retries.proofs.SentLaws.{asked_both, nothing_sent, unsent, none_sent, sent}
 use Rattle.retries.proofs.send_retries.Goals as goal
 
 pub returns-then-not-gate : goal.returns-then-not-gate
 returns-then-not-gate c =
     let a = c.args in
-    let whole = unsent a.gate _ a.at a.batch a.out.now c.if-not-gate.true in record { out_after = whole.0; at_value = whole.1.0; batch_value = whole.1.1 }
+    let whole = nothing_sent a.place a.out.now (unsent a.gate a.table.now a.places.now c.if-not-gate.true) in
+    record { out_after = whole.0; value = whole.1 }
 
-pub returns-then-count-eq0 : goal.returns-then-count-eq0
-returns-then-count-eq0 c =
+pub returns-then-is_empty : goal.returns-then-is_empty
+returns-then-is_empty c =
     let a = c.args in
-    let whole = none_sent a.gate _ a.at a.batch a.out.now (rw c.if-count-eq0.true) in record { out_after = whole.0; at_value = whole.1.0; batch_value = whole.1.1 }
+    let none : length a.places.now ≡ 0 = grind (arith, nat_tests) in
+    let whole = nothing_sent a.place a.out.now (none_sent a.gate a.table.now a.places.now (nil_from_length _ none)) in
+    record { out_after = whole.0; value = whole.1 }
 
-pub slice_bounds-put_places-end-2 : goal.slice_bounds-put_places-end-2
-slice_bounds-put_places-end-2 c = sym (length-take-le c.args.count c.args.places.now c.requires.count_in_bounds.0)
-
-pub put_places-requires : goal.put_places-requires
-put_places-requires c =
-    let few = length-take-le c.args.count c.args.places.now c.requires.count_in_bounds.0 in
-    let fits = c.requires.count_in_bounds in
-    record { all = c.requires.all; all_2 = c.requires.all_2; places_len_bound = (omega (arith, few, fits), (omega (arith, few, fits), fits.1.1.1)) }
+pub put_retries-requires-clause-all : goal.put_retries-requires-clause-all
+put_retries-requires-clause-all c = asked_both c.args.table.now c.args.places.now c.requires.all c.requires.all_2
 
 pub returns : goal.returns
 returns c =
     let a = c.args in
-    let e = c.put_places.ensures in
-    let whole = sent a.gate _ a.at a.batch a.out.now c.if-not-gate.false (e.out_after, (e.at_value, e.batch_value)) in record { out_after = whole.0; at_value = whole.1.0; batch_value = whole.1.1 }
+    let all = sent a.gate a.table.now a.places.now c.if-not-gate.false in
+    record { out_after = rw all at c.put_retries.ensures.out_after; value = rw all at c.put_retries.ensures.value }

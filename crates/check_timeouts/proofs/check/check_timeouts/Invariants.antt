@@ -2,12 +2,8 @@
 use Rattle.settings.specs.Values.{settings_of}
 use Rattle.peers.specs.Aims.{aimed_at}
 use Rattle.check_timeouts.proofs.CheckLaws.{Checking}
-use Prim.Native.Nat.{◌-◌}
 use Rattle.check_timeouts.proofs.check.check_timeouts.Given as goal
 
 abbrev pub invariant-loop-i : goal.invariant-loop-i
 invariant-loop-i l =
-    Checking (settings_of l.settings) l.clock (aimed_at l.to) l.count l.initial.table l.initial.places l.table l.places l.counts l.i
-
-abbrev pub decreases-loop-i : goal.decreases-loop-i
-decreases-loop-i l = l.count - l.i
+    Checking (settings_of l.check.settings) l.check.clock (aimed_at l.check.aim) l.count l.initial.table l.initial.places l.table l.places l.counts l.i

@@ -5,21 +5,14 @@ use Rattle.commands.proofs.counting.count_commands.Goals as goal
 
 -- ---- the goals
 
-pub loop-at-init : goal.loop-at-init
-loop-at-init c = record { rest = omega arith; few = omega arith }
-
-pub overflow_add-count : goal.overflow_add-count
-overflow_add-count c =
-    omega (arith, c.loop-at.invariant.few, c.loop-at-test.true, c.well_formed)
-
 pub returns-then-bytes-at-lt16 : goal.returns-then-bytes-at-lt16
 returns-then-bytes-at-lt16 c =
-    ends_short c.loop-at.invariant c.loop-at-test.true c.if-bytes-at-lt16.true
+    ends_short c.loop-at.invariant (omega arith) c.if-bytes-at-lt16.true
 
 pub loop-at-preserved : goal.loop-at-preserved
 loop-at-preserved c =
-    goes_on_lem c.loop-at.invariant c.loop-at-test.true c.read_u32-ids.ensures
+    goes_on_lem c.loop-at.invariant (omega arith) c.read_u32-ids.ensures
 
 pub returns : goal.returns
 returns c =
-    ends c.loop-at.invariant c.loop-at-test.false
+    ends c.loop-at.invariant (omega arith)

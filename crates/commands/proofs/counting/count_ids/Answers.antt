@@ -1,4 +1,4 @@
--- `whole` ids stand before `at`.
+-- `whole` ids are counted off.
 use native.Mathlib.Omega.{arith}
 use Rattle.commands.proofs.WriteLaws.{length_ids}
 use Rattle.commands.proofs.counting.count_ids.Goals as goal

@@ -1,11 +1,6 @@
 -- Two bytes, one behind the other: `two_written`.
-use native.Mathlib.Omega.{arith}
-use lib.ListN.{length-set}
 use Rattle.commands.proofs.WriteLaws.{two_written}
 use Rattle.commands.proofs.writing.put_kind.Goals as goal
-
-pub bounds-out-at-2 : goal.bounds-out-at-2
-bounds-out-at-2 c = rw length-set (omega arith)
 
 pub returns : goal.returns
 returns c = two_written c.args.at c.args.kind c.args.typeid c.args.out.now c.requires

@@ -8,5 +8,5 @@ use Rattle.delivery.proofs.evict.append_evicted.Goals as goal
 pub returns : goal.returns
 returns c =
     let a = c.args in
-    let behind = ap (λ (n : ℕ). n - length a.ids.now) c.move_down.auto.s in
-    appended a.evicted a.ids.now a.region.now c.requires.0 c.requires.1 c.move_down.ensures behind c.overwrite.ensures
+    let behind = ap (λ (n : ℕ). n - length a.ids.bytes.now) c.move_down.auto.s in
+    appended a.evicted a.ids.bytes.now a.region.now a.ids.whole c.requires c.move_down.ensures behind c.overwrite.ensures

@@ -1,10 +1,9 @@
--- The loop: what is counted and what is still to be counted make the whole (`Counting`).
-use Prim.Native.Nat.{◌-◌}
-use Rattle.delivery.proofs.CountLaws.{Counting}
+use mathlib.Core.Path.{◌≡◌}
+use Prim.Native.Nat.{ℕ}
+use lib.ListN.{take}
+use Rattle.std.specs.Bool.{◌==◌}
+use Rattle.std.specs.List.{count_by}
 use Rattle.delivery.proofs.marks.marks_left.Given as goal
 
-abbrev pub invariant-loop-i : goal.invariant-loop-i
-invariant-loop-i l = Counting l.marks l.count l.left l.i
-
-abbrev pub decreases-loop-i : goal.decreases-loop-i
-decreases-loop-i l = l.count - l.i
+abbrev pub invariant-loop-mark : goal.invariant-loop-mark
+invariant-loop-mark l = l.left ≡ count_by (λ (m : ℕ). m == 1) (take l.mark-index l.mark-items)

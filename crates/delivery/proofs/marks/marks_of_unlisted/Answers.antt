@@ -14,6 +14,6 @@ use Rattle.delivery.proofs.marks.marks_of_unlisted.Goals as goal
 pub returns : goal.returns
 returns c =
     let a = c.args in
-    let es = entries record_size a.count a.table.now in
-    let few : length es ≤ tracked_limit = rw (length_entries record_size a.count a.table.now) c.requires.id_size_len.1.0 in
+    let es = entries record_size a.pending.count a.pending.table.now in
+    let few : length es ≤ tracked_limit = rw (length_entries record_size a.pending.count a.pending.table.now) a.pending.few in
     c.unmark_listed.ensures ∙ ap (unlisted (ids_in a.ids.now)) (marked_ones tracked_limit es few)

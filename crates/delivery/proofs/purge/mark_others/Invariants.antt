@@ -1,10 +1,6 @@
 -- The loop: the first i marks are written (`Marking`).
-use Prim.Native.Nat.{◌-◌}
 use Rattle.delivery.proofs.OtherLaws.{Marking}
 use Rattle.delivery.proofs.purge.mark_others.Given as goal
 
 abbrev pub invariant-loop-i : goal.invariant-loop-i
 invariant-loop-i l = Marking l.peer l.count l.table l.initial.marks l.marks l.i
-
-abbrev pub decreases-loop-i : goal.decreases-loop-i
-decreases-loop-i l = l.count - l.i

@@ -1,11 +1,6 @@
--- The loop: the ids from `at` on are left (`Entering`). A turn is `each_turn`.
-use Prim.Native.Nat.{◌-◌}
-use lib.ListN.{length}
+-- The loop: the ids from the index on are left (`Entering`). A turn is `each_turn`.
 use Rattle.mark_requested.proofs.EachLaws.{Entering}
 use Rattle.mark_requested.proofs.entering.mark_each.Given as goal
 
-abbrev pub invariant-loop-at : goal.invariant-loop-at
-invariant-loop-at l = Entering l.clock l.typeid l.peer l.count l.ids l.initial.table l.table l.pending l.at
-
-abbrev pub decreases-loop-at : goal.decreases-loop-at
-decreases-loop-at l = length l.ids - l.at
+abbrev pub invariant-loop-id : goal.invariant-loop-id
+invariant-loop-id l = Entering l.asking.clock l.asking.typeid l.asking.peer l.count l.id-items l.initial.table l.table l.pending l.id-index

@@ -1,5 +1,4 @@
-use native.Mathlib.Omega.{arith}
-use Rattle.mark_requested.proofs.MergeLaws.{Pass, merge_starts, turn_asks, turn_on, turn_less}
+use Rattle.mark_requested.proofs.MergeLaws.{Pass, turn_on, turn_less}
 use Rattle.mark_requested.proofs.EndLaws.{merge_ends}
 use Rattle.mark_requested.proofs.merging.merge.Goals.{After-blank_record-blank}
 use Rattle.mark_requested.proofs.merging.merge.Goals as goal
@@ -7,29 +6,21 @@ use Rattle.mark_requested.proofs.merging.merge.Goals as goal
 -- ---- the entry, with the blank record
 
 module _ (c : After-blank_record-blank) where
-  pass : let a = c.args in Pass a.clock a.typeid a.peer a.most a.count a.table.now a.ids.now a.places.now a.room.now
+  pass : let a = c.args in
+      Pass a.asking.clock a.asking.typeid a.asking.peer a.most a.pending.count a.pending.table.now a.new.ids.now a.new.places.now a.room.now
   pass =
-      let given = c.requires.record_size_in_bounds in
+      let given = c.requires.le_most in
       record {
-        records_in = given.0;
-        count_le = given.1.0;
-        most_le = given.1.1.0;
-        places_le = given.1.1.1.0;
-        fits = given.1.1.1.1;
-        listed = c.requires.all.0;
-        order = c.requires.all.1;
-        rises = c.requires.table_value;
-        bytes = λ i. omega (arith, c.type_inv.table i);
+        records_in = c.args.pending.fits;
+        count_le = given.0;
+        most_le = given.1.0;
+        places_le = c.args.new.few;
+        fits = given.1.1;
+        listed = c.args.new.listed;
+        order = c.requires.in_order;
+        rises = c.args.pending.rises;
+        bytes = c.args.pending.known;
       }
-
-pub loop-front-init : goal.loop-front-init
-loop-front-init c = merge_starts (pass (goal.at.loop-front-init c).After-blank_record-blank)
-
-pub turn-front-requires : goal.turn-front-requires
-turn-front-requires c =
-    let entry = (goal.at.turn-front-requires c).After-blank_record-blank in
-    let blank = entry.blank_record-blank in
-    let whole = turn_asks (pass entry) c.loop-front.invariant c.loop-front-test.true blank.result blank.ensures in record { record_size_in_bounds = whole.0; all = whole.1 }
 
 pub loop-front-smaller : goal.loop-front-smaller
 loop-front-smaller c =

@@ -1,41 +1,21 @@
--- By the choice: `kept_turn`, `skipped_turn`, `entered_turn`.
-use native.Mathlib.Omega.{arith}
-use Rattle.mark_requested.proofs.ChoiceLaws.{place_listed}
-use Rattle.mark_requested.proofs.TurnLaws.{Turning, kept_inside, kept_turn, skipped_turn, entered_turn}
-use Rattle.mark_requested.proofs.merging.turn.Goals.{Start}
+-- By the choice: `kept_turn`, `entered_turn`.
+use Rattle.mark_requested.proofs.ChoiceLaws.{Next}
+use Rattle.mark_requested.proofs.TurnLaws.{kept_inside, kept_turn, entered_turn}
 use Rattle.mark_requested.proofs.merging.turn.Goals as goal
-
--- ---- the entry
-
-module _ (c : Start) where
-  turning : let a = c.args in Turning a.count a.table.now a.ids.now a.places.now a.blank.now a.room.now a.front
-  turning = record { records_in = c.requires.record_size_in_bounds.0; next = record { inside = c.requires.all.1.0; listed = c.requires.all.0 } }
 
 pub slice_bounds-overwrite-end : goal.slice_bounds-overwrite-end
 slice_bounds-overwrite-end c =
-    let entry = (goal.at.slice_bounds-overwrite-end c).Start in
-    kept_inside (turning entry) c.next_choice.ensures c.in-Keep.is
+    let a = c.args in
+    kept_inside a.pending.count a.pending.table.now a.new.ids.now a.new.places.now a.blank.now a.room.now a.front c.next_choice.ensures a.pending.fits c.in-Keep.is
 
-pub overflow_mul-from-in-Enter : goal.overflow_mul-from-in-Enter
-overflow_mul-from-in-Enter c = let entry = (goal.at.overflow_mul-from-in-Enter c).Start in omega (arith, place_listed (turning entry).next c.wide-from.ensures)
+pub returns-in-Keep-clause-room_after : goal.returns-in-Keep-clause-room_after
+returns-in-Keep-clause-room_after c =
+    let a = c.args in
+    kept_turn a.pending.count a.pending.table.now a.new.ids.now a.new.places.now a.blank.now a.room.now a.front c.next_choice.ensures c.in-Keep.is c.overwrite.ensures
 
-pub overflow_add-end-in-Enter : goal.overflow_add-end-in-Enter
-overflow_add-end-in-Enter c = let entry = (goal.at.overflow_add-end-in-Enter c).Start in omega (arith, place_listed (turning entry).next c.wide-from.ensures)
-
-pub slice_bounds-put_new-end : goal.slice_bounds-put_new-end
-slice_bounds-put_new-end c = let entry = (goal.at.slice_bounds-put_new-end c).Start in place_listed (turning entry).next c.wide-from.ensures
-
-pub returns-in-Keep : goal.returns-in-Keep
-returns-in-Keep c =
-    let entry = (goal.at.returns-in-Keep c).Start in
-    let whole = kept_turn (turning entry) c.next_choice.ensures c.in-Keep.is c.overwrite.ensures in record { value = whole.0; room_after = whole.1 }
-
-pub returns-in-Skip : goal.returns-in-Skip
-returns-in-Skip c =
-    let entry = (goal.at.returns-in-Skip c).Start in
-    let whole = skipped_turn (turning entry) c.next_choice.ensures c.in-Skip.is in record { value = whole.0; room_after = whole.1 }
-
-pub returns-in-Enter : goal.returns-in-Enter
-returns-in-Enter c =
-    let entry = (goal.at.returns-in-Enter c).Start in
-    let whole = entered_turn (turning entry) c.next_choice.ensures c.wide-from.ensures c.in-Enter.is c.put_new.ensures in record { value = whole.0; room_after = whole.1 }
+pub returns-in-Enter-clause-room_after : goal.returns-in-Enter-clause-room_after
+returns-in-Enter-clause-room_after c =
+    let a = c.args in
+    let next : Next a.new.ids.now a.new.places.now a.front.ids = record { inside = c.requires.1.0; listed = a.new.listed } in
+    entered_turn a.pending.count a.pending.table.now a.new.ids.now a.new.places.now a.blank.now a.room.now a.front
+    c.next_choice.ensures next c.as_chunks.ensures.front c.from.ensures c.in-Enter.is c.put_new.ensures

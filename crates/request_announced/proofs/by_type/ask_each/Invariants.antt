@@ -6,8 +6,7 @@ use Rattle.request_announced.proofs.AskLaws.{Asking}
 use Rattle.request_announced.proofs.by_type.ask_each.Given as goal
 
 abbrev pub invariant-loop-i : goal.invariant-loop-i
-invariant-loop-i l =
-    Asking (run l.initial.table l.count l.most l.gate l.clock l.peer l.stored l.pairs l.places l.ids l.initial.rest l.initial.out l.at l.batch) l.table l.rest l.out l.done l.i
+invariant-loop-i l = Asking (run l.asks l.initial.table l.initial.rest l.initial.out l.fn.start) l.table l.rest l.out l.done l.i
 
 abbrev pub decreases-loop-i : goal.decreases-loop-i
-decreases-loop-i l = length l.places - l.i
+decreases-loop-i l = length l.asks.places.now - l.i

@@ -3,4 +3,4 @@ use Rattle.request_announced.proofs.PlacesLaws.{type_read}
 use Rattle.request_announced.proofs.pairs.type_at.Goals as goal
 
 pub returns : goal.returns
-returns c = type_read c.args.pairs.now c.args.place c.wide-at.result c.wide-at.ensures
+returns c = type_read c.args.pairs.now c.args.place c.from-at.result c.from-at.ensures

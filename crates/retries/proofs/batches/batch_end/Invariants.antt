@@ -1,11 +1,8 @@
--- The loop: the end so far, then the span of the rest, is that of the whole (`Ending`).
-use Prim.Native.Nat.{◌-◌}
-use lib.ListN.{length}
-use Rattle.retries.proofs.ItemLaws.{Ending}
+-- The loop: the end so far, then what is alike behind it, is where the batch ends.
+use Prim.Native.Nat.{suc, ◌+◌}
+use mathlib.Core.Path.{◌≡◌}
+use Rattle.retries.proofs.ItemLaws.{alike_from}
 use Rattle.retries.proofs.batches.batch_end.Given as goal
 
 abbrev pub invariant-loop-end : goal.invariant-loop-end
-invariant-loop-end l = Ending l.table l.places l.first l.end
-
-abbrev pub decreases-loop-end : goal.decreases-loop-end
-decreases-loop-end l = length l.places - l.end
+invariant-loop-end l = l.end + alike_from l.table l.places l.first l.end ≡ l.first + suc (alike_from l.table l.places l.first (l.first + 1))

@@ -1,12 +1,9 @@
 use native.Mathlib.Omega.{arith}
-use Rattle.retries.proofs.FillLaws.{fill_starts, fill_within, fill_upto, fill_falls, fill_turn, fill_ends}
+use Rattle.retries.proofs.FillLaws.{fill_starts, fill_upto, fill_falls, fill_turn, fill_ends}
 use Rattle.retries.proofs.batches.fill.Goals as goal
 
 pub loop-first-init : goal.loop-first-init
 loop-first-init c = fill_starts c.args.table.now c.args.places.now c.args.batches.now
-
-pub bounds-batches-count : goal.bounds-batches-count
-bounds-batches-count c = fill_within c.loop-first.invariant c.requires.1 c.loop-first-test.true
 
 pub overflow_add-first : goal.overflow_add-first
 overflow_add-first c = omega (arith, fill_upto c.loop-first.invariant c.next_batch-one.ensures c.loop-first-test.true)

@@ -1,19 +1,19 @@
 -- Test by test: `not_expired`, `is_forgotten`, `is_abandoned`, `is_retried`.
 use Rattle.settings.specs.Values.{settings_of}
-use Rattle.check_timeouts.proofs.RecordLaws.{Seen, stamp_read, checks_read, not_expired, is_forgotten, is_abandoned, is_retried}
+use Rattle.check_timeouts.proofs.RecordLaws.{Seen, checks_read, not_expired, is_forgotten, is_abandoned, is_retried}
 use native.Mathlib.Omega.{arith}
 use mathlib.Core.Path.{◌∙◌}
 use mathlib.Core.Path.{ap}
 use mathlib.Core.Bool.{not}
-use Rattle.check_timeouts.proofs.check.verdict_at.Goals.{After-expired}
-use Rattle.check_timeouts.proofs.check.verdict_at.Goals as goal
+use Rattle.check_timeouts.proofs.check.Check.verdict_at.Goals.{After-expired}
+use Rattle.check_timeouts.proofs.check.Check.verdict_at.Goals as goal
 
 -- ---- what was read of the record, and whether it is expired
 
 module _ (c : After-expired) where
   seen :
       let a = c.args in
-      Seen (settings_of a.settings) a.clock a.i a.table.now c.read_u64-stamp.result c.read_u16-typeid.result c.read_u32-checks.result
+      Seen (settings_of a.self.settings) a.self.clock a.i a.table.now c.read_u64-stamp.result c.read_u16-typeid.result c.read_u32-checks.result
       c.expired.result
   seen = record {
     its_stamp = c.read_u64-stamp.ensures;
@@ -21,10 +21,6 @@ module _ (c : After-expired) where
     its_checks = c.read_u32-checks.ensures;
     is_late = c.expired.ensures;
   }
-
-pub expired-requires : goal.expired-requires
-expired-requires c =
-    omega (arith, c.read_u64-stamp.ensures ∙ stamp_read c.args.i c.args.table.now, c.requires.table_bound.0)
 
 pub returns-then-not-expired : goal.returns-then-not-expired
 returns-then-not-expired c = not_expired (seen (goal.at.returns-then-not-expired c).After-expired) (ap not c.if-not-expired.true)
@@ -36,7 +32,7 @@ returns-then-typeid-eq-TRANSACTION c =
 
 pub overflow_add-checks : goal.overflow_add-checks
 overflow_add-checks c =
-    omega (arith, c.read_u32-checks.ensures ∙ checks_read c.args.i c.args.table.now, c.requires.table_bound.1)
+    omega (arith, c.read_u32-checks.ensures ∙ checks_read c.args.i c.args.table.now, c.requires.1)
 
 pub returns-then-given_up : goal.returns-then-given_up
 returns-then-given_up c =
