@@ -4,6 +4,7 @@ use mathlib.Core.Path.{◌≡◌, refl, sym, ap, ◌∙◌}
 use mathlib.Core.Bool.{Bool, true, false, not, false≢true}
 use mathlib.Core.List.{List, [], ◌∷◌, ◌++◌, map}
 use mathlib.Core.Option.{Option, none, some}
+use Rattle.std.specs.Prelude.{Some, None}
 use native.Mathlib.Numerals.{add-one}
 use native.Mathlib.Omega.{arith}
 use lib.ListN.{length, drop, get_or, length-map}
@@ -20,10 +21,10 @@ use Rattle.model.specs.Calls.{pair_bytes}
 use Rattle.model.specs.Lists.{section_of, header_of, view_of}
 use Rattle.model.proofs.Widths.{IfSome, WellSection, WellHeader, WellView}
 use Rattle.model.proofs.SectionLaws.{window_few}
-use Rattle.heights.specs.Rows.{row_at, is_absent, sections_of}
+use Rattle.heights.specs.Rows.{row_of, row_at, is_absent, sections_of}
 use Rattle.heights.specs.Pairs.{missing_pairs, row_pairs}
 use Rattle.heights.specs.Window.{item_pair}
-use Rattle.heights.proofs.RowLaws.{Turn, view_none, view_row, present_row}
+use Rattle.heights.proofs.RowLaws.{Turn, next_none, next_row, present_row}
 use Rattle.heights.proofs.PlaceLaws.{missing_all}
 use Rattle.heights.proofs.WritingLaws.{Writing, writing_room, writing_next, writing_ends}
 use Rattle.model.specs.Layout.{pair_size, place_size, window_pairs_size}
@@ -121,14 +122,8 @@ pairs_end view end height h =
     let z : end - height ≡ 0 = omega arith in
     rw z
 
-module _ {bytes : List ℕ} {end first count height : ℕ} {has : Bool} (here : Turn bytes first count end height has) where
-  -- the next height's row, its pairs, and those of the heights behind it
-  abbrev row : List ℕ
-  row = row_at (height + 1 - first) bytes
-
-  abbrev new : List (List ℕ)
-  new = row_pairs (height + 1 - first) bytes
-
+module _ {bytes : List ℕ} {end first count height : ℕ} (here : Turn bytes first count end height) where
+  -- the pairs of the heights behind the next
   abbrev rest : List (List ℕ)
   rest = pairs_within (end - (height + 1)) (view_of bytes) (height + 1)
 
@@ -137,12 +132,19 @@ module _ {bytes : List ℕ} {end first count height : ℕ} {has : Bool} (here : 
       let s : end - height ≡ suc (end - suc height) = omega (arith, here.going) in
       rw (add-one, s)
 
-  pub pairs_outside : has ≡ false → pairs_within (end - height) (view_of bytes) height ≡ []
-  pairs_outside r = next ∙ rw (view_none here r)
+  pub pairs_outside : None ≡ row_of first count (height + 1) → pairs_within (end - height) (view_of bytes) height ≡ []
+  pairs_outside r = next ∙ rw (next_none here r)
 
-  module _ (r : has ≡ true) {without : Bool} (k : without ≡ is_absent (header_of (row_at (height + 1 - first) bytes))) where
+  module _ {i : ℕ} (r : Some i ≡ row_of first count (height + 1)) {without : Bool} (k : without ≡ is_absent (header_of (row_at i bytes))) where
+    -- the next height's row, and its pairs
+    abbrev row : List ℕ
+    row = row_at i bytes
+
+    abbrev new : List (List ℕ)
+    new = row_pairs i bytes
+
     turn : pairs_within (end - height) (view_of bytes) height ≡ further_pairs (some (header_of row)) rest
-    turn = next ∙ ap (λ header. further_pairs header rest) (view_row here r)
+    turn = next ∙ ap (λ header. further_pairs header rest) (next_row here r)
 
     pub pairs_absent : without ≡ true → pairs_within (end - height) (view_of bytes) height ≡ []
     pairs_absent t = turn ∙ go (header_of row) (sym k ∙ t)
@@ -155,11 +157,11 @@ module _ {bytes : List ℕ} {end first count height : ℕ} {has : Bool} (here : 
     pairs_next t = turn ∙ rw (present_row row (sym k ∙ t))
 
     -- a row that fits uses three places at most
-    pub count_few : WellView (view_of bytes) → without ≡ false → get_or (row_at (height + 1 - first) bytes) 0 0 ≤ 3
+    pub count_few : WellView (view_of bytes) → without ≡ false → get_or (row_at i bytes) 0 0 ≤ 3
     unfolding sections_of
     count_few w t =
         let places : List (List ℕ) = entries place_size (get_or row 0 0) (drop 1 row) in
-        let p : IfSome WellHeader (some (present (map section_of places))) = rw (view_row here r, present_row row (sym k ∙ t)) at (w (height + 1)) in
+        let p : IfSome WellHeader (some (present (map section_of places))) = rw (next_row here r, present_row row (sym k ∙ t)) at (w (height + 1)) in
         rw (length-map places section_of, length_entries place_size (get_or row 0 0) (drop 1 row)) at p.1
 
     -- the pass over the window, at a height whose header is present
@@ -172,11 +174,11 @@ module _ {bytes : List ℕ} {end first count height : ℕ} {has : Bool} (here : 
       wide : Wide pair_size (new ++ rest)
       wide = rw (pairs_next t) at (pairs_wide (end - height) (view_of bytes) height well)
 
-      pub height_room : (found + length (row_pairs (height + 1 - first) bytes)) * pair_size ≤ length pairs
+      pub height_room : (found + length (row_pairs i bytes)) * pair_size ≤ length pairs
       height_room = writing_room new rest left room
 
-      pub height_turn : {pairs' : List ℕ} {found' : ℕ} → found' ≡ found + length (row_pairs (height + 1 - first) bytes)
-          → pairs' ≡ overwritten (found * pair_size) (joined (row_pairs (height + 1 - first) bytes)) pairs
+      pub height_turn : {pairs' : List ℕ} {found' : ℕ} → found' ≡ found + length (row_pairs i bytes)
+          → pairs' ≡ overwritten (found * pair_size) (joined (row_pairs i bytes)) pairs
           → Writing pair_size 0 whole (pairs_within (end - (height + 1)) (view_of bytes) (height + 1)) pairs₀ pairs' found'
       height_turn m p = writing_next new rest left room wide p m
 

@@ -103,11 +103,11 @@ long_place place l = ap suc (length-take-le 32 (drop 1 place) (simp length-drop 
 
 -- row i stands in the view, and uses three places at most
 pub record Stands (i : ℕ) (view : List ℕ) : Type 0 where
-  pub within : i * row_size + 107 ≤ length view
+  pub within : i * row_size + 4 + row_size ≤ length view
   pub few : get_or (row_at i view) 0 0 ≤ 3
 
 module _ {i : ℕ} {view : List ℕ} (s : Stands i view) where
-  h : i * row_size + 107 ≤ length view
+  h : i * row_size + 4 + row_size ≤ length view
   h = s.within
 
   few : get_or (row_at i view) 0 0 ≤ 3

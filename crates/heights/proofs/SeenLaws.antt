@@ -4,12 +4,13 @@ use mathlib.Core.Path.{◌≡◌, refl, ap, ◌∙◌}
 use mathlib.Core.Bool.{Bool, true, false, cond}
 use mathlib.Core.List.{List}
 use mathlib.Core.Option.{some}
+use Rattle.std.specs.Prelude.{Some, None}
 use native.Mathlib.Numerals.{add-one}
 use native.Mathlib.Omega.{arith}
 use Rattle.model.specs.Sections.{Header, absent, present, View, Window, widen, window_within}
 use Rattle.model.specs.Lists.{header_of, view_of}
-use Rattle.heights.specs.Rows.{row_at, is_absent}
-use Rattle.heights.proofs.RowLaws.{Turn, view_none, view_row}
+use Rattle.heights.specs.Rows.{row_of, row_at, is_absent}
+use Rattle.heights.proofs.RowLaws.{Turn, next_none, next_row}
 
 seen_row : (header : Header) (peer : ℕ) (further : Window) → (widen (some header) peer further).in_view ≡ cond (is_absent header) true further.in_view
 seen_row absent peer further = refl
@@ -20,7 +21,7 @@ seen_end view end peer height h =
     let z : end - height ≡ 0 = omega arith in
     rw z
 
-module _ {bytes : List ℕ} {end first count height : ℕ} {has : Bool} (here : Turn bytes first count end height has) (peer : ℕ) where
+module _ {bytes : List ℕ} {end first count height : ℕ} (here : Turn bytes first count end height) (peer : ℕ) where
   abbrev now : Window
   now = window_within (end - height) (view_of bytes) peer height
 
@@ -32,14 +33,14 @@ module _ {bytes : List ℕ} {end first count height : ℕ} {has : Bool} (here : 
       let s : end - height ≡ suc (end - suc height) = omega (arith, here.going) in
       rw (add-one, s)
 
-  pub seen_outside : has ≡ false → (window_within (end - height) (view_of bytes) peer height).in_view ≡ false
-  seen_outside r = ap (λ w. w.in_view) next ∙ rw (view_none here r)
+  pub seen_outside : None ≡ row_of first count (height + 1) → (window_within (end - height) (view_of bytes) peer height).in_view ≡ false
+  seen_outside r = ap (λ w. w.in_view) next ∙ rw (next_none here r)
 
-  module _ (r : has ≡ true) {without : Bool} (k : without ≡ is_absent (header_of (row_at (height + 1 - first) bytes))) where
+  module _ {row : ℕ} (r : Some row ≡ row_of first count (height + 1)) {without : Bool} (k : without ≡ is_absent (header_of (row_at row bytes))) where
     turn : now.in_view ≡ cond without true further.in_view
     turn =
-        ap (λ w. w.in_view) next ∙ ap (λ header. (widen header peer further).in_view) (view_row here r)
-        ∙ seen_row (header_of (row_at (height + 1 - first) bytes)) peer further ∙ rw k
+        ap (λ w. w.in_view) next ∙ ap (λ header. (widen header peer further).in_view) (next_row here r)
+        ∙ seen_row (header_of (row_at row bytes)) peer further ∙ rw k
 
     pub seen_absent : without ≡ true → (window_within (end - height) (view_of bytes) peer height).in_view ≡ true
     seen_absent t = turn ∙ rw t

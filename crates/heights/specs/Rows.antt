@@ -1,9 +1,14 @@
 -- Rows of a view, and what rules 4 and 5 ask of one.
-use Rattle.std.specs.Prelude.{ℕ, Bool, true, false, List, map, drop, get_or}
+use Rattle.std.specs.Prelude.{ℕ, ◌-◌, Bool, true, false, ◌&&◌, List, Option, leb, ltb, map, drop, get_or}
+use Rattle.std.specs.Bool.{then_some}
 use Rattle.fields.specs.Entries.{entries, entry}
 use Rattle.model.specs.Sections.{Section, Header, absent, present, all_stored}
 use Rattle.model.specs.Lists.{section_of}
 use Rattle.model.specs.Layout.{place_size, row_size}
+
+-- the index of a height's row, if the height is one of the `count` from `first` on
+unfoldable pub row_of : ℕ → ℕ → ℕ → Option ℕ
+row_of first count height = then_some (leb first height && ltb (height - first) count) (height - first)
 
 -- row i of a view
 unfoldable pub row_at : ℕ → List ℕ → List ℕ

@@ -29,45 +29,19 @@ use Rattle.plan.proofs.KindLaws.{last_kind}
 use Rattle.plan.proofs.KeptLaws.{Kept, picks_kept, sync_info_kept, announced_kept, loses_kept, progresses_kept, tick_kept}
 
 module _ (st : State) (c : Call) where
-  -- quiet work takes nothing out
-  quiet_remaining : (w : Work) → is_quiet w ≡ true → remaining_by st c w ≡ st.pending
-  quiet_remaining Nothing q = refl
-  quiet_remaining (Ids peer) q = refl
-  quiet_remaining (Sections peer) q = refl
-  quiet_remaining Received q = absurd (false≢true q)
-  quiet_remaining Evicted q = absurd (false≢true q)
-  quiet_remaining Purge q = absurd (false≢true q)
-  quiet_remaining (PurgeSections peer) q = absurd (false≢true q)
-  quiet_remaining Lose q = absurd (false≢true q)
-  quiet_remaining (LoseAsk peer) q = absurd (false≢true q)
-  quiet_remaining (Check aim) q = absurd (false≢true q)
-  quiet_remaining (CheckFresh peer aim) q = absurd (false≢true q)
-
-  quiet_evicted : (w : Work) → is_quiet w ≡ true → evicted_by st c w ≡ st.sync.evicted
-  quiet_evicted Nothing q = refl
-  quiet_evicted (Ids peer) q = refl
-  quiet_evicted (Sections peer) q = refl
-  quiet_evicted Received q = absurd (false≢true q)
-  quiet_evicted Evicted q = absurd (false≢true q)
-  quiet_evicted Purge q = absurd (false≢true q)
-  quiet_evicted (PurgeSections peer) q = absurd (false≢true q)
-  quiet_evicted Lose q = absurd (false≢true q)
-  quiet_evicted (LoseAsk peer) q = absurd (false≢true q)
-  quiet_evicted (Check aim) q = absurd (false≢true q)
-  quiet_evicted (CheckFresh peer aim) q = absurd (false≢true q)
-
-  quiet_check : (w : Work) → is_quiet w ≡ true → is_check_by w ≡ false
-  quiet_check Nothing q = refl
-  quiet_check (Ids peer) q = refl
-  quiet_check (Sections peer) q = refl
-  quiet_check Received q = refl
-  quiet_check Evicted q = refl
-  quiet_check Purge q = refl
-  quiet_check (PurgeSections peer) q = refl
-  quiet_check Lose q = refl
-  quiet_check (LoseAsk peer) q = refl
-  quiet_check (Check aim) q = absurd (false≢true q)
-  quiet_check (CheckFresh peer aim) q = absurd (false≢true q)
+  -- quiet work takes nothing out, and is no check
+  quiet : (w : Work) → is_quiet w ≡ true → (remaining_by st c w ≡ st.pending) × (evicted_by st c w ≡ st.sync.evicted) × (is_check_by w ≡ false)
+  quiet Nothing q = (refl, refl, refl)
+  quiet (Ids peer) q = (refl, refl, refl)
+  quiet (Sections peer) q = (refl, refl, refl)
+  quiet Received q = absurd (false≢true q)
+  quiet Evicted q = absurd (false≢true q)
+  quiet Purge q = absurd (false≢true q)
+  quiet (PurgeSections peer) q = absurd (false≢true q)
+  quiet Lose q = absurd (false≢true q)
+  quiet (LoseAsk peer) q = absurd (false≢true q)
+  quiet (Check aim) q = absurd (false≢true q)
+  quiet (CheckFresh peer aim) q = absurd (false≢true q)
 
   -- where rule 6 sends a retry of what this peer failed
   abbrev target : ℕ → ℕ
@@ -107,7 +81,8 @@ module _ (st : State) (c : Call) where
     follows-quietly :
         is_quiet p.work ≡ true → remaining st (args_of c) s ≡ st.pending → Kept st (args_of c) (plan_of st (args_of c) s) → is_check s ≡ false → Follows st c p
     follows-quietly q r v n =
-        follows_on (quiet_remaining p.work q ∙ sym r) (quiet_evicted p.work q ∙ sym v) (quiet_check p.work q) n
+        let its = quiet p.work q in
+        follows_on (its.0 ∙ sym r) (its.1 ∙ sym v) its.2 n
 
   -- ---- each kind
 

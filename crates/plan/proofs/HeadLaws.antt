@@ -4,7 +4,6 @@ use Prim.Native.Nat.{ℕ}
 use mathlib.Core.Path.{◌≡◌, sym, ap, ◌∙◌}
 use mathlib.Core.Bool.{true, false}
 use lib.Dec.{eqb}
-use lib.ListN.{length}
 use borrow.Author.Tests.{eq-eqb, ne_eqb}
 use Rattle.model.specs.Settings as model
 use Rattle.model.specs.State.{State, mode_number}
@@ -24,10 +23,6 @@ module _ (st : State) (head : Head) (h : head_of st ≡ head) where
   pub downloaded_of : head.downloaded ≡ st.sync.downloaded
   unfolding head_of
   downloaded_of = sym (ap (λ (x : Head). x.downloaded) h)
-
-  pub stalled_of_lem : head.stalled ≡ length st.sync.stalled_peers
-  unfolding head_of
-  stalled_of_lem = sym (ap (λ (x : Head). x.stalled) h)
 
   pub has_stalled : (clock : ℕ) → model.stalled (settings_of head.settings) clock head.progress ≡ model.stalled st.settings clock st.sync.last_progress
   unfolding head_of settings_of

@@ -14,7 +14,8 @@ use Rattle.model.specs.Calls.{args_of}
 use Rattle.heights.specs.Advanced.{advance_of}
 use Rattle.heights.specs.declared.downloaded.Advance.{Advance}
 use Rattle.plan.specs.declared.Work.{Work}
-use Rattle.plan.specs.Plans.{acts_by, is_quiet, sections_work}
+use Rattle.plan.specs.declared.shown.Shown.{Shown}
+use Rattle.plan.specs.Plans.{Shows, acts_by, is_quiet, sections_work}
 
 -- Rule 5's answer is the model's from this height on.
 pub record Reached (st : State) (c : calls.Call) (from : ℕ) (r : Advance) : Type 0 where
@@ -30,12 +31,12 @@ unfolding steps.advance_from args_of advance_of
 reached st c from r view height eh ev a = record { height = rw (eh, ev, sym a); seen = rw (eh, ev, sym a) }
 
 -- Rule 4's work asks for the window's sections of the first listed peer; a purge changes nothing about that.
-pub asked : (st : State) (c : calls.Call) (purges : Bool) (height : ℕ) (peers : List ℕ) (work : Work)
-    → c.peers ≡ peers
-    → work ≡ sections_work purges (first_of (peers_in peers))
+pub asked : (st : State) (c : calls.Call) (purges : Bool) (height : ℕ) (shown : Shown) (work : Work)
+    → Shows c shown
+    → work ≡ sections_work purges (first_of (peers_in shown.peers.now))
     → acts_by st c height work ≡ (steps.sections_from st (args_of c) height).acts
 unfolding steps.sections_from args_of request_next_sections request_sections_from
-asked st c purges height peers work ep e = rw (e, sym ep) (go purges (first_of (peers_in c.peers)))
+asked st c purges height shown work s e = rw (e, sym s.peers) (go purges (first_of (peers_in c.peers)))
   where
     go : (b : Bool) (o : Option ℕ) → acts_by st c height (sections_work b o) ≡ (request_sections_from (view_of c.view) c.height height o).acts
     go false none = refl
@@ -43,14 +44,12 @@ asked st c purges height peers work ep e = rw (e, sym ep) (go purges (first_of (
     go true none = refl
     go true (some peer) = refl
 
-pub seen_by_lem : (st : State) (c : calls.Call) (from : ℕ) (seen : Bool) (peers view : List ℕ) (height : ℕ)
-    → c.height ≡ height
-    → c.peers ≡ peers
-    → c.view ≡ view
-    → seen ≡ (request_next_sections (view_of view) height from (peers_in peers)).in_view
+pub seen_by_lem : (st : State) (c : calls.Call) (from : ℕ) (seen : Bool) (shown : Shown)
+    → Shows c shown
+    → seen ≡ (request_next_sections (view_of shown.view.bytes.now) shown.height from (peers_in shown.peers.now)).in_view
     → seen ≡ (steps.sections_from st (args_of c) from).in_view
 unfolding steps.sections_from args_of
-seen_by_lem st c from seen peers view height eh ep ev e = rw (eh, ep, ev) e
+seen_by_lem st c from seen shown s e = rw (s.height, s.peers, s.view) e
 
 pub quiet_sections : (o : Option ℕ) → is_quiet (sections_work false o) ≡ true
 quiet_sections none = refl

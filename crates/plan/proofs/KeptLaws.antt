@@ -10,7 +10,8 @@ use Rattle.model.specs.State.{State}
 use Rattle.model.specs.Requests.{Act}
 use Rattle.model.specs.Events as events
 use Rattle.model.specs.Events.{Outcome}
-use Rattle.model.specs.Steps.{Args, Plan, continues, leaves, is_at_tip, enters_syncing, picks, answers, hears_sync_info, hears_announced, loses, ticks_syncing, ticks_synced, progresses, unmarked, without_peer}
+use Rattle.model.specs.Steps.{Args, Plan, continues, leaves, is_at_tip, enters_syncing, picks, answers, hears_sync_info, hears_announced, loses}
+use Rattle.model.specs.Steps.{ticks_syncing, ticks_synced, progresses, unmarked, without_peer}
 
 module _ (st : State) (a : Args) where
   abbrev pub Kept : Plan → Type 0

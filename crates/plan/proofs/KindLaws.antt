@@ -1,9 +1,9 @@
--- Numbers of kinds: the steps that they stand for, and what is left when some are ruled out.
+-- Numbers of kinds: the steps that they stand for.
 use Prim.{⊥}
-use Prim.Native.Nat.{ℕ, suc, ◌+◌, ◌≤◌, ◌<◌}
+use Prim.Native.Nat.{ℕ, suc, ◌≤◌, ◌<◌}
 use mathlib.Core.Path.{◌≡◌, sym}
 use mathlib.Core.Bool.{false}
-use mathlib.Core.Logic.{◌⊎◌, inl, inr, ⊎_elim}
+use mathlib.Core.Logic.{◌⊎◌, ⊎_elim}
 use native.Mathlib.Nat.{lt_irrefl, eq-or-lt_of_le}
 use native.Mathlib.Omega.{arith}
 use lib.Dec.{eqb}
@@ -43,27 +43,3 @@ last_kind c =
 -- n is ruled out
 pub beyond : (k n : ℕ) → (k ≡ n → ⊥) → n ≤ k → suc n ≤ k
 beyond k n p l = ⊎_elim (λ e. absurd (p (sym e))) (λ (h : suc n ≤ k). h) (eq-or-lt_of_le l)
-
--- what is left of a few kinds in a row
-module _ (k kind : ℕ) (e : k ≡ kind) where
-  pub second : (n : ℕ) → n ≤ k → k < 2 + n → (kind ≡ n → ⊥) → k ≡ suc n
-  second n l h p =
-      let b : suc n ≤ kind = beyond kind n p (omega arith) in
-      omega arith
-
-  pub third : (n : ℕ) → n ≤ k → k < 3 + n → (kind ≡ n → ⊥) → (kind ≡ suc n → ⊥) → k ≡ 2 + n
-  third n l h p q =
-      let b : suc (suc n) ≤ kind = beyond kind (suc n) q (beyond kind n p (omega arith)) in
-      omega arith
-
-  pub outermost :
-      (k < 3) ⊎ (14 ≤ k) → (kind ≡ 1 → ⊥) → (kind ≡ 2 → ⊥) → (kind ≡ 14 → ⊥) → (kind ≡ 15 → ⊥) → (k < 1) ⊎ (16 ≤ k)
-  outermost h p₁ p₂ p₁₄ p₁₅ =
-      let nothing : 0 ≤ kind = omega arith in
-      ⊎_elim
-      (λ (l : k < 3).
-      ⊎_elim (λ (z : 0 ≡ kind). inl (omega arith))
-      (λ (g : 1 ≤ kind). let b : 3 ≤ kind = beyond kind 2 p₂ (beyond kind 1 p₁ g) in absurd (lt_irrefl 0 (omega arith)))
-      (eq-or-lt_of_le nothing))
-      (λ (l : 14 ≤ k). let b : 16 ≤ kind = beyond kind 15 p₁₅ (beyond kind 14 p₁₄ (omega arith)) in inr (omega arith))
-      h

@@ -3,15 +3,18 @@ use Prim.Native.Nat.{ℕ}
 use mathlib.Core.Path.{◌≡◌, refl, sym}
 use mathlib.Core.Bool.{Bool, true, false, not, cond}
 use mathlib.Core.List.{[], ◌∷◌}
-use mathlib.Core.Option.{Option, none, some}
+use Rattle.std.specs.Prelude as program
+use Rattle.std.specs.Bool.{then_some}
+use Rattle.std.specs.Option.{is_some}
 use Rattle.model.specs.Settings as model
 use Rattle.model.specs.State as state
 use Rattle.model.specs.State.{State}
 use Rattle.model.specs.Peers.{send_sync_info}
-use Rattle.model.specs.Requests.{send, sync_info, sync_info_to}
+use Rattle.model.specs.Requests as acts
+use Rattle.model.specs.Requests.{sync_info, sync_info_to}
+use Rattle.peers.specs.Peers.{listed_peer}
 use Rattle.settings.specs.Values.{settings_of, send_clock_of}
 use Rattle.settings.specs.declared.SendClock.{SendClock}
-use Rattle.settings.specs.declared.Sent.{Sent}
 use Rattle.image.specs.declared.head.Head.{Head}
 use Rattle.image.specs.Heads.{head_of}
 use Rattle.plan.specs.Plans.{say_to}
@@ -33,38 +36,45 @@ pub headed : (st : State) (head : Head) → head_of st ≡ head → Headed st.se
 unfolding head_of settings_of send_clock_of
 headed st head h = record { settings = rw (sym h); sends = rw (sym h) }
 
--- What rule 2 answers by value is what it says in the model.
-pub record Answered (settings : model.Settings) (now : ℕ) (sends : state.SendClock) (r : Sent) : Type 0 where
-  pub clock : r.clock ≡ clock_from (send_sync_info settings now sends)
-  pub mark : r.sent ≡ not (model.throttled settings now sends.last_send)
+-- Rule 2 by value towards a peer, a send clock and whom the sync info goes to, is what it says in the model.
+pub record Answered (settings : model.Settings) (now : ℕ) (sends : state.SendClock) (peer : ℕ) (send : SendClock) (says : program.Option ℕ) : Type 0 where
+  pub clock : send ≡ clock_from (send_sync_info settings now sends)
+  pub to : says ≡ then_some (not (model.throttled settings now sends.last_send)) peer
 
-pub answered : (settings : model.Settings) (sends : state.SendClock) (head : Head) (clock now : ℕ) (r : Sent)
+pub answered : (settings : model.Settings) (sends : state.SendClock) (head : Head) (clock now peer : ℕ) (send : SendClock) (says : program.Option ℕ)
     → Headed settings sends head
     → clock ≡ now
-    → send_clock_of r.clock ≡ send_sync_info (settings_of head.settings) now (send_clock_of head.send)
-    → r.sent ≡ not (model.throttled (settings_of head.settings) now head.send.last)
-    → Answered settings clock sends r
+    → send_clock_of send ≡ send_sync_info (settings_of head.settings) now (send_clock_of head.send)
+    → says ≡ then_some (not (model.throttled (settings_of head.settings) now head.send.last)) peer
+    → Answered settings clock sends peer send says
 unfolding send_clock_of clock_from
-answered settings sends head clock now r h e a b =
-    let after : send_clock_of r.clock ≡ send_sync_info settings clock sends = rw (a, h.settings, h.sends, e) in
-    record { clock = rw (sym after); mark = rw (b, h.settings, sym h.sends, e) }
+answered settings sends head clock now peer send says h e a b =
+    let after : send_clock_of send ≡ send_sync_info settings clock sends = rw (a, h.settings, h.sends, e) in
+    record { clock = rw (sym after); to = rw (b, h.settings, sym h.sends, e) }
 
-pub answered_in : (st : State) (head : Head) (clock now : ℕ) (r : Sent)
+pub answered_in : (st : State) (head : Head) (clock now peer : ℕ) (send : SendClock) (says : program.Option ℕ)
     → head_of st ≡ head
     → clock ≡ now
-    → send_clock_of r.clock ≡ send_sync_info (settings_of head.settings) now (send_clock_of head.send)
-    → r.sent ≡ not (model.throttled (settings_of head.settings) now head.send.last)
-    → Answered st.settings clock st.sync.send_clock r
-answered_in st head clock now r h e =
-    answered st.settings st.sync.send_clock head clock now r (headed st head h) e
+    → send_clock_of send ≡ send_sync_info (settings_of head.settings) now (send_clock_of head.send)
+    → says ≡ then_some (not (model.throttled (settings_of head.settings) now head.send.last)) peer
+    → Answered st.settings clock st.sync.send_clock peer send says
+answered_in st head clock now peer send says h e =
+    answered st.settings st.sync.send_clock head clock now peer send says (headed st head h) e
 
-pub said : {settings : model.Settings} {clock : ℕ} {sends : state.SendClock} (r : Sent) (peer : ℕ) (says : Option ℕ)
-    → Answered settings clock sends r
-    → says ≡ cond r.sent (some peer) none
-    → say_to says ≡ sync_info_to settings clock sends peer
-unfolding sync_info_to
-said {settings = settings} {clock = clock} {sends = sends} r peer says a e = rw (e, a.mark) (go (model.throttled settings clock sends.last_send))
-  where
-    go : (quiet : Bool) → say_to (cond (not quiet) (some peer) none) ≡ cond quiet [] (send (sync_info peer) ∷ [])
-    go true = refl
-    go false = refl
+module _ {settings : model.Settings} {clock : ℕ} {sends : state.SendClock} (peer : ℕ) {send : SendClock} (says : program.Option ℕ)
+    (a : Answered settings clock sends peer send says) where
+  -- whether one is sent
+  pub marked : is_some says ≡ not (model.throttled settings clock sends.last_send)
+  marked = rw a.to (go (not (model.throttled settings clock sends.last_send)))
+    where
+      go : (sent : Bool) → is_some (then_some sent peer) ≡ sent
+      go true = refl
+      go false = refl
+
+  pub said : say_to (listed_peer says) ≡ sync_info_to settings clock sends peer
+  unfolding sync_info_to
+  said = rw a.to (go (model.throttled settings clock sends.last_send))
+    where
+      go : (quiet : Bool) → say_to (listed_peer (then_some (not quiet) peer)) ≡ cond quiet [] (acts.send (sync_info peer) ∷ [])
+      go true = refl
+      go false = refl

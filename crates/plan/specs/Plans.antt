@@ -1,5 +1,5 @@
 -- What a plan by value stands for in the model's words.
-use Rattle.std.specs.Prelude.{ℕ, ◌≡◌, Bool, true, false, cond, List, [], ◌∷◌, ◌++◌, eqb}
+use Rattle.std.specs.Prelude.{ℕ, ◌≡◌, Bool, true, false, cond, List, [], ◌∷◌, ◌++◌, eqb, None}
 use Rattle.std.proofs.Math.Option.{Option, none, some}
 use Rattle.model.specs.Protocol.{Id}
 use Rattle.model.specs.Delivery.{Request, mark_received, pending_after_eviction, evicted_after_eviction, purge_all, purge_peer, check_timeouts}
@@ -24,11 +24,18 @@ use Rattle.plan.specs.declared.Work.TheVariants.{Nothing, Ids, Sections, Receive
 use Rattle.plan.specs.declared.Stalling.{Stalling}
 use Rattle.plan.specs.declared.Stalling.TheVariants.{Stay, Empty, Join}
 use Rattle.plan.specs.declared.Plan.{Plan}
+use Rattle.plan.specs.declared.shown.Shown.{Shown}
 
 -- the numbers of a call
 unfoldable pub numbers_of : calls.Call → Call
 numbers_of c =
     record { kind = c.kind; clock = c.clock; gate = c.gate; height = c.height; peer = c.peer; typeid = c.typeid; fork = c.fork; parsed = c.parsed; hastip = c.hastip; tip = c.tip }
+
+-- the call shows this of the node
+pub record Shows (c : calls.Call) (shown : Shown) : Type 0 where
+  pub height : c.height ≡ shown.height
+  pub peers : c.peers ≡ shown.peers.now
+  pub view : c.view ≡ shown.view.bytes.now
 
 -- a call from its numbers and its lists
 unfoldable pub call_of : Call → List ℕ → List ℕ → List ℕ → List ℕ → List ℕ → calls.Call
@@ -114,6 +121,10 @@ announce_to (some peer) ids = announce peer ids
 abbrev pub say_to : Option ℕ → List Act
 say_to none = []
 say_to (some peer) = send (sync_info peer) ∷ []
+
+-- continues, tells and says nothing, leaves the stalled set as it is and reads no height
+abbrev pub usual_plan : Head → Work → Plan
+usual_plan head work = record { outcome = 0; head = head; announces = None; work = work; says = None; stalling = Stay; seen = true }
 
 -- What a plan comes to, but for pending and evicted: outcome, header with the counts of pending and evicted as before, acts,
 -- stalled peers, and whether every height that it read is in the view.

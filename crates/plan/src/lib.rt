@@ -6,14 +6,19 @@
 #![tactic(auto)]
 
 pub mod continuing;
+pub mod kind;
 pub mod next_sections;
+pub mod outcome;
+pub mod shown;
 pub mod sync_infos;
 
+ghost use Rattle.std.specs.Prelude.{◌≡◌};
+ghost use Rattle.plan.specs.Plans.{usual_plan};
+
 use image::head::Head;
-use peers::Listed;
 use peers::aim::Aim;
 
-// The numbers of a call.
+// The numbers of a call, as C gives them: bytes where a kind or a flag is meant, since any byte may come.
 #[derive(Clone, Copy)]
 pub struct Call {
     pub kind: u8,
@@ -28,7 +33,8 @@ pub struct Call {
     pub tip: u32,
 }
 
-// What is taken out of pending and what is asked for, and of which peer.
+// What is taken out of pending and what is asked for, and of which peer. With and without a peer are works of their own, each
+// with its clause, its room and its copies.
 #[derive(Clone, Copy)]
 pub enum Work {
     Nothing,
@@ -59,13 +65,32 @@ pub enum Stalling {
 // In this order: continuation ids are announced, the work is done, a sync info goes out.
 #[derive(Clone, Copy)]
 pub struct Plan {
+    // one of `outcome`, as C is given it
     pub outcome: u8,
     // the header after the step, but for the counts of pending and evicted
     pub head: Head,
-    pub announces: Listed,
+    pub announces: Option<u64>,
     pub work: Work,
-    pub says: Listed,
+    pub says: Option<u64>,
     pub stalling: Stalling,
-    // every height that the rules read is in the view
+    // every height that the rules read is in the view: the definitions' `in_view`, beside a plan that is made either way
     pub seen: bool,
+}
+
+impl Plan {
+    // The usual plan, from which others differ in a few fields: it continues, tells and says nothing, leaves the stalled set
+    // as it is and reads no height.
+    pub fn usual(head: Head, work: Work) -> Plan
+        ensures { result ≡ usual_plan head work }
+    {
+        Plan {
+            outcome: crate::outcome::CONTINUE,
+            head,
+            announces: None,
+            work,
+            says: None,
+            stalling: Stalling::Stay,
+            seen: true,
+        }
+    }
 }

@@ -1,6 +1,6 @@
 -- What a message's bytes and flags say, in the model's words.
 use Prim.{⊥}
-use Prim.Native.Nat.{ℕ, ◌%◌, ◌/◌, ◌≤◌, ◌<◌}
+use Prim.Native.Nat.{ℕ, ◌/◌, ◌≤◌, ◌<◌}
 use mathlib.Core.Path.{◌≡◌, refl, sym, ap, ◌∙◌}
 use mathlib.Core.Bool.{Bool, true, false, cond, ◌&&◌}
 use mathlib.Core.List.{List, [], ◌∷◌}
@@ -18,6 +18,10 @@ use Rattle.model.specs.Lists.{ids_in, pairs_in}
 use Rattle.model.specs.Steps as steps
 use Rattle.model.specs.Steps.{Args}
 use Rattle.model.specs.Calls.{Call, args_of}
+use Rattle.std.specs.Prelude as program
+use Rattle.std.specs.Bool.{then_some}
+use Rattle.peers.specs.Peers.{listed_peer}
+use Rattle.plan_messages.specs.Heard.{tip_of}
 use Rattle.plan.specs.declared.Plan.{Plan}
 use Rattle.plan.specs.declared.Work.TheVariants.{Nothing}
 use Rattle.plan.specs.Plans.{announce_to, is_quiet, sections_work, sketch_in, sketch_of}
@@ -42,40 +46,41 @@ module _ (st : State) (a : Args) (peer type_id : ℕ) where
   heard_none [] l = refl
   heard_none (id ∷ ids) l = absurd (lt_irrefl 0 (omega arith))
 
-  pub some_announced : (bytes : List ℕ) → 0 < length bytes → length bytes % id_size ≡ 0
+  pub some_announced : (bytes : List ℕ) → id_size ≤ length bytes
       → steps.hears_announced st a peer type_id (ids_in bytes)
       ≡ steps.continues st a (cond (is_announceable type_id) (ask type_id peer a.stored (ids_in bytes) ∷ []) [])
-  some_announced bytes l whole =
+  some_announced bytes l =
       let n : 0 < length bytes / id_size = omega arith in
       heard_some (ids_in bytes) (rw (length_ids bytes) n)
 
-  pub none_announced : (bytes : List ℕ) → length bytes ≤ 0
+  pub none_announced : (bytes : List ℕ) → length bytes < id_size
       → steps.hears_announced st a peer type_id (ids_in bytes) ≡ cond (eqb type_id header_type) (steps.is_at_tip st a [] st.sync.known_tip) (steps.continues st a [])
   none_announced bytes l =
       let n : length bytes / id_size ≡ 0 = omega arith in
       heard_none (ids_in bytes) (length_ids bytes ∙ n)
 
 -- a tip is read only if parsing worked
-known_tip_lem : (parsed has : Bool) (tip : ℕ) → cond (parsed && has) (some tip) none ≡ cond parsed (cond has (some tip) none) none
-known_tip_lem true has tip = refl
+known_tip_lem : (parsed has : Bool) (tip : ℕ) → tip_of (then_some (parsed && has) tip) ≡ cond parsed (cond has (some tip) none) none
+known_tip_lem true true tip = refl
+known_tip_lem true false tip = refl
 known_tip_lem false has tip = refl
 
-announced_if : (goes : Bool) (peer : ℕ) (ids : List Id) → announce_to (cond goes (some peer) none) ids ≡ cond goes (announce peer ids) []
+announced_if : (goes : Bool) (peer : ℕ) (ids : List Id) → announce_to (listed_peer (then_some goes peer)) ids ≡ cond goes (announce peer ids) []
 announced_if true peer ids = refl
 announced_if false peer ids = refl
 
 -- a sync info by what was made of it
-pub heard_by : (st : State) (c : Call) (goes : Bool) (tip : ℕ) (outcome : Outcome) (announces : Option ℕ)
-    → let known : Option ℕ = cond (eqb c.parsed 1 && eqb c.hastip 1) (some c.tip) none in
-    tip ≡ raised_tip st.sync.known_tip known
-    → goes ≡ (eqb c.parsed 1 && (ltb 0 c.height && not_above c.height known))
-    → announces ≡ cond goes (some c.peer) none
-    → outcome ≡ tip_outcome (eqb c.peer st.sync.sync_peer) c.height known
-    → steps.answers st (args_of c) c.peer (announce_to announces (ids_in c.continuation)) tip outcome
+pub heard_by : (st : State) (c : Call) (tip : program.Option ℕ) (known : ℕ) (goes : Bool) (announces : program.Option ℕ) (outcome : Outcome)
+    → tip ≡ then_some (eqb c.parsed 1 && eqb c.hastip 1) c.tip
+    → known ≡ raised_tip st.sync.known_tip (tip_of tip)
+    → goes ≡ (eqb c.parsed 1 && (ltb 0 c.height && not_above c.height (tip_of tip)))
+    → announces ≡ then_some goes c.peer
+    → outcome ≡ tip_outcome (eqb c.peer st.sync.sync_peer) c.height (tip_of tip)
+    → steps.answers st (args_of c) c.peer (announce_to (listed_peer announces) (ids_in c.continuation)) known outcome
     ≡ steps.hears_sync_info st (args_of c) c.peer (eqb c.parsed 1) (cond (eqb c.hastip 1) (some c.tip) none) (ids_in c.continuation)
 unfolding steps.hears_sync_info continuation args_of
-heard_by st c goes tip outcome announces t g a o =
-    rw (t, o, a, announced_if goes c.peer (ids_in c.continuation), g, known_tip_lem (eqb c.parsed 1) (eqb c.hastip 1) c.tip)
+heard_by st c tip known goes announces outcome t k g a o =
+    rw (k, o, a, announced_if goes c.peer (ids_in c.continuation), g, t, known_tip_lem (eqb c.parsed 1) (eqb c.hastip 1) c.tip)
 
 -- ---- by the numbers that the code was given
 
@@ -83,14 +88,14 @@ module _ (st : State) (c : Call) {bytes : List ℕ} {typeid : ℕ} (ids : c.ids 
   abbrev pub heard : steps.Plan
   heard = steps.hears_announced st (args_of c) c.peer c.typeid (ids_in c.ids)
 
-  module _ (l : 0 < length bytes) (whole : length bytes % id_size ≡ 0) where
+  module _ (l : id_size ≤ length bytes) where
     pub heard_served : {peer : ℕ} → c.peer ≡ peer → is_announceable typeid ≡ true
         → steps.continues st (args_of c) (ask c.typeid peer (pairs_in c.stored) (ids_in c.ids) ∷ []) ≡ heard
     unfolding args_of
     heard_served e i =
         let served : is_announceable c.typeid ≡ true = rw types i in
         sym
-        (some_announced st (args_of c) c.peer c.typeid c.ids (rw ids l) (rw ids whole)
+        (some_announced st (args_of c) c.peer c.typeid c.ids (rw ids l)
         ∙ ap (λ (t : Bool). steps.continues st (args_of c) (cond t (ask c.typeid c.peer (pairs_in c.stored) (ids_in c.ids) ∷ []) [])) served
         ∙ ap (λ (x : ℕ). steps.continues st (args_of c) (ask c.typeid x (pairs_in c.stored) (ids_in c.ids) ∷ [])) e)
 
@@ -99,10 +104,10 @@ module _ (st : State) (c : Call) {bytes : List ℕ} {typeid : ℕ} (ids : c.ids 
     heard_unserved i =
         let unserved : is_announceable c.typeid ≡ false = rw types i in
         sym
-        (some_announced st (args_of c) c.peer c.typeid c.ids (rw ids l) (rw ids whole)
+        (some_announced st (args_of c) c.peer c.typeid c.ids (rw ids l)
         ∙ ap (λ (t : Bool). steps.continues st (args_of c) (cond t (ask c.typeid c.peer (pairs_in c.stored) (ids_in c.ids) ∷ []) [])) unserved)
 
-  module _ (l : length bytes ≤ 0) where
+  module _ (l : length bytes < id_size) where
     empty : (t : Bool) → eqb c.typeid header_type ≡ t
         → cond t (steps.is_at_tip st (args_of c) [] st.sync.known_tip) (steps.continues st (args_of c) []) ≡ heard
     empty t e =

@@ -1,19 +1,23 @@
 // The plan of a step by its kind (docs/LAYOUT.md, "Step kinds").
-ghost use Rattle.std.specs.Prelude.{◌≡◌, true, map, ◌%◌, ◌≤◌, ◌<◌, ◌⊎◌, length};
+ghost use Rattle.std.specs.Prelude.{◌≡◌, map, ◌≤◌, ◌<◌, ◌⊎◌};
 ghost use Rattle.fields.specs.Number.{from_be};
 ghost use Rattle.fields.specs.Entries.{entries};
 ghost use Rattle.model.specs.State.{State};
-ghost use Rattle.model.specs.Lists.{view_fits};
 ghost use Rattle.model.specs.Calls as calls;
 ghost use Rattle.image.specs.Heads.{head_of};
-ghost use Rattle.plan.specs.Plans.{numbers_of, Follows};
-ghost use Rattle.model.specs.Layout.{id_size};
+ghost use Rattle.plan.specs.Plans.{numbers_of, Shows, Follows};
 ghost use Rattle.plan_step.specs.declared.step.Group.TheVariants.{Control, Event, Ids, Timed, Mode};
 
 use image::head::Head;
+use peers::stalled_set::StalledPlaces;
+use plan::kind::{
+    ANNOUNCED, EVICTED, LOST_PEER, NEEDED_MODIFIER, OTHER_MESSAGE, PROGRESS, REORG, SCHEDULED_TICK,
+};
+use plan::shown::Shown;
 use plan::{Call, Plan};
 
-// What plans a kind.
+// What plans a kind. A type of its own and not ranges in `plan_step`: which kinds each group has is then said, and proved, in
+// one place.
 #[derive(Clone, Copy)]
 enum Group {
     Control,
@@ -32,32 +36,23 @@ fn group_of(kind: u8) -> Group
     ensures mode { result ≡ Mode → (kind < 3) ⊎ (14 ≤ kind) }
 {
     match kind {
-        3..=4 => Group::Control,
-        5..=7 => Group::Event,
-        8..=10 => Group::Ids,
-        11..=13 => Group::Timed,
+        NEEDED_MODIFIER..=REORG => Group::Control,
+        ANNOUNCED..=OTHER_MESSAGE => Group::Event,
+        LOST_PEER..=EVICTED => Group::Ids,
+        PROGRESS..=SCHEDULED_TICK => Group::Timed,
         _ => Group::Mode,
     }
 }
 
 // `places` are the state area's 256 places of stalled peers. A kind outside 1 to 16 is read as the end of the stream.
-pub fn plan_step(
-    head: Head,
-    call: Call,
-    places: &[u8],
-    ids: &[u8],
-    peers: &[u8],
-    view: &[u8],
-) -> Plan
-    requires view_value { (view_fits view.now ≡ true) × ((length ids.now % id_size ≡ 0) × (length places.now ≡ 2048)) }
-    requires stalled_bound { (head.stalled ≤ 256) × ((head.send.last ≤ call.clock) × (head.progress ≤ call.clock)) }
-    ensures { (st : State) (c : calls.Call) → head_of st ≡ head → numbers_of c ≡ call → c.ids ≡ ids.now → c.peers ≡ peers.now → c.view ≡ view.now → st.sync.stalled_peers ≡ map from_be (entries 8 head.stalled places.now) → Follows st c result }
+pub fn plan_step(head: Head, call: Call, places: StalledPlaces, ids: &[u8], shown: Shown) -> Plan
+    ensures { (st : State) (c : calls.Call) → head_of st ≡ head → numbers_of c ≡ call → c.ids ≡ ids.now → Shows c shown.entry → st.sync.stalled_peers ≡ map from_be (entries 8 places.entry.count places.entry.bytes.now) → Follows st c result }
 {
     match group_of(call.kind) {
-        Group::Control => crate::control::handle_control_event(head, call, peers, view),
-        Group::Event => crate::events::handle_event(head, call, ids, peers, view),
-        Group::Ids => crate::wakes::ids_step(head, call, peers, view),
-        Group::Timed => crate::wakes::timed_step(head, call, places, peers, view),
-        Group::Mode => crate::wakes::mode_step(head, call, places, peers, view),
+        Group::Control => crate::control::handle_control_event(head, call, shown),
+        Group::Event => crate::events::handle_event(head, call, ids, shown),
+        Group::Ids => crate::wakes::ids_step(head, call, shown),
+        Group::Timed => crate::wakes::timed_step(head, call, places, shown),
+        Group::Mode => crate::wakes::mode_step(head, call, places, shown),
     }
 }

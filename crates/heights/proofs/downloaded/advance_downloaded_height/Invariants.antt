@@ -7,7 +7,5 @@ use Rattle.heights.proofs.downloaded.advance_downloaded_height.Given as goal
 
 abbrev pub invariant-loop-height : goal.invariant-loop-height
 invariant-loop-height l =
-    advance_within (l.chain - l.height) (view_of l.view) l.height ≡ advance_within (l.chain - l.downloaded) (view_of l.view) l.downloaded
-
-abbrev pub decreases-loop-height : goal.decreases-loop-height
-decreases-loop-height l = l.chain - l.height
+    advance_within (l.chain - l.height) (view_of l.view.bytes.now) l.height
+    ≡ advance_within (l.chain - l.downloaded) (view_of l.view.bytes.now) l.downloaded

@@ -14,5 +14,5 @@ returns c =
     let view = c.args.view.now in
     let at = i * row_size + 4 in
     complete_row (row_at i view) (length_row i view c.requires)
-    (get_or view at 0) (get_or view (at + place_size) 0) (get_or view (at + 68) 0) (get_or view (at + 102) 0)
-    (sym (row_first i view)) (sym (row_byte_lem i view place_size (omega arith))) (sym (row_byte_lem i view 68 (omega arith))) (sym (row_byte_lem i view 102 (omega arith)))
+    (get_or view at 0) (get_or view (at + place_size) 0) (get_or view (at + 2 * place_size) 0) (get_or view (at + 3 * place_size) 0)
+    (sym (row_first i view)) (sym (row_byte_lem i view place_size (omega arith))) (sym (row_byte_lem i view (2 * place_size) (omega arith))) (sym (row_byte_lem i view (3 * place_size) (omega arith)))

@@ -9,8 +9,5 @@ use Rattle.heights.proofs.window.missing.Given as goal
 
 abbrev pub invariant-loop-height : goal.invariant-loop-height
 invariant-loop-height l =
-    Writing pair_size 0 (pairs_within (min (l.downloaded + window_size) l.chain - l.downloaded) (view_of l.view) l.downloaded)
-    (pairs_within (l.end - l.height) (view_of l.view) l.height) l.initial.pairs l.pairs l.found
-
-abbrev pub decreases-loop-height : goal.decreases-loop-height
-decreases-loop-height l = l.end - l.height
+    Writing pair_size 0 (pairs_within (min (l.downloaded + window_size) l.chain - l.downloaded) (view_of l.view.bytes.now) l.downloaded)
+    (pairs_within (l.end - l.height) (view_of l.view.bytes.now) l.height) l.initial.pairs l.pairs l.found

@@ -1,5 +1,4 @@
 -- The invariant: the pairs of the places to come, behind those that stand, are the row's (`Writing`).
-use Prim.Native.Nat.{◌-◌}
 use lib.ListN.{drop}
 use Rattle.heights.specs.Rows.{row_at, sections_of}
 use Rattle.heights.specs.Pairs.{missing_pairs, row_pairs}
@@ -10,6 +9,3 @@ use Rattle.heights.proofs.window.put_row.Given as goal
 abbrev pub invariant-loop-k : goal.invariant-loop-k
 invariant-loop-k l =
     Writing pair_size l.to (row_pairs l.i l.view) (missing_pairs (drop l.k (sections_of (row_at l.i l.view)))) l.initial.pairs l.pairs l.found
-
-abbrev pub decreases-loop-k : goal.decreases-loop-k
-decreases-loop-k l = l.count - l.k

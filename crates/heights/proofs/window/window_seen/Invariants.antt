@@ -8,8 +8,5 @@ use Rattle.heights.proofs.window.window_seen.Given as goal
 
 abbrev pub invariant-loop-height : goal.invariant-loop-height
 invariant-loop-height l =
-    (peer : ℕ) → (window_within (l.end - l.height) (view_of l.view) peer l.height).in_view
-    ≡ (window_within (min (l.downloaded + window_size) l.chain - l.downloaded) (view_of l.view) peer l.downloaded).in_view
-
-abbrev pub decreases-loop-height : goal.decreases-loop-height
-decreases-loop-height l = l.end - l.height
+    (peer : ℕ) → (window_within (l.end - l.height) (view_of l.view.bytes.now) peer l.height).in_view
+    ≡ (window_within (min (l.downloaded + window_size) l.chain - l.downloaded) (view_of l.view.bytes.now) peer l.downloaded).in_view

@@ -8,13 +8,11 @@ use Rattle.plan.proofs.SketchLaws.{sketched}
 use Rattle.plan.proofs.HeightLaws.{reached}
 use Rattle.plan.proofs.continuing.advances.Goals as goal
 
-pub returns : goal.returns
+pub returns-clause-result_value : goal.returns-clause-result_value
 unfolding head_of head_by steps.advances steps.unmarked args_of
-returns c =
+returns-clause-result_value c st call m h e eh ev em none =
     let a = c.args in
-    let r = c.advance_downloaded_height-advance in record {
-      work_value = refl;
-      result_value = (λ st call m h e eh ev em none.
-          let to = reached st call a.head.downloaded r.result a.view.now a.height eh ev r.ensures in
-          sketched st call _ (steps.advances st (args_of call) m) refl (rw (to.height, sym h, e, em)) (rw (none r.result.height)) refl (to.seen ∙ rw (sym h)));
-    }
+    let r = c.advance_downloaded_height-advance in
+    let to = reached st call a.head.downloaded r.result a.view.bytes.now a.height eh ev r.ensures in
+    rw c.usual.ensures
+    (sketched st call _ (steps.advances st (args_of call) m) refl (rw (to.height, sym h, e, em)) (rw (none r.result.height)) refl (to.seen ∙ rw (sym h)))

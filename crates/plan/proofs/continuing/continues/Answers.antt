@@ -8,11 +8,8 @@ use Rattle.plan.specs.Plans.{acts_by, head_by}
 use Rattle.plan.proofs.SketchLaws.{sketched}
 use Rattle.plan.proofs.continuing.continues.Goals as goal
 
-pub returns : goal.returns
+pub returns-clause-result_value : goal.returns-clause-result_value
 unfolding head_of head_by steps.continues steps.unmarked args_of
-returns c = record {
-  work_value = refl;
-  result_value = λ st call h e.
-      let acts = acts_by st call c.args.head.downloaded c.args.work in
-      sketched st call _ (steps.continues st (args_of call) acts) refl (rw (sym h, e)) (append-nil acts) refl refl;
-}
+returns-clause-result_value c st call h e =
+    let acts = acts_by st call c.args.head.downloaded c.args.work in
+    rw c.usual.ensures (sketched st call _ (steps.continues st (args_of call) acts) refl (rw (sym h, e)) (append-nil acts) refl refl)

@@ -12,19 +12,16 @@ use Rattle.plan.proofs.SketchLaws.{sketched}
 use Rattle.plan.proofs.SendLaws.{clock_from, answered_in, said}
 use Rattle.plan.proofs.sync_infos.replies.Goals as goal
 
-pub returns : goal.returns
+pub returns-clause-result_value : goal.returns-clause-result_value
 unfolding head_of head_by clock_from steps.answers steps.unmarked steps.sent steps.say_to args_of
-returns c =
+returns-clause-result_value c st call h e =
     let a = c.args in
-    let r = c.send_by-reply in record {
-      work_value = refl;
-      announces_value = refl;
-      result_value = λ st call h e.
-          let sent = answered_in st a.head call.clock a.clock r.result h e r.ensures.clock_value r.ensures.sent_value in
-          let before = announce_to (listed_peer a.announces) (ids_in call.continuation) in
-          sketched st call _ (steps.answers st (args_of call) a.peer before a.tip events.Continue)
-          refl
-          (rw (sent.clock, sym h, e))
-          (ap (λ l. before ++ l) (said r.result a.peer (listed_peer c.says_if-says.result) sent c.says_if-says.ensures))
-          refl refl;
-    }
+    let r = c.sends-reply in
+    let sent = answered_in st a.head call.clock a.clock a.peer r.result.0 r.result.1 h e r.ensures.clock_value r.ensures.says_value in
+    let before = announce_to (listed_peer a.announces) (ids_in call.continuation) in
+    rw c.usual.ensures
+    (sketched st call _ (steps.answers st (args_of call) a.peer before a.tip events.Continue)
+    refl
+    (rw (sent.clock, sym h, e))
+    (ap (λ l. before ++ l) (said a.peer r.result.1 sent))
+    refl refl)

@@ -14,7 +14,7 @@ returns-in-Continue c =
     let a = c.args in
     let r = c.replies in record {
       work_value = rw r.ensures.work_value;
-      result_value = λ st d h n ep ev.
+      result_value = λ st d h n shows.
           let m = numbers d a.call n in
           answered_alike st d _ _ a.tip (r.ensures.result_value st d h m.clock) m.peer (ap outcome_of c.in-Continue.is);
     }
@@ -24,10 +24,10 @@ unfolding steps.answers
 returns-in-Synced c =
     let a = c.args in
     let r = c.is_at_tip in record {
-      work_value = rw r.ensures.work_value (quiet_tip (eqb a.head.mode 2) (first_of (peers_in a.peers.now)));
-      result_value = (λ st d h n ep ev.
+      work_value = rw r.ensures.work_value (quiet_tip (eqb a.head.mode 2) (first_of (peers_in a.shown.peers.now)));
+      result_value = (λ st d h n shows.
           let m = numbers d a.call n in
-          answered_alike st d _ _ a.tip (r.ensures.result_value st d h m.clock m.height ep ev) m.peer (ap outcome_of c.in-Synced.is));
+          answered_alike st d _ _ a.tip (r.ensures.result_value st d h m.clock shows) m.peer (ap outcome_of c.in-Synced.is));
     }
 
 pub returns-in-Behind : goal.returns-in-Behind
@@ -35,7 +35,7 @@ returns-in-Behind c =
     let a = c.args in
     let r = c.falls_behind in record {
       work_value = rw r.ensures.work_value;
-      result_value = (λ st d h n ep ev.
+      result_value = (λ st d h n shows.
           let m = numbers d a.call n in
           answered_alike st d _ _ a.tip (r.ensures.result_value st d h m.clock) m.peer (ap outcome_of c.in-Behind.is));
     }

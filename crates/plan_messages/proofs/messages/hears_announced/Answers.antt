@@ -13,40 +13,43 @@ pub returns-then-is_announceable : goal.returns-then-is_announceable
 returns-then-is_announceable c =
     let r = c.continues in record {
       work_value = rw r.ensures.work_value;
-      result_value = (λ st d h n ei ep ev.
+      result_value = (λ st d h n ei shows.
           let m = numbers d c.args.call n in
           let yes = sym c.is_announceable.ensures ∙ c.if-is_announceable.true in
-          r.ensures.result_value st d h m.clock ∙ ap (λ p. sketch_of st d p) (heard_served st d ei m.typeid c.if-ids-gt0.true c.requires.1 m.peer yes));
+          r.ensures.result_value st d h m.clock
+          ∙ ap (λ p. sketch_of st d p) (heard_served st d ei m.typeid c.if-ids-ge-ID_SIZE.true m.peer yes));
     }
 
-pub returns-then-ids-gt0 : goal.returns-then-ids-gt0
-returns-then-ids-gt0 c =
-    let r = c.continues-then-ids-gt0 in record {
+pub returns-then-ids-ge-ID_SIZE : goal.returns-then-ids-ge-ID_SIZE
+returns-then-ids-ge-ID_SIZE c =
+    let r = c.continues-then-ids-ge-ID_SIZE in record {
       work_value = rw r.ensures.work_value;
-      result_value = (λ st d h n ei ep ev.
+      result_value = (λ st d h n ei shows.
           let m = numbers d c.args.call n in
           let no = sym c.is_announceable.ensures ∙ c.if-is_announceable.false in
-          r.ensures.result_value st d h m.clock ∙ ap (λ p. sketch_of st d p) (heard_unserved st d ei m.typeid c.if-ids-gt0.true c.requires.1 no));
+          r.ensures.result_value st d h m.clock
+          ∙ ap (λ p. sketch_of st d p) (heard_unserved st d ei m.typeid c.if-ids-ge-ID_SIZE.true no));
     }
 
-pub returns-then-call-eq101 : goal.returns-then-call-eq101
+pub returns-then-headers : goal.returns-then-headers
 unfolding head_of
-returns-then-call-eq101 c =
+returns-then-headers c =
     let a = c.args in
     let r = c.is_at_tip in record {
-      work_value = rw r.ensures.work_value (quiet_tip (eqb a.head.mode 2) (first_of (peers_in a.peers.now)));
-      result_value = (λ st d h n ei ep ev.
+      work_value = rw r.ensures.work_value (quiet_tip (eqb a.head.mode 2) (first_of (peers_in a.shown.peers.now)));
+      result_value = (λ st d h n ei shows.
           let m = numbers d a.call n in
           let tip = sym (ap (λ x. x.tip) h) in
-          r.ensures.result_value st d h m.clock m.height ep ev
-          ∙ ap (λ p. sketch_of st d p) (heard_no_headers st d ei m.typeid c.if-ids-gt0.false tip c.if-call-eq101.true));
+          r.ensures.result_value st d h m.clock shows
+          ∙ ap (λ p. sketch_of st d p) (heard_no_headers st d ei m.typeid c.if-ids-ge-ID_SIZE.false tip c.if-headers.true));
     }
 
 pub returns : goal.returns
 returns c =
     let r = c.continues-2 in record {
       work_value = rw r.ensures.work_value;
-      result_value = (λ st d h n ei ep ev.
+      result_value = (λ st d h n ei shows.
           let m = numbers d c.args.call n in
-          r.ensures.result_value st d h m.clock ∙ ap (λ p. sketch_of st d p) (heard_nothing st d ei m.typeid c.if-ids-gt0.false c.if-call-eq101.false));
+          r.ensures.result_value st d h m.clock
+          ∙ ap (λ p. sketch_of st d p) (heard_nothing st d ei m.typeid c.if-ids-ge-ID_SIZE.false c.if-headers.false));
     }

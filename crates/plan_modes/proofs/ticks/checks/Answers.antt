@@ -11,7 +11,7 @@ use Rattle.model.specs.Calls.{args_of}
 use Rattle.model.specs.Peers.{first_of}
 use Rattle.model.specs.Lists.{peers_in, pairs_in}
 use Rattle.image.specs.Heads.{head_of}
-use Rattle.plan.specs.Plans.{acts_by, head_by}
+use Rattle.plan.specs.Plans.{Shows, acts_by, head_by}
 use Rattle.plan.proofs.SketchLaws.{sketched}
 use Rattle.plan.proofs.HeadLaws.{is_mode_lem, not_mode, downloaded_of}
 use Rattle.plan.proofs.HeightLaws.{reached}
@@ -24,39 +24,33 @@ use Rattle.plan_modes.proofs.ticks.checks.Goals as goal
 module _ (c : After-check_work-work) where
   asks :
       (st : State) (call : calls.Call) (height : ℕ) →
-      call.peers ≡ c.args.peers.now →
+      Shows call c.args.shown →
       acts_by st call height c.check_work-work.result ++ [] ≡ ask_fresh (first_of (peers_in call.peers)) (pairs_in call.stored) st.sync.evicted
-  asks st call height ep =
+  asks st call height s =
       append-nil (acts_by st call height c.check_work-work.result)
-      ∙ rw (c.check_work-work.ensures, sym ep) (fresh_asked st call height c.args.aim (first_of (peers_in call.peers)))
+      ∙ rw (c.check_work-work.ensures, sym s.peers) (fresh_asked st call height c.args.aim (first_of (peers_in call.peers)))
 
-pub returns-then-head-eq2 : goal.returns-then-head-eq2
+pub returns-then-head-eq-SYNCING-clause-result_value : goal.returns-then-head-eq-SYNCING-clause-result_value
 unfolding head_of head_by steps.checks steps.unmarked args_of
-returns-then-head-eq2 c =
-    let work = (goal.at.returns-then-head-eq2 c).After-check_work-work in
+returns-then-head-eq-SYNCING-clause-result_value c st call h e s =
+    let work = (goal.at.returns-then-head-eq-SYNCING-clause-result_value c).After-check_work-work in
     let a = work.args in
-    let r = c.advance_downloaded_height-reached in record {
-      work_value = (work.check_work-work.ensures, refl);
-      result_value = (λ st call h e eh ep ev.
-          let to = reached st call a.head.downloaded r.result a.view.now a.height eh ev r.ensures in
-          rw (is_mode_lem st a.head h 2 c.if-head-eq2.true)
-          (sketched st call _ (steps.checks st (args_of call) true) refl
-          (rw (to.height, sym h, e))
-          (asks work st call r.result.height ep)
-          refl
-          (to.seen ∙ rw (downloaded_of st a.head h))));
-    }
+    let r = c.advance_downloaded_height-reached in
+    let to = reached st call a.head.downloaded r.result a.shown.view.bytes.now a.shown.height s.height s.view r.ensures in
+    rw (is_mode_lem st a.head h 2 c.if-head-eq-SYNCING.true, c.usual.ensures)
+    (sketched st call _ (steps.checks st (args_of call) true) refl
+    (rw (to.height, sym h, e))
+    (asks work st call r.result.height s)
+    refl
+    (to.seen ∙ rw (downloaded_of st a.head h)))
 
-pub returns : goal.returns
+pub returns-clause-result_value : goal.returns-clause-result_value
 unfolding head_of head_by steps.checks steps.unmarked args_of
-returns c =
-    let work = (goal.at.returns c).After-check_work-work in
-    let head = work.args.head in record {
-      work_value = (work.check_work-work.ensures, refl);
-      result_value = (λ st call h e eh ep ev.
-          rw (not_mode st head h 2 c.if-head-eq2.false)
-          (sketched st call _ (steps.checks st (args_of call) false) refl
-          (rw (sym h, e))
-          (asks work st call head.downloaded ep)
-          refl refl));
-    }
+returns-clause-result_value c st call h e s =
+    let work = (goal.at.returns-clause-result_value c).After-check_work-work in
+    let head = work.args.head in
+    rw (not_mode st head h 2 c.if-head-eq-SYNCING.false, c.usual-2.ensures)
+    (sketched st call _ (steps.checks st (args_of call) false) refl
+    (rw (sym h, e))
+    (asks work st call head.downloaded s)
+    refl refl)

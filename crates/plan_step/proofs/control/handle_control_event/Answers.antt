@@ -4,7 +4,6 @@ use mathlib.Core.Path.{sym, ◌∙◌}
 use Rattle.model.specs.Peers.{first_of}
 use Rattle.model.specs.Lists.{peers_in}
 use Rattle.plan.proofs.HeadLaws.{peer_of_lem, downloaded_of}
-use Rattle.plan.proofs.KindLaws.{second}
 use Rattle.plan.proofs.GivenLaws.{needed, reorged}
 use Rattle.plan.proofs.CallLaws.{numbers}
 use Rattle.plan_step.proofs.control.handle_control_event.Goals as goal
@@ -13,7 +12,7 @@ pub returns-in-3 : goal.returns-in-3
 returns-in-3 c =
     let a = c.args in
     let r = c.continues in
-    λ st d h n ep ev lo hi.
+    λ st d h n shows lo hi.
     let m = numbers d a.call n in
     needed st d r.result a.head.peer
     (m.kind ∙ c.in-3.is)
@@ -25,10 +24,10 @@ pub returns-in_default : goal.returns-in_default
 returns-in_default c =
     let a = c.args in
     let r = c.advances_and_requests in
-    λ st d h n ep ev lo hi.
+    λ st d h n shows lo hi.
     let m = numbers d a.call n in
-    reorged st d r.result (first_of (peers_in a.peers.now)) c.fallen-from.result
-    (second d.kind a.call.kind m.kind 3 lo hi (omega arith))
-    (rw (m.fork, sym (downloaded_of st a.head h)) c.fallen-from.ensures)
+    reorged st d r.result (first_of (peers_in a.shown.peers.now)) c.min-from.result
+    (omega arith)
+    (rw (m.fork, sym (downloaded_of st a.head h)) c.min-from.ensures)
     r.ensures.work_value
-    (r.ensures.result_value st d h m.clock m.height ep ev)
+    (r.ensures.result_value st d h m.clock shows)

@@ -11,12 +11,12 @@ pub returns : goal.returns
 returns c =
     let a = c.args in
     let r = c.checks in
-    λ st d h n ep ev es e.
+    λ st d h n shows es e.
     let m = numbers d a.call n in
-    let stalled = es ∙ sym c.read_stalled-stalled.ensures.result_value in
+    let stalled = es ∙ sym c.read-stalled.ensures.result_value in
     check_follows st d r.result e c.retry_aim-aim.result
-    (λ failed. rw (stalled, ep) (c.retry_aim-aim.ensures failed))
-    (first_of (peers_in a.peers.now))
+    (λ failed. rw (stalled, shows.peers) (c.retry_aim-aim.ensures failed))
+    (first_of (peers_in a.shown.peers.now))
     r.ensures.work_value.0
     (ap listed_peer r.ensures.work_value.1)
-    (r.ensures.result_value st d h m.clock m.height ep ev)
+    (r.ensures.result_value st d h m.clock shows)

@@ -10,4 +10,5 @@ returns c =
     let r = c.picks in
     λ st d h n ep es e.
     let m = numbers d a.call n in
-    picked st d r.result a.peers.now e ep r.ensures.work_value (r.ensures.result_value st d h m.clock ep (es ∙ sym c.read_stalled-stalled.ensures.result_value))
+    let stalled = es ∙ sym c.read.ensures.result_value in
+    picked st d r.result a.peers.now e ep r.ensures.work_value (r.ensures.result_value st d h m.clock ep stalled)
