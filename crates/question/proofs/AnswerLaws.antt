@@ -1,6 +1,6 @@
 -- Pairs gathered and read back: evicted ids as headers, a peer's pending ids.
-use Prim.Native.Nat.{ℕ, suc, ◌+◌, ◌-◌, ◌*◌, ◌/◌, ◌%◌, ◌≤◌, ◌<◌}
-use mathlib.Core.Path.{◌≡◌, refl, sym, ap, ◌∙◌}
+use Prim.Native.Nat.{ℕ, suc, ◌+◌, ◌-◌, ◌*◌, ◌/◌, ◌≤◌, ◌<◌}
+use mathlib.Core.Path.{◌≡◌, sym, ap, ◌∙◌}
 use mathlib.Core.Bool.{Bool, not, ◌&&◌}
 use mathlib.Core.List.{List, [], ◌∷◌, map, append-nil}
 use native.Mathlib.Omega.{arith}
@@ -46,25 +46,23 @@ pub headers_wide : (es : List (List ℕ)) → Wide id_size es → Wide pair_size
 headers_wide es w = all_map (λ (e : List ℕ). length e ≡ id_size) (λ (e : List ℕ). length e ≡ pair_size) header (λ e l. ap suc l) es w
 
 -- The pass at id i: what is written, then the rest, is the whole.
-pub record Heading (ids : List ℕ) (count : ℕ) (d pairs : List ℕ) (i : ℕ) : Type 0 where
-  pub i_le : i ≤ count
+pub record Heading (ids d pairs : List ℕ) (i : ℕ) : Type 0 where
+  pub i_le : i ≤ length ids / id_size
   pub long : length pairs ≡ length d
-  pub rest : overwritten (i * pair_size) (joined (map header (drop i (entries id_size count ids)))) pairs
-      ≡ overwritten 0 (joined (map header (entries id_size count ids))) d
+  pub rest : overwritten (i * pair_size) (joined (map header (drop i (entries_of id_size ids)))) pairs
+      ≡ overwritten 0 (joined (map header (entries_of id_size ids))) d
 
-pub heading_starts : (ids : List ℕ) (count : ℕ) (d : List ℕ) → Heading ids count d d 0
-heading_starts ids count d = record { i_le = omega arith; long = refl; rest = refl }
-
-module _ {ids : List ℕ} {count : ℕ} {d pairs : List ℕ} {i : ℕ} (s : Heading ids count d pairs i) where
-  pub heading_next : i < count → count * id_size ≤ length ids → count * pair_size ≤ length d → {o : List ℕ}
-      → o ≡ overwritten (i * pair_size) (header (entry id_size i ids)) pairs → Heading ids count d o (i + 1)
-  heading_next h fits room eo =
-      let es : List (List ℕ) = entries id_size count ids in
+module _ {ids d pairs : List ℕ} {i : ℕ} (s : Heading ids d pairs i) where
+  pub heading_next : i < length ids / id_size → length ids / id_size * pair_size ≤ length d → {o : List ℕ}
+      → o ≡ overwritten (i * pair_size) (header (entry id_size i ids)) pairs → Heading ids d o (i + 1)
+  heading_next h room eo =
+      let count : ℕ = length ids / id_size in
+      let es : List (List ℕ) = entries_of id_size ids in
       let le : length es ≡ count = length_entries id_size count ids in
       let one : List ℕ = header (entry id_size i ids) in
       let ds : List (List ℕ) = drop (i + 1) es in
       let T : List ℕ = joined (map header ds) in
-      let w : Wide id_size ds = all_drop (λ (e : List ℕ). length e ≡ id_size) (i + 1) es (entries_wide 32 count ids fits) in
+      let w : Wide id_size ds = all_drop (λ (e : List ℕ). length e ≡ id_size) (i + 1) es (entries_wide 32 count ids (omega arith)) in
       let n : drop i es ≡ entry id_size i ids ∷ ds = rw (add-one, ← entries_at 32 count i ids h) (drop-cons es i [] (omega arith)) in
       let lo : length one ≡ pair_size = ap suc (length_entry id_size i ids (omega arith)) in
       let ld : length ds ≡ count - (i + 1) = length-drop (i + 1) es ∙ rw le in
@@ -76,10 +74,11 @@ module _ {ids : List ℕ} {count : ℕ} {d pairs : List ℕ} {i : ℕ} (s : Head
         rest = rw (at, eo) (overwritten_next (i * pair_size) one T pairs (omega (arith, s.long)) ∙ rw n at s.rest);
       }
 
-  pub heading_ends : count ≤ i → pairs ≡ overwritten 0 (joined (map header (entries id_size count ids))) d
+  pub heading_ends : length ids / id_size ≤ i → pairs ≡ overwritten 0 (joined (map header (entries_of id_size ids))) d
   heading_ends h =
-      let z : drop i (entries id_size count ids) ≡ [] = drop_of_length-le (entries id_size count ids) {i = i} (rw (length_entries id_size count ids) h) in
-      let a : overwritten (i * pair_size) [] pairs ≡ overwritten 0 (joined (map header (entries id_size count ids))) d = rw z at s.rest in
+      let es : List (List ℕ) = entries_of id_size ids in
+      let z : drop i es ≡ [] = drop_of_length-le es {i = i} (rw (length_entries id_size (length ids / id_size) ids) h) in
+      let a : overwritten (i * pair_size) [] pairs ≡ overwritten 0 (joined (map header es)) d = rw z at s.rest in
       sym (overwritten_nil (i * pair_size) pairs) ∙ a
 
 -- ---- pairs read back from the front of their room
@@ -100,10 +99,6 @@ module _ {n : ℕ} (room : List ℕ) (few : n ≤ tracked_limit) (size : length 
 
   pub front_long : length front ≡ n * pair_size
   front_long = length-take-le (n * pair_size) room (omega arith)
-
-  pub front_fits : (out : List ℕ) → pair_list_size ≤ length out
-      → (length front % pair_size ≡ 0) × ((length front ≤ pair_list_size) × (length front ≤ length out))
-  front_fits out h = rw front_long (omega arith, (omega arith, omega arith))
 
 -- ---- the peer's pending ids
 

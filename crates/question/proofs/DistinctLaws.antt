@@ -104,9 +104,6 @@ pub record Writing (es : List (List ℕ)) (d out : List ℕ) (at i : ℕ) : Type
   pub to : at + length (joined (distinct (drop i es))) ≡ length (joined (distinct es))
   pub rest : overwritten at (joined (distinct (drop i es))) out ≡ overwritten 0 (joined (distinct es)) d
 
-pub writing_starts : (es : List (List ℕ)) (d : List ℕ) → Writing es d d 0 0
-writing_starts es d = record { i_le = omega arith; at_le = omega arith; long = refl; to = omega arith; rest = refl }
-
 module _ {es : List (List ℕ)} {d out : List ℕ} {at i : ℕ} (s : Writing es d out at i) where
   pub writing_next : i < length es → Wide pair_size es → length es * pair_size ≤ length d → {o : List ℕ} {at' : ℕ}
       → (o ≡ overwritten at (pair_once es i) out) × (at' ≡ at + length (pair_once es i)) → Writing es d o at' (i + 1)

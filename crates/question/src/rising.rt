@@ -1,6 +1,8 @@
 // Pairs of type and id in order, each once.
 //
 // n pairs cost n log n comparisons.
+//
+// Places are sorted where they stand, so that they lie within the pairs is a clause and no ghost field.
 ghost use Rattle.std.specs.Prelude.{◌≡◌, ◌+◌, ◌*◌, ◌%◌, ◌≤◌, ◌<◌, length};
 ghost use Rattle.fields.specs.Facts.{All};
 ghost use Rattle.fields.specs.Entries.{joined};
@@ -12,6 +14,7 @@ ghost use Rattle.question.specs.Distinct.{distinct, repeats, pair_once};
 ghost use Rattle.model.specs.Layout.{pair_list_size, pair_size};
 
 use model::layout::{PAIR_SIZE, TRACKED_LIMIT};
+use order::SortKey;
 
 // Whether the pair at the next place is the same as that at place i.
 fn is_repeated(pairs: &[u8], places: &[u16], i: usize) -> bool
@@ -21,8 +24,8 @@ fn is_repeated(pairs: &[u8], places: &[u16], i: usize) -> bool
     if places.len() <= i + 1 {
         return false;
     }
-    let p = order::places::wide(places[i]) * PAIR_SIZE;
-    let q = order::places::wide(places[i + 1]) * PAIR_SIZE;
+    let p = usize::from(places[i]) * PAIR_SIZE;
+    let q = usize::from(places[i + 1]) * PAIR_SIZE;
     keys::run_same(pairs, p, pairs, q, PAIR_SIZE)
 }
 
@@ -36,7 +39,7 @@ fn put_once(pairs: &[u8], places: &[u16], i: usize, out: &mut [u8], at: usize) -
     if is_repeated(pairs, places, i) {
         return at;
     }
-    let from = order::places::wide(places[i]) * PAIR_SIZE;
+    let from = usize::from(places[i]) * PAIR_SIZE;
     let end = from + PAIR_SIZE;
     spans::moving::overwrite(out, at, &pairs[from..end]);
     at + PAIR_SIZE
@@ -49,24 +52,10 @@ fn put_distinct(pairs: &[u8], places: &[u16], out: &mut [u8]) -> usize
     ensures value { result ≡ length (joined (distinct (pairs_at pairs.now places.now))) }
 {
     let mut at = 0;
-    let mut i = 0;
-    while i < places.len() {
+    for i in 0..places.len() {
         at = put_once(pairs, places, i, out, at);
-        i += 1;
     }
     at
-}
-
-// The same as `put_rising`, with room to work in: `places`, one for each pair, which are sorted, and `spare`.
-fn put_sorted(pairs: &[u8], places: &mut [u16], spare: &mut [u16], out: &mut [u8]) -> usize
-    requires pair_size_len { (length places.old * pair_size ≡ length pairs.now) × ((length pairs.now ≤ pair_list_size) × (length pairs.now ≤ length out.old)) }
-    requires spare_len { length spare.old ≡ length places.old }
-    ensures out_after { out.new ≡ overwritten 0 (joined (strictly_rising (entries_of pair_size pairs.now))) out.old }
-    ensures value { result ≡ length (joined (strictly_rising (entries_of pair_size pairs.now))) }
-{
-    order::places::number(places);
-    order::sort(pairs, PAIR_SIZE, 0, PAIR_SIZE, places, spare);
-    put_distinct(pairs, places, out)
 }
 
 // Each pair once, in order, at the front of `out`. Answers how many bytes.
@@ -76,7 +65,16 @@ pub fn put_rising(pairs: &[u8], out: &mut [u8]) -> usize
     ensures value { result ≡ length (joined (strictly_rising (entries_of pair_size pairs.now))) }
 {
     let count = pairs.len() / PAIR_SIZE;
-    let mut places = [0u16; TRACKED_LIMIT];
+    let mut room = [0u16; TRACKED_LIMIT];
     let mut spare = [0u16; TRACKED_LIMIT];
-    put_sorted(pairs, &mut places[..count], &mut spare[..count], out)
+    let places = &mut room[..count];
+    order::places::number(places);
+    let whole = SortKey {
+        table: pairs,
+        width: PAIR_SIZE,
+        at: 0,
+        size: PAIR_SIZE,
+    };
+    order::sort(whole, places, &mut spare[..count]);
+    put_distinct(pairs, places, out)
 }

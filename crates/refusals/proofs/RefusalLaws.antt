@@ -12,12 +12,12 @@ use Rattle.fields.proofs.OrderLaws.{and_left, and_right}
 use Rattle.model.specs.State.{State}
 use Rattle.model.specs.Image.{well_formed, decode}
 use Rattle.model.specs.Lists.{ids_fit, continuation_fits, pairs_fit, peers_fit, view_fits}
-use Rattle.model.specs.Calls.{Call, args_of, unless, call_fits, lists_fit, result_refusal, call_refusal, step_refusal, question_refusal}
+use Rattle.model.specs.Calls.{Call, args_of, unless, call_fits, lists_fit, result_refusal, call_refusal, step_refusal, question_refusal, is_flag}
 use Rattle.model.proofs.FinishedLaws.{held}
 use Rattle.image.specs.declared.head.Head.{Head}
 use Rattle.image.specs.Heads.{head_in, head_of}
 use Rattle.image.proofs.HeadLaws.{head_decode}
-use Rattle.refusals.specs.Refusals.{lent_refusal, given_refusal}
+use Rattle.refusals.specs.Refusals.{areas_refusal, lent_refusal, given_refusal}
 use Rattle.model.specs.Layout.{area_size}
 
 -- one test more before others that split
@@ -151,47 +151,67 @@ module _ (st : State) (call : Call) where
           unfolding lent_refusal
           lent_none view = rw (clock, fits, lists, peers, view)
 
-module _ (state : List ℕ) (room : ℕ) (call : Call) where
-  pub given_1 : eqb (length state) 65536 ≡ false → 1 ≡ given_refusal state room call
-  unfolding given_refusal
-  given_1 size = rw size
+-- 1 to 3, whatever comes behind them
+module _ (state : List ℕ) (room behind : ℕ) where
+  pub areas_1 : eqb (length state) area_size ≡ false → 1 ≡ areas_refusal state room behind
+  areas_1 size = rw size
 
-  module _ (size : eqb (length state) 65536 ≡ true) where
-    pub given_2 : well_formed state ≡ false → 2 ≡ given_refusal state room call
-    unfolding given_refusal
-    given_2 image = rw (size, image)
+  module _ (size : eqb (length state) area_size ≡ true) where
+    pub areas_2 : well_formed state ≡ false → 2 ≡ areas_refusal state room behind
+    areas_2 image = rw (size, image)
 
     module _ (image : well_formed state ≡ true) where
-      pub given_3 : leb 65536 room ≡ false → 3 ≡ given_refusal state room call
-      unfolding given_refusal
-      given_3 enough = rw (size, image, enough)
+      pub areas_3 : leb area_size room ≡ false → 3 ≡ areas_refusal state room behind
+      areas_3 enough = rw (size, image, enough)
 
-      -- 4 to 8 by the header that was read
-      pub given_lent : {head : Head} {number : ℕ} → leb 65536 room ≡ true → head ≡ head_in state
-          → ((st : State) → head_of st ≡ head → number ≡ lent_refusal st call) → number ≡ given_refusal state room call
-      unfolding given_refusal
-      given_lent enough e lent = rw (size, image, enough) (lent (decode state) (head_decode state image ∙ sym e))
+      pub areas_none : leb area_size room ≡ true → behind ≡ areas_refusal state room behind
+      areas_none enough = rw (size, image, enough)
 
+refuses : (ok : Bool) (number first behind : ℕ) {n : ℕ} → 0 < n → n ≡ unless ok number first → (n ≡ first → n ≡ behind) → n ≡ unless ok number behind
+refuses true number first behind h e on = on e
+refuses false number first behind h e on = e
+
+-- a number of theirs stays, whatever comes behind
+pub areas_refused : (state : List ℕ) (room behind : ℕ) {n : ℕ} → 0 < n → n ≡ areas_refusal state room 0 → n ≡ areas_refusal state room behind
+areas_refused state room behind h e =
+    refuses (eqb (length state) area_size) 1 _ _ h e
+    (λ e. refuses (well_formed state) 2 _ _ h e (λ e. refuses (leb area_size room) 3 _ _ h e (λ z. absurd (lt_irrefl 0 (omega arith)))))
+
+-- What the areas have passed that 1 to 3 let through.
+pub record Areas (state : List ℕ) (room : ℕ) : Type 0 where
+  pub size : eqb (length state) area_size ≡ true
+  pub image : well_formed state ≡ true
+  pub enough : leb area_size room ≡ true
+
+pub areas : (state : List ℕ) (room : ℕ) → 0 ≡ areas_refusal state room 0 → Areas state room
+areas state room e =
+    let h1 = held (eqb (length state) area_size) 1 (unless (well_formed state) 2 (unless (leb area_size room) 3 0)) (omega arith) (sym e) in
+    let h2 = held (well_formed state) 2 (unless (leb area_size room) 3 0) (omega arith) h1.1 in
+    let h3 = held (leb area_size room) 3 0 (omega arith) h2.1 in
+    record { size = h1.0; image = h2.0; enough = h3.0 }
+
+pub given_refused : (state : List ℕ) (room : ℕ) (call : Call) {n : ℕ} → 0 < n → n ≡ areas_refusal state room 0 → n ≡ given_refusal state room call
+unfolding given_refusal
+given_refused state room call h e = areas_refused state room (lent_refusal (decode state) call) h e
+
+-- 4 to 8 by the header that was read
+pub given_lent : (call : Call) {state : List ℕ} {room : ℕ} {head : Head} {number : ℕ} → Areas state room → head ≡ head_in state
+    → ((st : State) → head_of st ≡ head → number ≡ lent_refusal st call) → number ≡ given_refusal state room call
+unfolding given_refusal
+given_lent call {state} {room} a e lent =
+    lent (decode state) (head_decode state a.image ∙ sym e) ∙ areas_none state room (lent_refusal (decode state) call) a.size a.image a.enough
+
+-- the flag of a question
 module _ (state area : List ℕ) (flag : ℕ) where
-  pub asked_1 : eqb (length state) 65536 ≡ false → 1 ≡ question_refusal state area flag
+  pub asked_refused : {n room : ℕ} → length area ≡ room → 0 < n → n ≡ areas_refusal state room 0 → n ≡ question_refusal state area flag
   unfolding question_refusal
-  asked_1 size = rw size
+  asked_refused {n} {room} e h r = areas_refused state (length area) (unless (is_flag flag) 5 0) h (rw e r)
 
-  module _ (size : eqb (length state) 65536 ≡ true) where
-    pub asked_2 : well_formed state ≡ false → 2 ≡ question_refusal state area flag
+  module _ {room : ℕ} (e : length area ≡ room) (a : Areas state room) where
+    pub asked_5 : leb flag 1 ≡ false → 5 ≡ question_refusal state area flag
     unfolding question_refusal
-    asked_2 image = rw (size, image)
+    asked_5 flagged = rw (a.size, a.image, e, a.enough, flagged)
 
-    module _ (image : well_formed state ≡ true) where
-      pub asked_3 : leb 65536 (length area) ≡ false → 3 ≡ question_refusal state area flag
-      unfolding question_refusal
-      asked_3 enough = rw (size, image, enough)
-
-      module _ (enough : leb 65536 (length area) ≡ true) where
-        pub asked_5 : leb flag 1 ≡ false → 5 ≡ question_refusal state area flag
-        unfolding question_refusal
-        asked_5 is_flag = rw (size, image, enough, is_flag)
-
-        pub asked_none : leb flag 1 ≡ true → 0 ≡ question_refusal state area flag
-        unfolding question_refusal
-        asked_none is_flag = rw (size, image, enough, is_flag)
+    pub asked_none : leb flag 1 ≡ true → 0 ≡ question_refusal state area flag
+    unfolding question_refusal
+    asked_none flagged = rw (a.size, a.image, e, a.enough, flagged)

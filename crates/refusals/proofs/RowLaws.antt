@@ -1,21 +1,21 @@
 -- Rows of a view: the bytes of one where they stand, its places, and all rows one by one.
 use Prim.Native.Nat.{ℕ, zero, suc, ◌+◌, ◌-◌, ◌*◌, ◌≤◌, ◌<◌}
 use mathlib.Core.Path.{◌≡◌, refl, sym, ap, ◌∙◌}
-use mathlib.Core.Bool.{Bool, true, false, not, cond, ◌&&◌, and-true, and_assoc}
+use mathlib.Core.Bool.{Bool, true, false, cond, ◌&&◌, and-true, and_assoc}
 use mathlib.Core.List.{List, [], ◌∷◌, ◌++◌}
 use native.Mathlib.Nat.{add-zero}
-use native.Mathlib.Numerals.{add-one}
 use native.Mathlib.Omega.{arith}
 use lib.Dec.{eqb, leb}
-use lib.ListN.{length, take, drop, get_or, take-append-drop, drop_of_length-le}
-use lib.Seq.{drop-cons, drop-drop, get_or-take, get_or-drop}
-use borrow.Author.Tests.{lt-leb, le-leb, not-true, not-false}
+use lib.ListN.{length, take, drop, get_or, take-append-drop}
+use lib.Seq.{drop-drop, get_or-take, get_or-drop}
+use borrow.Author.Tests.{lt-leb, le-leb}
+use Rattle.std.specs.List.{list_all, range_with_len}
 use Rattle.fields.specs.Zero.{all_zero}
 use Rattle.fields.specs.Entries.{entries, entry}
 use Rattle.fields.proofs.OrderLaws.{and_right}
 use Rattle.fields.proofs.ZeroLaws.{all_zero_eq, all_zero_append, zeros_at}
 use Rattle.fields.proofs.OverwriteLaws.{drop_take}
-use Rattle.fields.proofs.EntriesLaws.{length_entries, entries_add, entries_at}
+use Rattle.fields.proofs.EntriesLaws.{entries_add}
 use Rattle.model.specs.Lists.{flags_fit, used_places, row_fits, rows_fit}
 use Rattle.model.specs.Layout.{pair_size, place_size, row_size}
 
@@ -115,20 +115,12 @@ module _ (i : ℕ) (rows : List ℕ) {used : ℕ} (counted : used ≡ cond (eqb 
 
 -- ---- all rows
 
-module _ (count i : ℕ) (rows : List ℕ) (h : i < count) {answer : Bool} (asked : answer ≡ row_fits (entry row_size i rows)) where
-  rows_next : rows_fit (drop i (entries row_size count rows)) ≡ answer && rows_fit (drop (i + 1) (entries row_size count rows))
-  rows_next =
-      let es : List (List ℕ) = entries row_size count rows in
-      let l : i < length es = rw (length_entries row_size count rows) h in
-      rw (add-one, drop-cons es i [] l, entries_at row_size count i rows h, asked)
-
-  pub rows_break : rows_fit (entries row_size count rows) ≡ rows_fit (drop i (entries row_size count rows)) → not answer ≡ true
-      → false ≡ rows_fit (entries row_size count rows)
-  rows_break so_far t = sym (so_far ∙ rows_next ∙ rw (not-true answer t))
-
-  pub rows_go_on : rows_fit (entries row_size count rows) ≡ rows_fit (drop i (entries row_size count rows)) → not answer ≡ false
-      → rows_fit (entries row_size count rows) ≡ rows_fit (drop (i + 1) (entries row_size count rows))
-  rows_go_on so_far t = so_far ∙ rows_next ∙ rw (not-false answer t)
-
-pub rows_end : (count i : ℕ) (rows : List ℕ) → count ≤ i → rows_fit (drop i (entries row_size count rows)) ≡ true
-rows_end count i rows h = rw (drop_of_length-le (entries row_size count rows) {i = i} (rw (length_entries row_size count rows) h))
+-- the rows from i on, one after another
+pub fits_all : (rows : List ℕ) (n i : ℕ) → list_all (λ (k : ℕ). row_fits (entry row_size k rows)) (range_with_len i n)
+    ≡ rows_fit (entries row_size n (drop (i * row_size) rows))
+unfolding entry
+fits_all rows zero i = refl
+fits_all rows (suc n) i =
+    let next : i * row_size + row_size ≡ (i + 1) * row_size = omega arith in
+    let d : drop row_size (drop (i * row_size) rows) ≡ drop ((i + 1) * row_size) rows = drop-drop row_size (i * row_size) rows ∙ rw next in
+    rw (fits_all rows n (i + 1), ← d)

@@ -15,9 +15,13 @@ lent_refusal st call =
     (unless (peers_fit call.peers) 7
     (unless (view_fits call.view) 8 0))))
 
--- 1 to 8; `room` is the command area's length
-unfoldable pub given_refusal : List ℕ → ℕ → Call → ℕ
-given_refusal state room call =
+-- 1 to 3, then the number of what comes behind them; `room` is the command area's length
+abbrev pub areas_refusal : List ℕ → ℕ → ℕ → ℕ
+areas_refusal state room behind =
     unless (eqb (length state) area_size) 1
     (unless (well_formed state) 2
-    (unless (leb area_size room) 3 (lent_refusal (decode state) call)))
+    (unless (leb area_size room) 3 behind))
+
+-- 1 to 8; `room` is the command area's length
+unfoldable pub given_refusal : List ℕ → ℕ → Call → ℕ
+given_refusal state room call = areas_refusal state room (lent_refusal (decode state) call)

@@ -1,6 +1,8 @@
 // Whether a view is as it should be, exactly: a first height and a row for it and each height after it.
 //
 // Number 8 of the refusals. Any bytes are answered, in one pass that ends at the first row that does not fit.
+//
+// Rows and a count: the rows are known to be whole only here.
 ghost use Rattle.std.specs.Prelude.{◌≡◌, cond, ◌+◌, ◌*◌, ◌≤◌, eqb, length};
 ghost use Rattle.fields.specs.Entries.{entries, entry};
 ghost use Rattle.model.specs.Lists.{row_fits, rows_fit, view_fits};
@@ -15,7 +17,7 @@ fn used_places(count: u8) -> usize
     if count == 255 {
         return 0;
     }
-    count as usize
+    usize::from(count)
 }
 
 // Row i. Its unused stored bytes are among what must be zero, so all three are tested, whatever the count.
@@ -29,7 +31,8 @@ fn row_fits(rows: &[u8], i: usize) -> bool
     if 3 < used {
         return false;
     }
-    let flags = (rows[at + PLACE_SIZE] <= 1) & ((rows[at + 68] <= 1) & (rows[at + 102] <= 1));
+    let flags = (rows[at + PLACE_SIZE] <= 1)
+        & ((rows[at + 2 * PLACE_SIZE] <= 1) & (rows[at + 3 * PLACE_SIZE] <= 1));
     let unused = at + (1 + used * PLACE_SIZE);
     let end = at + ROW_SIZE;
     flags & spans::copying::is_zero(&rows[unused..end])
@@ -40,14 +43,7 @@ fn rows_fit(rows: &[u8], count: usize) -> bool
     requires { count * row_size ≤ length rows.now }
     ensures { result ≡ rows_fit (entries row_size count rows.now) }
 {
-    let mut i = 0;
-    while i < count {
-        if !row_fits(rows, i) {
-            return false;
-        }
-        i += 1;
-    }
-    true
+    (0..count).all(|i| row_fits(rows, i))
 }
 
 // Whether a view's length, heights and rows all fit.
@@ -59,8 +55,8 @@ pub fn view_fits(view: &[u8]) -> bool
     }
     let size = view.len() - 4;
     let count = size / ROW_SIZE;
-    let first = fields::read_u32(view, 0) as u64;
-    let sizes = (size % ROW_SIZE == 0) & (first + (count as u64) <= 4294967296);
+    let first = fields::read_u32(view, 0);
+    let sizes = (size % ROW_SIZE == 0) & (u64::from(first) + (count as u64) <= 4294967296);
     if !sizes {
         return false;
     }

@@ -1,22 +1,26 @@
 -- The entries by their tests.
-use Prim.Native.Nat.{ℕ, ◌≤◌}
-use mathlib.Core.Path.{◌≡◌, sym, ◌∙◌}
+use Prim.Native.Nat.{ℕ, zero, suc, ◌*◌, ◌<◌, ◌≤◌}
+use mathlib.Core.Path.{◌≡◌, refl, sym, ◌∙◌}
 use mathlib.Core.Bool.{true, false}
 use mathlib.Core.List.{List}
 use lib.ListN.{length}
 use lib.Dec.{eqb, leb}
-use borrow.Author.Tests.{eqb-true, leb-true}
+use borrow.Author.Tests.{ne_eqb, eqb-true, leb-true}
+use native.Mathlib.Nat.{lt_irrefl}
 use native.Mathlib.Omega.{arith}
 use Rattle.fields.specs.Overwrite.{overwritten}
 use Rattle.fields.specs.Entries.{joined}
-use Rattle.model.specs.State.{opened}
-use Rattle.model.specs.Image.{encode, decode, well_formed}
+use Rattle.model.specs.State.{State, opened}
+use Rattle.model.specs.Image.{bit, encode, decode, well_formed}
 use Rattle.model.proofs.FinishedLaws.{held}
 use Rattle.refusals.specs.Refusals.{given_refusal}
 use Rattle.refusals.proofs.RefusalLaws.{refusal_split}
-use Rattle.model.specs.Calls.{is_flag, Call, Answer, Result, refused, step_refusal, step, Opening, Opened, open', Asked, question_refusal, question_pairs, question}
-use Rattle.model.specs.Forecast.{Forecast, forecast_refusal, no_figures, forecast}
-use Rattle.model.specs.Layout.{area_size}
+use Rattle.model.specs.Calls.{is_flag, Call, Result, refused, step_refusal, step, Opening, Opened, open', Asked, question_refusal, question_pairs, question}
+use Rattle.model.specs.Forecast.{forecast_refusal, no_figures, forecast}
+use Rattle.model.specs.Layout.{area_size, pair_size}
+use Rattle.model.specs.Protocol.{tracked_limit}
+use Rattle.model.proofs.Well.{Well}
+use Rattle.model.proofs.QuestionLaws.{question_bytes_most}
 use Rattle.model.proofs.ForecastLaws.{same_refusal}
 use Rattle.fields.specs.Zero.{zeros}
 use Rattle.fields.proofs.ZeroLaws.{length_zeros}
@@ -34,40 +38,48 @@ pub opened_here : (state exit : List ℕ) (o : Opening)
 unfolding open'
 opened_here state exit o t e = rw (t, e)
 
-pub not_stepped : (state area : List ℕ) (call : Call) (number : ℕ) (answer : Answer)
-    → number ≡ given_refusal state (length area) call
-    → eqb number 0 ≡ false
-    → answer ≡ refused number
-    → ◌≡◌ {A = Result} (record { answer = answer; state = state; commands = area }) (step state area call)
-unfolding step
-not_stepped state area call number answer e t a =
-    let whole : step_refusal state area call ≡ number = refusal_split state area call ∙ rw (sym e, t) in
-    rw (whole, t, a)
+-- a number that is not 0, as tests see it
+module _ {number : ℕ} (positive : 0 < number) where
+  told : eqb number 0 ≡ false
+  told = ne_eqb number 0 (λ z. lt_irrefl 0 (omega arith))
 
-pub not_forecast : (state : List ℕ) (call : Call) (number : ℕ) {f : Forecast}
-    → number ≡ given_refusal state area_size call
-    → eqb number 0 ≡ false
-    → f ≡ no_figures number
-    → f ≡ forecast state call
-unfolding forecast
-not_forecast state call number e t a =
-    let area : List ℕ = zeros area_size in
-    let long : length area ≡ area_size = length_zeros area_size in
-    let whole : forecast_refusal state call ≡ number =
-    sym (same_refusal state area call long) ∙ refusal_split state area call ∙ rw (long, sym e, t) in
-    rw (whole, t, a)
+  pub not_stepped : (state area : List ℕ) (call : Call) → number ≡ given_refusal state (length area) call
+      → ◌≡◌ {A = Result} (record { answer = refused number; state = state; commands = area }) (step state area call)
+  unfolding step
+  not_stepped state area call e =
+      let whole : step_refusal state area call ≡ number = refusal_split state area call ∙ rw (sym e, told) in
+      rw (whole, told)
 
-module _ (state area : List ℕ) (flag number : ℕ) (e : number ≡ question_refusal state area flag) where
-  pub not_asked : eqb number 0 ≡ false → ◌≡◌ {A = Asked} (record { number = number; length = 0; commands = area }) (question state area flag)
+  pub not_forecast : (state : List ℕ) (call : Call) → number ≡ given_refusal state area_size call → no_figures number ≡ forecast state call
+  unfolding forecast
+  not_forecast state call e =
+      let area : List ℕ = zeros area_size in
+      let long : length area ≡ area_size = length_zeros area_size in
+      let whole : forecast_refusal state call ≡ number =
+      sym (same_refusal state area call long) ∙ refusal_split state area call ∙ rw (long, sym e, told) in
+      rw (whole, told)
+
+  pub not_asked : (state area : List ℕ) (flag : ℕ) → number ≡ question_refusal state area flag
+      → ◌≡◌ {A = Asked} (record { number = number; length = 0; commands = area }) (question state area flag)
   unfolding question
-  not_asked t = rw (sym e, t)
+  not_asked state area flag e = rw (sym e, told)
 
-  pub asked : eqb number 0 ≡ true → (size : ℕ) (exit : List ℕ)
-      → size ≡ length (joined (question_pairs (decode state) flag))
-      → exit ≡ overwritten 0 (joined (question_pairs (decode state) flag)) area
-      → ◌≡◌ {A = Asked} (record { number = 0; length = size; commands = exit }) (question state area flag)
-  unfolding question
-  asked t size exit l w = rw (sym e, t, l, w)
+-- a flag as what it says
+pub flag_bit : (flag : ℕ) → flag ≤ 1 → bit (eqb flag 1) ≡ flag
+flag_bit zero h = refl
+flag_bit (suc zero) h = refl
+flag_bit (suc (suc n)) h = absurd (omega arith)
+
+-- the pairs that `said` picks, which is the flag
+pub asked : (state area : List ℕ) (flag : ℕ) → 0 ≡ question_refusal state area flag → {said : ℕ} → said ≡ flag → (size : ℕ) (exit : List ℕ)
+    → size ≡ length (joined (question_pairs (decode state) said))
+    → exit ≡ overwritten 0 (joined (question_pairs (decode state) said)) area
+    → ◌≡◌ {A = Asked} (record { number = 0; length = size; commands = exit }) (question state area flag)
+unfolding question
+asked state area flag e f size exit l w = rw (sym e, l, w, f)
+
+pub pairs_short : (st : State) (flag : ℕ) → Well st → {size : ℕ} → size ≡ length (joined (question_pairs st flag)) → size ≤ tracked_limit * pair_size
+pairs_short st flag well e = rw e (question_bytes_most st flag well)
 
 -- what a question that is not refused was given
 pub record Asking (state area : List ℕ) (flag : ℕ) : Type 0 where

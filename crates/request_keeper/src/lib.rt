@@ -5,6 +5,8 @@
 // with the entry's definition in model/specs/Calls.antt, which demand 3 speaks of, in Forecast.antt, or in WindowMap.antt. A
 // refused call and a forecast write nothing, an opening the state area, a step both areas, a question the command area, a call
 // of the map the map. docs/SPEED.md has what they cost.
+//
+// Numbers and slices one by one, as C gives them.
 #![tactic(auto)]
 
 pub mod map;
@@ -12,9 +14,14 @@ pub mod map;
 ghost use Rattle.std.specs.Prelude.{◌≡◌};
 ghost use Rattle.model.specs.Calls.{open', step, question};
 ghost use Rattle.model.specs.Forecast.{forecast};
+ghost use Rattle.refusals.specs.Lent.{call_with};
+ghost use Rattle.step.specs.Answers.{answer_in};
+ghost use Rattle.step.specs.Forecasts.{forecast_in};
 
 use model::layout::AREA_SIZE;
 use plan::Call;
+use refusals::lent::Lists;
+use refusals::refusal::Refusal;
 use settings::Settings;
 use step::finish::Answer;
 use step::forecast::Forecast;
@@ -31,8 +38,8 @@ pub fn request_keeper_open(
 ) -> u32
     ensures { record { number = result; state = state.new } ≡ open' state.old (record { settings = record { timeout = timeout; max_checks = checks; min_send_interval = interval; stall_timeout = stall }; clock = clock; height = height }) }
 {
-    if state.len() != 65536 {
-        return 1;
+    if state.len() != AREA_SIZE {
+        return Refusal::StateArea.number();
     }
     let settings = Settings {
         timeout,
@@ -42,6 +49,19 @@ pub fn request_keeper_open(
     };
     image::opening::open(state, settings, clock, height);
     0
+}
+
+// A step: the refusals that are known before it, then the step itself.
+fn take_step(
+    state: &mut [u8],
+    commands: &mut [u8],
+    call: Call,
+    lists: Lists,
+) -> Result<Answer, Refusal>
+    ensures { record { answer = answer_in result; state = state.new; commands = commands.new } ≡ step state.old commands.old (call_with call lists.entry) }
+{
+    refusals::step_refusal(state, commands.len(), call, lists)?;
+    step::run(state, commands, call, lists)
 }
 
 // One step: refused with its number and both areas untouched, or finished.
@@ -78,29 +98,25 @@ pub fn request_keeper_step(
         hastip,
         tip,
     };
-    let number = refusals::step_refusal(
-        state,
-        commands.len(),
-        call,
+    let lists = Lists {
         ids,
         continuation,
         stored,
         peers,
         view,
-    );
-    if number != 0 {
-        return step::finish::refused(number);
+    };
+    match take_step(state, commands, call, lists) {
+        Ok(answer) => answer,
+        Err(refusal) => step::finish::refused(refusal.number()),
     }
-    step::run(
-        state,
-        commands,
-        call,
-        ids,
-        continuation,
-        stored,
-        peers,
-        view,
-    )
+}
+
+// The same of a forecast, which has no command area.
+fn forecast_step(state: &[u8], call: Call, lists: Lists) -> Result<Forecast, Refusal>
+    ensures { forecast_in result ≡ forecast state.now (call_with call lists.entry) }
+{
+    refusals::step_refusal(state, AREA_SIZE, call, lists)?;
+    step::forecast::forecast_step(state, call, lists)
 }
 
 // What such a step would need: refused with its number and all else 0, or its figures. Nothing is written.
@@ -136,20 +152,17 @@ pub fn request_keeper_forecast(
         hastip,
         tip,
     };
-    let number = refusals::step_refusal(
-        state,
-        AREA_SIZE,
-        call,
+    let lists = Lists {
         ids,
         continuation,
         stored,
         peers,
         view,
-    );
-    if number != 0 {
-        return step::forecast::no_figures(number);
+    };
+    match forecast_step(state, call, lists) {
+        Ok(forecast) => forecast,
+        Err(refusal) => step::forecast::no_figures(refusal.number()),
     }
-    step::forecast::forecast_step(state, call, ids, continuation, stored, peers, view)
 }
 
 // The question's two numbers, in the order of docs/LAYOUT.md.
@@ -164,14 +177,18 @@ pub struct Asked {
 pub fn request_keeper_question(state: &[u8], commands: &mut [u8], flag: u8) -> Asked
     ensures { record { number = result.number; length = result.length; commands = commands.new } ≡ question state.now commands.old flag }
 {
-    let number = refusals::question_refusal(state, commands.len(), flag);
-    if number != 0 {
-        return Asked { number, length: 0 };
-    }
-    let head = image::head::read_head(state);
-    let length = question::question_pairs(state, head, flag, commands);
-    Asked {
-        number: 0,
-        length: length as u32,
+    match refusals::question_refusal(state, commands.len(), flag) {
+        Err(refusal) => Asked {
+            number: refusal.number(),
+            length: 0,
+        },
+        Ok(()) => {
+            let head = image::head::read_head(state);
+            let length = question::question_pairs(state, head, flag == 1, commands);
+            Asked {
+                number: 0,
+                length: length as u32,
+            }
+        }
     }
 }

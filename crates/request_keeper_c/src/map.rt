@@ -2,7 +2,7 @@
 ghost use Rattle.std.specs.Prelude.{◌≡◌, true, false};
 ghost use Rattle.model.specs.WindowMap.{map_fill, map_change, map_slide, map_passable};
 
-use window_map::Passable;
+use request_keeper::map::Passable;
 
 // The whole map filled from a view, on any 512 bytes. Answers 0, 12, 8 or 9.
 #[unsafe(no_mangle)]

@@ -83,9 +83,9 @@ module _ (area : List ℕ) (l : length area ≡ area_size) (f : Bytes area) (ok 
         its_view = refl;
       }
 
-  pub area_tracked : (clock : ℕ) → state.last_clock ≤ clock → Tracked (head_in area) clock (drop region_at area)
+  pub area_tracked : Tracked (head_in area) (drop region_at area)
   unfolding decode pending_of head_in
-  area_tracked clock later =
+  area_tracked =
       let w : Well state = area_well in
       let rs : List Request = requests_in (pending_count area) (drop region_at area) in
       record {
@@ -94,7 +94,6 @@ module _ (area : List ℕ) (l : length area ≡ area_size) (f : Bytes area) (ok 
         few = (formed area ok).tracked;
         order = (formed area ok).ids_rise;
         narrow = (formed area ok).narrow;
-        stamps = all_weaker _ (λ (r : Request). r.stamp ≤ clock) (λ r h. let s : r.stamp ≤ state.last_clock = h.stamp in omega arith) rs w.requests;
         checks =
             all_weaker _ (λ (r : Request). r.checks + 1 < 2 ^ 32)
             (λ r h.

@@ -11,7 +11,9 @@ use Rattle.image.specs.declared.head.Head.{Head}
 use Rattle.image.specs.Heads.{head_in}
 use Rattle.plan.specs.declared.Plan.{Plan}
 use Rattle.plan.specs.Plans.{Follows}
-use Rattle.work.specs.declared.Performed.TheVariants.{Full}
+use Rattle.std.proofs.Common.{Err}
+use Rattle.commands.specs.Sent.{first_place}
+use Rattle.commands.specs.declared.tracker.TrackerError.TheVariants.{Full}
 use Rattle.work.specs.Worked.{Worked, fits, performed_as, is_one_list}
 use Rattle.refusals.specs.Refusals.{given_refusal}
 use Rattle.refusals.proofs.RefusalLaws.{Given, given}
@@ -30,7 +32,7 @@ module _ (area commands : List ℕ) (c : calls.Call) (p : Plan) (g : given_refus
   facts = given area (length commands) c g
 
   -- a work that is not of one list always has room
-  pub not_full : {A : Type 0} → works_on_copies p.work p.announces ≡ false → is_one_list p.work ≡ false → Full ≡ performed_as 0 0 w → A
+  pub not_full : {A : Type 0} → works_on_copies p.work p.announces ≡ false → is_one_list p.work ≡ false → (Err Full) ≡ performed_as first_place w → A
   not_full small several full =
       let room : fits w ≡ true = few_fit (decode area) c p (area_well area facts.state_size bytes facts.image).tracked small several in
-      absurd (false≢true (sym (full_fails 0 0 w full) ∙ room))
+      absurd (false≢true (sym (full_fails w full) ∙ room))

@@ -16,9 +16,10 @@ use Rattle.model.specs.Calls as calls
 use Rattle.model.specs.Calls.{args_of, step_bytes, step_answer, result_refusal, call_refusal, step_refusal, step}
 use Rattle.model.proofs.FinishedLaws.{passed_areas}
 use Rattle.model.proofs.EntryLaws.{step_refused, step_finished}
-use Rattle.commands.specs.Sent.{sent_bytes}
+use Rattle.commands.specs.Sent.{first_place, behind}
 use Rattle.work.specs.declared.Counts.{Counts}
-use Rattle.work.specs.declared.Performed.TheVariants.{Done as Finished, Full}
+use Rattle.std.proofs.Common.{Ok, Err}
+use Rattle.commands.specs.declared.tracker.TrackerError.TheVariants.{Full}
 use Rattle.work.specs.Worked.{Worked, fits, performed_as}
 use Rattle.refusals.specs.Refusals.{given_refusal}
 use Rattle.refusals.proofs.RefusalLaws.{refusal_split}
@@ -66,9 +67,9 @@ module _ (area commands : List ℕ) (call : calls.Call) (g : given_refusal area 
 
 -- ---- what the work answered
 
--- the counts of a work whose sendings begin at this place, with this batch
-abbrev pub counts_of : ℕ → ℕ → Worked → Counts
-counts_of at batch w =
+-- the counts of a work whose sendings come first
+abbrev pub counts_of : Worked → Counts
+counts_of w =
     record {
       pending = length w.pending;
       evicted = length w.evicted;
@@ -76,30 +77,29 @@ counts_of at batch w =
       fresh = w.fresh;
       abandoned = w.abandoned;
       forgotten = w.forgotten;
-      at = at + length (sent_bytes batch w.sendings);
-      batch = batch + length w.sendings;
+      place = behind first_place w.sendings;
     }
 
-module _ (at batch : ℕ) (w : Worked) where
-  pub full_fails : Full ≡ performed_as at batch w → fits w ≡ false
+module _ (w : Worked) where
+  pub full_fails : (Err Full) ≡ performed_as first_place w → fits w ≡ false
   unfolding performed_as
   full_fails = go (fits w) refl
     where
       go : (b : Bool) → fits w ≡ b
-          → Full ≡ cond b (Finished (counts_of at batch w)) Full
+          → (Err Full) ≡ cond b (Ok (counts_of w)) (Err Full)
           → fits w ≡ false
       go true e h = let z : ◌≡◌ {A = ℕ} 0 1 = cc in absurd (lt_irrefl 0 (omega arith))
       go false e h = e
 
-  pub done_fits : (counts : Counts) → Finished counts ≡ performed_as at batch w
+  pub done_fits : (counts : Counts) → Ok counts ≡ performed_as first_place w
       → (fits w ≡ true)
-      × (counts ≡ counts_of at batch w)
+      × (counts ≡ counts_of w)
   unfolding performed_as
   done_fits counts = go (fits w) refl
     where
       go : (b : Bool) → fits w ≡ b
-          → Finished counts ≡ cond b (Finished (counts_of at batch w)) Full
+          → Ok counts ≡ cond b (Ok (counts_of w)) (Err Full)
           → (fits w ≡ true)
-          × (counts ≡ counts_of at batch w)
+          × (counts ≡ counts_of w)
       go true e h = (e, cc)
       go false e h = let z : ◌≡◌ {A = ℕ} 0 1 = cc in absurd (lt_irrefl 0 (omega arith))

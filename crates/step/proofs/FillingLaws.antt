@@ -22,8 +22,7 @@ use Rattle.model.specs.Check.{mark_all_retried}
 use Rattle.model.specs.State.{State}
 use Rattle.model.specs.Lists.{ids_in, pairs_in}
 use Rattle.model.specs.Calls as calls
-use Rattle.peers.specs.declared.Listed.{Listed}
-use Rattle.peers.specs.declared.Listed.TheVariants.{Peer, Nobody}
+use Rattle.std.proofs.Common.{Option, Some, None}
 use Rattle.plan.specs.declared.Plan.{Plan}
 use Rattle.plan.specs.declared.Work.{Work}
 use Rattle.plan.specs.declared.Work.TheVariants.{Nothing, Ids, Sections, Received, Evicted, Purge, PurgeSections, Lose, LoseAsk, Check, CheckFresh}
@@ -72,15 +71,15 @@ wanted_few pending type_id pairs ids =
       length_kept (λ (id : Id). not (is_pending id pending)) ids,
     )
 
-untold : (announces : Listed) → is_told announces ≡ false → announces ≡ Nobody
-untold (Peer peer) e = absurd (false≢true (sym e))
-untold Nobody e = refl
+untold : (announces : Option ℕ) → is_told announces ≡ false → announces ≡ None
+untold (Some peer) e = absurd (false≢true (sym e))
+untold None e = refl
 
 module _ (st : State) (c : calls.Call) (downloaded : ℕ) where
   abbrev held : ℕ
   held = length st.pending + length st.sync.evicted
 
-  stays_few : (work : Work) (announces : Listed) → held ≤ tracked_limit → works_on_copies work announces ≡ false → is_one_list work ≡ false
+  stays_few : (work : Work) (announces : Option ℕ) → held ≤ tracked_limit → works_on_copies work announces ≡ false → is_one_list work ≡ false
       → length (worked_by st c downloaded work).pending + length (worked_by st c downloaded work).evicted ≤ tracked_limit
   unfolding worked_by acted_by retried_by mark_received pending_after_eviction evicted_after_eviction purge_peer purge_all
   stays_few Nothing announces h e one = omega arith
@@ -116,7 +115,7 @@ few_fit st c p h e one =
     (stays_few st c p.head.downloaded p.work p.announces h e one)
 
 -- a work of one list that needs no copies tells nobody before it
-pub nobody_told : (work : Work) (announces : Listed) → works_on_copies work announces ≡ false → is_one_list work ≡ true → announces ≡ Nobody
+pub nobody_told : (work : Work) (announces : Option ℕ) → works_on_copies work announces ≡ false → is_one_list work ≡ true → announces ≡ None
 nobody_told Nothing announces e one = absurd (false≢true one)
 nobody_told (Ids peer) announces e one = untold announces e
 nobody_told (Sections peer) announces e one = absurd (false≢true one)

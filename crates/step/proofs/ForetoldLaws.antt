@@ -73,3 +73,9 @@ foretold room out {area} {call = call} {lent = lent} {answer = answer} w short f
     rw (take-append-le answer.length out rest fits) at (
     figures_shown (w rest (omega (arith, long))) long ∙ sym (forecast_holds area (room ++ rest) (called call lent) bytes width long)
     )
+
+pub refused_foretold : (room out : List ℕ) {area : List ℕ} {plan : Plan} {call : Call} {lent : Lists} {number : ℕ} {area' : List ℕ}
+    → WorksIn area room plan call lent (calls.refused number) area' out → length room ≤ area_size → Bytes area → InWidth (called call lent)
+    → no_figures number ≡ forecast area (called call lent)
+unfolding commands_in
+refused_foretold room out w short bytes width = foretold room out w short (omega arith) bytes width

@@ -13,4 +13,4 @@ pub mod RoomLaws
 pub mod SettledLaws
 pub mod StepLaws
 pub mod UsedLaws
-pub mod WorkLaws
+pub mod TailLaws

@@ -7,8 +7,7 @@ use lib.ListN.{length, take}
 use lib.Seq.{take-append-le, drop-append-le}
 use Rattle.fields.specs.Overwrite.{overwritten}
 use Rattle.model.specs.Layout.{area_size, command_header, most_bytes}
-use Rattle.peers.specs.declared.Listed.{Listed}
-use Rattle.peers.specs.declared.Listed.TheVariants.{Peer, Nobody}
+use Rattle.std.proofs.Common.{Option, Some, None}
 use Rattle.work_asks.specs.Room.{room_for}
 
 -- what is written in the room is written in front
@@ -20,17 +19,17 @@ written_before at new room rest fits =
 -- ---- how much of it there is
 
 -- an area is enough
-pub room_few : (announces : Listed) (most : ℕ) → most ≤ most_bytes → room_for announces (most + command_header) ≤ area_size
-room_few (Peer peer) most h = omega arith
-room_few Nobody most h = omega arith
+pub room_few : (announces : Option ℕ) (most : ℕ) → most ≤ most_bytes → room_for announces (most + command_header) ≤ area_size
+room_few (Some peer) most h = omega arith
+room_few None most h = omega arith
 
 -- the room before a sync info
-pub room_before : (announces : Listed) (most n : ℕ) → room_for announces (most + command_header) ≤ n → room_for announces most ≤ n
-room_before (Peer peer) most n h = h
-room_before Nobody most n h = omega arith
+pub room_before : (announces : Option ℕ) (most n : ℕ) → room_for announces (most + command_header) ≤ n → room_for announces most ≤ n
+room_before (Some peer) most n h = h
+room_before None most n h = omega arith
 
 -- and for it, behind commands that end at this place
-pub room_behind : (announces : Listed) (most at n : ℕ) → room_for announces (most + command_header) ≤ n → at ≤ most_bytes → (announces ≡ Nobody → at ≤ most)
+pub room_behind : (announces : Option ℕ) (most at n : ℕ) → room_for announces (most + command_header) ≤ n → at ≤ most_bytes → (announces ≡ None → at ≤ most)
     → at + command_header ≤ n
-room_behind (Peer peer) most at n h few less = omega arith
-room_behind Nobody most at n h few less = omega (arith, less refl)
+room_behind (Some peer) most at n h few less = omega arith
+room_behind None most at n h few less = omega (arith, less refl)

@@ -11,9 +11,10 @@ use Rattle.fields.proofs.OverwriteLaws.{overwritten_nil}
 use Rattle.model.specs.Lists.{ids_in}
 use Rattle.model.specs.Commands.{command_bytes}
 use Rattle.peers.specs.Peers.{listed_peer}
-use Rattle.peers.specs.declared.Listed.{Listed}
-use Rattle.peers.specs.declared.Listed.TheVariants.{Peer, Nobody}
-use Rattle.commands.specs.Sent.{sent_bytes}
+use Rattle.std.proofs.Common.{Some, None}
+use Rattle.std.proofs.Common as program
+use Rattle.commands.specs.Sent.{sent_bytes, sent_at, behind}
+use Rattle.commands.specs.declared.place.Place.{Place}
 use Rattle.step.specs.Finished.{said}
 
 no_ids : (bytes : List ℕ) → length bytes < 1 → ids_in bytes ≡ []
@@ -22,19 +23,18 @@ no_ids [] h = refl
 no_ids (b ∷ bytes) h = absurd (lt_irrefl 0 (omega arith))
 
 -- What was said, and the place behind it.
-module _ (says : Listed) (at batch : ℕ) (out : List ℕ) where
+module _ (says : program.Option ℕ) (place : Place) (out : List ℕ) where
   abbrev pub Said : List ℕ → ℕ → Type 0
   Said out' end =
-      (out' ≡ overwritten at (sent_bytes batch (said (listed_peer says))) out)
-      × (end ≡ at + length (sent_bytes batch (said (listed_peer says))))
+      (out' ≡ sent_at place (said (listed_peer says)) out) × (end ≡ (behind place (said (listed_peer says))).at)
 
-  pub unsaid : says ≡ Nobody → Said out at
+  pub unsaid : says ≡ None → Said out place.at
   unfolding sent_bytes
-  unsaid e = rw e (sym (overwritten_nil at out), sym (add-zero at))
+  unsaid e = rw e (sym (overwritten_nil place.at out), sym (add-zero place.at))
 
-  pub said_to_lem : (ids : List ℕ) {out' : List ℕ} {peer end : ℕ} → says ≡ Peer peer → length ids ≡ 0
-      → out' ≡ overwritten at (command_bytes (record { kind = 3; type_id = 0; batch = batch; peer = peer; ids = ids_in ids })) out
-      → end ≡ at + 16 + length ids
+  pub said_to_lem : (ids : List ℕ) {out' : List ℕ} {peer end : ℕ} → says ≡ Some peer → length ids ≡ 0
+      → out' ≡ overwritten place.at (command_bytes (record { kind = 3; type_id = 0; batch = place.batch; peer = peer; ids = ids_in ids })) out
+      → end ≡ place.at + 16 + length ids
       → Said out' end
   unfolding sent_bytes command_bytes
   said_to_lem ids e h w n =
@@ -46,5 +46,5 @@ unfolding sent_bytes command_bytes
 said_short batch none = omega arith
 said_short batch (some peer) = omega arith
 
-pub said_end : (at batch end : ℕ) (peer : Option ℕ) → end ≡ at + length (sent_bytes batch (said peer)) → end ≤ at + 16
-said_end at batch end peer e = omega (arith, said_short batch peer)
+pub said_end : (place : Place) (end : ℕ) (peer : Option ℕ) → end ≡ (behind place (said peer)).at → end ≤ place.at + 16
+said_end place end peer e = omega (arith, said_short place.batch peer)

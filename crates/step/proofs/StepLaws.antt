@@ -32,14 +32,15 @@ use Rattle.image.specs.declared.head.Head.{Head}
 use Rattle.image.specs.Heads.{head_in, head_of}
 use Rattle.image.proofs.HeadLaws.{head_decode}
 use Rattle.peers.specs.Peers.{listed_peer}
-use Rattle.commands.specs.Sent.{sent_bytes}
+use Rattle.commands.specs.Sent.{first_place, sent_bytes, sent_at}
 use Rattle.commands.proofs.SentLaws.{sent_append}
 use Rattle.plan.specs.declared.Plan.{Plan}
 use Rattle.plan.specs.declared.Stalling.{Stalling}
 use Rattle.plan.specs.declared.Stalling.TheVariants.{Stay, Empty, Join}
 use Rattle.plan.specs.Plans.{is_check_by, stalled_by, Follows}
 use Rattle.work.specs.declared.Counts.{Counts}
-use Rattle.work.specs.declared.Performed.TheVariants.{Done as Finished, Full}
+use Rattle.std.proofs.Common.{Ok, Err}
+use Rattle.commands.specs.declared.tracker.TrackerError.TheVariants.{Full}
 use Rattle.work.specs.Worked.{region_of, Worked, count_by, worked_by, fits, performed_as}
 use Rattle.refusals.specs.Refusals.{given_refusal}
 use Rattle.refusals.proofs.RefusalLaws.{Given, given}
@@ -119,12 +120,12 @@ module _ (area commands : List ℕ) (c : calls.Call) (p : Plan) (g : given_refus
     seen : (plan old (args_of c)).in_view ≡ true
     seen = sym (seen_is old c p f) ∙ e
 
-    pub too_many : Full ≡ performed_as 0 0 w → untouched area commands c g 10 ≡ step area commands c
-    too_many h = ends_10 area commands c g seen (sym (carried_fits old c p f) ∙ full_fails 0 0 w h)
+    pub too_many : (Err Full) ≡ performed_as first_place w → untouched area commands c g 10 ≡ step area commands c
+    too_many h = ends_10 area commands c g seen (sym (carried_fits old c p f) ∙ full_fails w h)
 
-    module _ (counts : Counts) (d : Finished counts ≡ performed_as 0 0 w) where
+    module _ (counts : Counts) (d : Ok counts ≡ performed_as first_place w) where
       tracked : few area commands c g seen ≡ true
-      tracked = sym (carried_fits old c p f) ∙ (done_fits 0 0 w counts d).0
+      tracked = sym (carried_fits old c p f) ∙ (done_fits w counts d).0
 
       pub too_stalled : 256 < p.head.stalled → untouched area commands c g 11 ≡ step area commands c
       too_stalled h =
@@ -143,15 +144,15 @@ module _ (area commands : List ℕ) (c : calls.Call) (p : Plan) (g : given_refus
         not_refused_call : call_refusal old c ≡ 0
         not_refused_call = passes area commands c g seen tracked stalled_few_lem
 
-        counts_are : counts ≡ counts_of 0 0 w
-        counts_are = (done_fits 0 0 w counts d).1
+        counts_are : counts ≡ counts_of w
+        counts_are = (done_fits w counts d).1
 
         counts_few : Few counts
         unfolding fits carried_by worked_by
         counts_few =
             let t : length old.pending + length old.sync.evicted ≤ tracked_limit = well.tracked in
             let u : length w.pending + length w.evicted ≤ tracked_limit =
-            leb-true (length w.pending + length w.evicted) tracked_limit (done_fits 0 0 w counts d).0 in
+            leb-true (length w.pending + length w.evicted) tracked_limit (done_fits w counts d).0 in
             let judged-few = count_few old c p in
             rw counts_are (
               omega arith,
@@ -170,15 +171,15 @@ module _ (area commands : List ℕ) (c : calls.Call) (p : Plan) (g : given_refus
         bytes_are : step_bytes old (args_of c) ≡ sent_bytes 0 w.sendings ++ last p counts
         bytes_are =
             carried_bytes old c p f ∙ sent_append 0 w.sendings (said (listed_peer p.says))
-            ∙ ap (λ (n : ℕ). sent_bytes 0 w.sendings ++ sent_bytes n (said (listed_peer p.says))) (sym (ap (λ (k : Counts). k.batch) counts_are))
+            ∙ ap (λ (n : ℕ). sent_bytes 0 w.sendings ++ sent_bytes n (said (listed_peer p.says))) (sym (ap (λ (k : Counts). k.place.batch) counts_are))
 
-        at_is : counts.at ≡ length (sent_bytes 0 w.sendings)
-        at_is = ap (λ (k : Counts). k.at) counts_are ∙ zero-add (length (sent_bytes 0 w.sendings))
+        at_is : counts.place.at ≡ length (sent_bytes 0 w.sendings)
+        at_is = ap (λ (k : Counts). k.place.at) counts_are ∙ zero-add (length (sent_bytes 0 w.sendings))
 
         end_is : end p counts ≡ length (step_bytes old (args_of c))
         end_is = rw (bytes_are, length-append (sent_bytes 0 w.sendings), at_is)
 
-        place_few : counts.at ≤ most_bytes
+        place_few : counts.place.at ≤ most_bytes
         place_few = omega (arith, end_is, step_bytes_most old c well width not_refused_call)
 
         -- the stalled set before and after
@@ -220,11 +221,11 @@ module _ (area commands : List ℕ) (c : calls.Call) (p : Plan) (g : given_refus
               ∙ completed_encode old new (well_sized old well) (well_sized new (step_well old c well width not_refused_call)) image e₁ (back ∙ r)
 
         -- the commands
-        commands_finished : (out commands' : List ℕ) → out ≡ overwritten 0 (sent_bytes 0 w.sendings) commands
-            → commands' ≡ overwritten counts.at (last p counts) out
+        commands_finished : (out commands' : List ℕ) → out ≡ sent_at first_place w.sendings commands
+            → commands' ≡ sent_at counts.place (said (listed_peer p.says)) out
             → commands' ≡ overwritten 0 (step_bytes old (args_of c)) commands
         commands_finished out commands' o e =
-            front_written (sent_bytes 0 w.sendings) (last p counts) (step_bytes old (args_of c)) commands out commands' counts.at
+            front_written (sent_bytes 0 w.sendings) (last p counts) (step_bytes old (args_of c)) commands out commands' counts.place.at
             bytes_are at_is (omega (arith, step_bytes_most old c well width not_refused_call, given_facts.commands_size)) o e
 
         answer_finished : (answer : calls.Answer)
@@ -249,9 +250,9 @@ module _ (area commands : List ℕ) (c : calls.Call) (p : Plan) (g : given_refus
         pub finishes : (head : Head) → head ≡ head_in area → (image out state' commands' : List ℕ) (answer : calls.Answer)
             → take region_at image ≡ take region_at area
             → drop region_at image ≡ region_of w.pending w.evicted
-            → out ≡ overwritten 0 (sent_bytes 0 w.sendings) commands
+            → out ≡ sent_at first_place w.sendings commands
             → ImageSettled p counts head.stalled image state'
-            → commands' ≡ overwritten counts.at (last p counts) out
+            → commands' ≡ sent_at counts.place (said (listed_peer p.says)) out
             → answer ≡ answered p counts
             → record { answer = answer; state = state'; commands = commands' } ≡ step area commands c
         finishes head h image out state' commands' answer front back o s k a =

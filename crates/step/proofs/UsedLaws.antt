@@ -15,7 +15,7 @@ use Rattle.model.specs.Image.{well_formed, pending_count, evicted_count}
 use Rattle.model.specs.Protocol.{tracked_limit}
 use Rattle.model.specs.Layout.{area_size, id_size, record_size, region_at}
 use Rattle.model.proofs.FormedLaws.{region_free_in, formed}
-use Rattle.step.proofs.WorkLaws.{tail_all, front_kept, tail_put}
+use Rattle.step.proofs.TailLaws.{tail_all, front_kept, tail_put}
 
 take_zeros : (n m : ℕ) → n ≤ m → take n (zeros m) ≡ zeros n
 take_zeros n m h =

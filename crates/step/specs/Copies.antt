@@ -1,17 +1,15 @@
 -- Whether a step is worked out on copies: only there may a refusal as 10 come after something was written. A check asks again
 -- only for what was evicted, and so holds no more than before.
-use Rattle.std.specs.Prelude.{ℕ, Bool, true, false}
-use Rattle.peers.specs.declared.Listed.{Listed}
-use Rattle.peers.specs.declared.Listed.TheVariants.{Peer, Nobody}
+use Rattle.std.specs.Prelude.{ℕ, Bool, true, false, Option, Some, None}
 use Rattle.plan.specs.declared.Work.{Work}
 use Rattle.plan.specs.declared.Work.TheVariants.{Nothing, Ids, Sections, Received, Evicted, Purge, PurgeSections, Lose, LoseAsk, Check, CheckFresh}
 
 -- somebody is told of continuation ids
-abbrev pub is_told : Listed → Bool
-is_told (Peer peer) = true
-is_told Nobody = false
+abbrev pub is_told : Option ℕ → Bool
+is_told (Some peer) = true
+is_told None = false
 
-abbrev pub works_on_copies : Work → Listed → Bool
+abbrev pub works_on_copies : Work → Option ℕ → Bool
 works_on_copies Nothing announces = false
 works_on_copies (Ids peer) announces = is_told announces
 works_on_copies (Sections peer) announces = true

@@ -9,6 +9,7 @@ use Rattle.plan.specs.declared.Call.{Call}
 use Rattle.plan.specs.declared.Plan.{Plan}
 use Rattle.plan.specs.Plans.{call_of, Follows}
 use Rattle.work.specs.Worked.{Worked}
+use Rattle.refusals.specs.declared.lent.Lists as slices
 use Rattle.refusals.specs.Refusals.{given_refusal}
 use Rattle.work_asks.specs.Carried.{carried_by}
 use Rattle.step.specs.Copies.{works_on_copies}
@@ -23,6 +24,10 @@ pub record Lists : Type 0 where
 
 abbrev pub lists : List ℕ → List ℕ → List ℕ → List ℕ → List ℕ → Lists
 lists ids continuation stored peers view = record { ids = ids; continuation = continuation; stored = stored; peers = peers; view = view }
+
+-- as a call lends them
+abbrev pub lent_in : slices.Lists → Lists
+lent_in l = lists l.ids.now l.continuation.now l.stored.now l.peers.now l.view.now
 
 -- the call of these numbers and lists
 abbrev pub called : Call → Lists → calls.Call

@@ -1,7 +1,9 @@
 // A step on copies, since it may be refused after something was written: the areas are written only where it finished.
+//
+// Areas, header, plan, numbers and lists come one by one: what is asked of all is `Planned`, between them and the state.
 ghost use Rattle.std.specs.Prelude.{◌≡◌, ◌≤◌, length, true};
-ghost use Rattle.step.specs.Answers.{answer_of};
-ghost use Rattle.step.specs.Planned.{lists, Planned, StepsTo};
+ghost use Rattle.step.specs.Answers.{answer_in};
+ghost use Rattle.step.specs.Planned.{lent_in, Planned, StepsTo};
 ghost use Rattle.fields.specs.Zero.{zeros};
 ghost use Rattle.image.specs.Heads.{head_in};
 ghost use Rattle.model.specs.Image.{well_formed};
@@ -11,8 +13,10 @@ use crate::finish::Answer;
 use image::head::Head;
 use model::layout::{AREA_SIZE, ID_SIZE, RECORD_SIZE, REGION_AT};
 use plan::{Call, Plan};
+use refusals::lent::Lists;
+use refusals::refusal::Refusal;
 
-// Zeros: room for the commands of a step, or for an image.
+// Zeros: room for the commands of a step, or for an image, in a function of its own for proofs that hold none of them.
 pub fn room() -> [u8; 65536]
     ensures { result ≡ zeros area_size }
 {
@@ -39,33 +43,16 @@ fn step_in(
     head: Head,
     plan: Plan,
     call: Call,
-    ids: &[u8],
-    continuation: &[u8],
-    stored: &[u8],
-    peers: &[u8],
-    view: &[u8],
-) -> Answer
-    requires planned { Planned state.old head plan call (lists ids.now continuation.now stored.now peers.now view.now) }
+    lists: Lists,
+) -> Result<Answer, Refusal>
+    requires planned { Planned state.old head plan call (lent_in lists) }
     requires area_size_in_bounds { (area_size ≤ length commands.old) × ((image.old ≡ state.old) × (length out.old ≡ area_size)) }
-    ensures { StepsTo state.old commands.old call (lists ids.now continuation.now stored.now peers.now view.now) (answer_of result) state.new commands.new }
+    ensures { StepsTo state.old commands.old call (lent_in lists.entry) (answer_in result) state.new commands.new }
 {
-    let answer = crate::working::work_out(
-        image,
-        out,
-        head,
-        plan,
-        call,
-        ids,
-        continuation,
-        stored,
-        peers,
-        view,
-    );
-    if answer.number == 0 {
-        spans::copying::copy(image, state);
-        spans::copying::copy_prefix(out, answer.length as usize, commands);
-    }
-    answer
+    let answer = crate::working::work_out(image, out, head, plan, call, lists)?;
+    spans::copying::copy(image, state);
+    spans::copying::copy_prefix(out, answer.length as usize, commands);
+    Ok(answer)
 }
 
 // The areas are written only where the step finishes: all else is done on copies.
@@ -75,29 +62,14 @@ pub fn step_on_copies(
     head: Head,
     plan: Plan,
     call: Call,
-    ids: &[u8],
-    continuation: &[u8],
-    stored: &[u8],
-    peers: &[u8],
-    view: &[u8],
-) -> Answer
-    requires { Planned state.old head plan call (lists ids.now continuation.now stored.now peers.now view.now) × (area_size ≤ length commands.old) }
-    ensures { StepsTo state.old commands.old call (lists ids.now continuation.now stored.now peers.now view.now) (answer_of result) state.new commands.new }
+    lists: Lists,
+) -> Result<Answer, Refusal>
+    requires { Planned state.old head plan call (lent_in lists) × (area_size ≤ length commands.old) }
+    ensures { StepsTo state.old commands.old call (lent_in lists.entry) (answer_in result) state.new commands.new }
 {
     let mut image = spans::copying::scratch(state);
     let mut out = room();
     step_in(
-        state,
-        commands,
-        &mut image,
-        &mut out,
-        head,
-        plan,
-        call,
-        ids,
-        continuation,
-        stored,
-        peers,
-        view,
+        state, commands, &mut image, &mut out, head, plan, call, lists,
     )
 }

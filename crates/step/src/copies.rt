@@ -5,21 +5,17 @@
 ghost use Rattle.std.specs.Prelude.{◌≡◌};
 ghost use Rattle.step.specs.Copies.{is_told, works_on_copies};
 
-use peers::Listed;
 use plan::Work;
 
 // Whether somebody is told of continuation ids.
-fn is_told(announces: Listed) -> bool
+fn is_told(announces: Option<u64>) -> bool
     ensures { result ≡ is_told announces }
 {
-    match announces {
-        Listed::Peer(_) => true,
-        Listed::Nobody => false,
-    }
+    announces.is_some()
 }
 
 // Whether a refusal as 10 may come after something was written.
-pub fn works_on_copies(work: Work, announces: Listed) -> bool
+pub fn works_on_copies(work: Work, announces: Option<u64>) -> bool
     ensures { result ≡ works_on_copies work announces }
 {
     match work {

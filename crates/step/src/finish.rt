@@ -1,11 +1,13 @@
 // What a step answers, and what a finished step writes: its sync info and the image after it.
 //
 // It costs the header and the stalled places where they change.
+//
+// The image is written, so the count of its stalled peers stands beside it. Nine numbers, 0 where refused: C is given them as
+// they are.
 ghost use Rattle.std.specs.Prelude.{◌≡◌, List, ℕ, ◌+◌, ◌≤◌, ◌<◌, ◌^◌, length, take, drop};
-ghost use Rattle.fields.specs.Overwrite.{overwritten};
 ghost use Rattle.model.specs.Calls as calls;
 ghost use Rattle.peers.specs.Peers.{listed_peer};
-ghost use Rattle.commands.specs.Sent.{sent_bytes};
+ghost use Rattle.commands.specs.Sent.{sent_at, behind};
 ghost use Rattle.step.specs.Answers.{answer_of};
 ghost use Rattle.step.specs.Stalling.{places_of, stalled_then, stalled_count_then};
 ghost use Rattle.step.specs.Finished.{said, counted, completed};
@@ -66,26 +68,19 @@ fn finished(outcome: u8, counts: Counts, end: usize) -> Answer
     }
 }
 
-// Sync info, then the image after the step. `none` is an empty list.
-pub fn settle(
-    image: &mut [u8],
-    out: &mut [u8],
-    count: usize,
-    plan: Plan,
-    counts: Counts,
-    none: &[u8],
-) -> Answer
-    requires image_len { (length image.old ≡ area_size) × (counts.at + command_header ≤ length out.old) }
-    requires none_len { (length none.now ≡ 0) × ((stalled_count_then plan.stalling count ≤ 256) × (counts.at ≤ most_bytes)) }
+// Sync info, then the image after the step.
+pub fn settle(image: &mut [u8], out: &mut [u8], count: usize, plan: Plan, counts: Counts) -> Answer
+    requires image_len { (length image.old ≡ area_size) × (counts.place.at + command_header ≤ length out.old) }
+    requires stalling_bound { (stalled_count_then plan.stalling count ≤ 256) × (counts.place.at ≤ most_bytes) }
     requires pending_le_tracked_limit { (counts.pending ≤ tracked_limit) × ((counts.evicted ≤ tracked_limit) × ((counts.retried ≤ tracked_limit) × ((counts.fresh ≤ tracked_limit) × ((counts.abandoned ≤ tracked_limit) × (counts.forgotten ≤ tracked_limit))))) }
     ensures by_index { (old : List ℕ) → length old ≡ count → take 2048 (drop 512 image.old) ≡ places_of old → image.new ≡ completed (counted plan.head counts.pending counts.evicted) (places_of (stalled_then plan.stalling old)) image.old }
-    ensures out_after { out.new ≡ overwritten counts.at (sent_bytes counts.batch (said (listed_peer plan.says))) out.old }
-    ensures result_value { answer_of result ≡ record { number = 0; outcome = plan.outcome; retried = counts.retried; fresh = counts.fresh; abandoned = counts.abandoned; forgotten = counts.forgotten; pending = counts.pending; evicted = counts.evicted; length = counts.at + length (sent_bytes counts.batch (said (listed_peer plan.says))) } }
+    ensures out_after { out.new ≡ sent_at counts.place (said (listed_peer plan.says)) out.old }
+    ensures result_value { answer_of result ≡ record { number = 0; outcome = plan.outcome; retried = counts.retried; fresh = counts.fresh; abandoned = counts.abandoned; forgotten = counts.forgotten; pending = counts.pending; evicted = counts.evicted; length = (behind counts.place (said (listed_peer plan.says))).at } }
 {
     let says = plan.says;
     let stalling = plan.stalling;
     let head = plan.head;
-    let end = crate::parts::say(out, says, counts.at, counts.batch, none);
+    let end = crate::parts::say(out, says, counts.place);
     crate::parts::complete(image, count, stalling, head, counts);
     finished(plan.outcome, counts, end)
 }

@@ -2,22 +2,25 @@
 // nothing is kept but figures.
 //
 // It costs what a step on copies costs, but for the copies back.
+//
+// Header, plan, numbers and lists come one by one: what is asked of all is `Planned`, between them and the state.
 ghost use Rattle.std.specs.Prelude.{◌≡◌, ◌≤◌, length, take};
 ghost use Rattle.fields.specs.Zero.{zeros};
 ghost use Rattle.model.specs.Commands.{commands_in};
 ghost use Rattle.model.specs.Forecast as model;
 ghost use Rattle.model.specs.Layout.{area_size};
-ghost use Rattle.plan.specs.Plans.{call_of};
+ghost use Rattle.refusals.specs.Lent.{call_with};
 ghost use Rattle.refusals.specs.Refusals.{given_refusal};
 ghost use Rattle.step.specs.Answers.{answer_of};
-ghost use Rattle.step.specs.Forecasts.{forecast_of};
-ghost use Rattle.step.specs.Planned.{lists, Planned};
+ghost use Rattle.step.specs.Forecasts.{forecast_of, forecast_in};
+ghost use Rattle.step.specs.Planned.{lent_in, Planned};
 ghost use Rattle.step.specs.Rooms.{room_of};
 
 use crate::finish::Answer;
 use image::head::Head;
-use model::layout::{REGION_AT, STALLED_AT};
 use plan::{Call, Plan};
+use refusals::lent::Lists;
+use refusals::refusal::Refusal;
 
 // Six numbers, in the order of docs/LAYOUT.md.
 #[repr(C)]
@@ -70,30 +73,15 @@ fn forecast_in(
     head: Head,
     plan: Plan,
     call: Call,
-    ids: &[u8],
-    continuation: &[u8],
-    stored: &[u8],
-    peers: &[u8],
-    view: &[u8],
-) -> Forecast
-    requires planned { Planned state.now head plan call (lists ids.now continuation.now stored.now peers.now view.now) × (image.old ≡ zeros area_size) }
-    requires announces_in_bounds { (room_of head (length ids.now) plan.work plan.announces ≤ length out.old) × (length out.old ≤ area_size) }
-    ensures { forecast_of result ≡ model.forecast state.now (call_of call ids.now continuation.now stored.now peers.now view.now) }
+    lists: Lists,
+) -> Result<Forecast, Refusal>
+    requires planned { Planned state.now head plan call (lent_in lists) × (image.old ≡ zeros area_size) }
+    requires announces_in_bounds { (room_of head (length lists.ids.now) plan.work plan.announces ≤ length out.old) × (length out.old ≤ area_size) }
+    ensures { forecast_in result ≡ model.forecast state.now (call_with call lists.entry) }
 {
     crate::copied::copy_used(state, head, image);
-    let answer = crate::working::work_out(
-        image,
-        out,
-        head,
-        plan,
-        call,
-        ids,
-        continuation,
-        stored,
-        peers,
-        view,
-    );
-    figures(answer, out)
+    let answer = crate::working::work_out(image, out, head, plan, call, lists)?;
+    Ok(figures(answer, out))
 }
 
 // A planned step's: the state is read only. Mostly its commands are few, and so is the room to clear for them.
@@ -102,84 +90,31 @@ fn forecast_planned(
     head: Head,
     plan: Plan,
     call: Call,
-    ids: &[u8],
-    continuation: &[u8],
-    stored: &[u8],
-    peers: &[u8],
-    view: &[u8],
-) -> Forecast
-    requires { Planned state.now head plan call (lists ids.now continuation.now stored.now peers.now view.now) }
-    ensures { forecast_of result ≡ model.forecast state.now (call_of call ids.now continuation.now stored.now peers.now view.now) }
+    lists: Lists,
+) -> Result<Forecast, Refusal>
+    requires { Planned state.now head plan call (lent_in lists) }
+    ensures { forecast_in result ≡ model.forecast state.now (call_with call lists.entry) }
 {
     let mut image = crate::copied::room();
     let work = plan.work;
     let announces = plan.announces;
-    if crate::rooms::room_of(head, ids.len(), work, announces) <= 4096 {
+    if crate::rooms::room_of(head, lists.ids.len(), work, announces) <= 4096 {
         let mut few = [0u8; 4096];
-        return forecast_in(
-            state,
-            &mut image,
-            &mut few,
-            head,
-            plan,
-            call,
-            ids,
-            continuation,
-            stored,
-            peers,
-            view,
-        );
+        return forecast_in(state, &mut image, &mut few, head, plan, call, lists);
     }
     let mut out = crate::copied::room();
-    forecast_in(
-        state,
-        &mut image,
-        &mut out,
-        head,
-        plan,
-        call,
-        ids,
-        continuation,
-        stored,
-        peers,
-        view,
-    )
+    forecast_in(state, &mut image, &mut out, head, plan, call, lists)
 }
 
 // A step that none of 1, 2 and 4 to 8 refuses.
-pub fn forecast_step(
-    state: &[u8],
-    call: Call,
-    ids: &[u8],
-    continuation: &[u8],
-    stored: &[u8],
-    peers: &[u8],
-    view: &[u8],
-) -> Forecast
-    requires { given_refusal state.now area_size (call_of call ids.now continuation.now stored.now peers.now view.now) ≡ 0 }
-    ensures { forecast_of result ≡ model.forecast state.now (call_of call ids.now continuation.now stored.now peers.now view.now) }
+pub fn forecast_step(state: &[u8], call: Call, lists: Lists) -> Result<Forecast, Refusal>
+    requires { given_refusal state.now area_size (call_with call lists) ≡ 0 }
+    ensures { forecast_in result ≡ model.forecast state.now (call_with call lists.entry) }
 {
     let head = image::head::read_head(state);
-    let plan = plan_step::step::plan_step(
-        head,
-        call,
-        &state[STALLED_AT..REGION_AT],
-        ids,
-        peers,
-        view,
-    );
+    let plan = crate::planning::plan(state, head, call, lists);
     if !plan.seen {
-        return no_figures(9);
+        return Err(Refusal::Unseen);
     }
-    forecast_planned(
-        state,
-        head,
-        plan,
-        call,
-        ids,
-        continuation,
-        stored,
-        peers,
-        view,
-    )
+    forecast_planned(state, head, plan, call, lists)
 }

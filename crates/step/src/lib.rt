@@ -10,74 +10,43 @@ pub mod copies;
 pub mod finish;
 pub mod forecast;
 mod parts;
+mod planning;
 pub mod rooms;
 pub mod stalling;
 pub mod working;
 
 ghost use Rattle.std.specs.Prelude.{◌≡◌, length};
 ghost use Rattle.model.specs.Calls as calls;
-ghost use Rattle.plan.specs.Plans.{call_of};
+ghost use Rattle.refusals.specs.Lent.{call_with};
 ghost use Rattle.refusals.specs.Refusals.{given_refusal};
-ghost use Rattle.step.specs.Answers.{answer_of};
+ghost use Rattle.step.specs.Answers.{answer_in};
 
 use crate::finish::Answer;
-use model::layout::{REGION_AT, STALLED_AT};
 use plan::Call;
+use refusals::lent::Lists;
+use refusals::refusal::Refusal;
 
 // A step that none of 1 to 8 refuses.
 pub fn run(
     state: &mut [u8],
     commands: &mut [u8],
     call: Call,
-    ids: &[u8],
-    continuation: &[u8],
-    stored: &[u8],
-    peers: &[u8],
-    view: &[u8],
-) -> Answer
-    requires { given_refusal state.old (length commands.old) (call_of call ids.now continuation.now stored.now peers.now view.now) ≡ 0 }
-    ensures { record { answer = answer_of result; state = state.new; commands = commands.new } ≡ calls.step state.old commands.old (call_of call ids.now continuation.now stored.now peers.now view.now) }
+    lists: Lists,
+) -> Result<Answer, Refusal>
+    requires { given_refusal state.old (length commands.old) (call_with call lists) ≡ 0 }
+    ensures { record { answer = answer_in result; state = state.new; commands = commands.new } ≡ calls.step state.old commands.old (call_with call lists.entry) }
 {
     let head = image::head::read_head(state);
-    let plan = plan_step::step::plan_step(
-        head,
-        call,
-        &state[STALLED_AT..REGION_AT],
-        ids,
-        peers,
-        view,
-    );
+    let plan = crate::planning::plan(state, head, call, lists);
     if !plan.seen {
-        return crate::finish::refused(9);
+        return Err(Refusal::Unseen);
     }
     let work = plan.work;
     let announces = plan.announces;
     let after = plan.head;
     let copies = crate::copies::works_on_copies(work, announces);
     if copies | (256 < after.stalled) {
-        return crate::copied::step_on_copies(
-            state,
-            commands,
-            head,
-            plan,
-            call,
-            ids,
-            continuation,
-            stored,
-            peers,
-            view,
-        );
+        return crate::copied::step_on_copies(state, commands, head, plan, call, lists);
     }
-    crate::working::work_out(
-        state,
-        commands,
-        head,
-        plan,
-        call,
-        ids,
-        continuation,
-        stored,
-        peers,
-        view,
-    )
+    crate::working::work_out(state, commands, head, plan, call, lists)
 }

@@ -1,28 +1,30 @@
 // The parts of a finished step's writing.
+//
+// The image is written, so the count of its stalled peers stands beside it.
 ghost use Rattle.std.specs.Prelude.{◌≡◌, List, ℕ, ◌+◌, ◌≤◌, length, take, drop};
-ghost use Rattle.fields.specs.Overwrite.{overwritten};
 ghost use Rattle.peers.specs.Peers.{listed_peer};
-ghost use Rattle.commands.specs.Sent.{sent_bytes};
+ghost use Rattle.commands.specs.Sent.{sent_at, behind};
 ghost use Rattle.step.specs.Stalling.{places_of, stalled_then, stalled_count_then};
 ghost use Rattle.step.specs.Finished.{said, counted, completed};
-ghost use Rattle.model.specs.Layout.{area_size};
+ghost use Rattle.model.specs.Layout.{area_size, command_header};
 
+use commands::kind::SYNC_INFO;
+use commands::place::Place;
 use image::head::Head;
 use model::layout::{REGION_AT, STALLED_AT};
-use peers::Listed;
 use plan::Stalling;
 use work::Counts;
 
-// A sync info, if one goes out; `none` is an empty list. Answers the place behind it.
-pub fn say(out: &mut [u8], says: Listed, at: usize, batch: u16, none: &[u8]) -> usize
-    requires { (length none.now ≡ 0) × (at + 16 ≤ length out.old) }
-    ensures out_after { out.new ≡ overwritten at (sent_bytes batch (said (listed_peer says))) out.old }
-    ensures value { result ≡ at + length (sent_bytes batch (said (listed_peer says))) }
+// A sync info, if one goes out: a command without ids. Answers where it ends.
+pub fn say(out: &mut [u8], says: Option<u64>, place: Place) -> usize
+    requires { place.at + command_header ≤ length out.old }
+    ensures out_after { out.new ≡ sent_at place (said (listed_peer says)) out.old }
+    ensures value { result ≡ (behind place (said (listed_peer says))).at }
 {
-    let Listed::Peer(peer) = says else {
-        return at;
+    let Some(peer) = says else {
+        return place.at;
     };
-    commands::writing::put_command(out, at, 3, 0, batch, peer, none, 0)
+    commands::writing::put_command(out, place, SYNC_INFO, 0, peer, b"", 0)
 }
 
 // The image after a step, its region being worked on already: stalled places, and the header with the counts.

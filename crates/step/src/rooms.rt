@@ -9,7 +9,6 @@ ghost use Rattle.step.specs.Rooms.{room_of};
 
 use image::head::Head;
 use model::layout::{AREA_SIZE, COMMAND_HEADER, COMMAND_SIZE, ID_SIZE, MOST_BYTES};
-use peers::Listed;
 use plan::Work;
 
 // What a work can send at most. `ids` is the length of the ids lent.
@@ -33,12 +32,12 @@ fn most_sent(head: Head, ids: usize, work: Work) -> usize
 }
 
 // The same with a sync info behind it; where continuation ids are announced before it, a whole area.
-pub fn room_of(head: Head, ids: usize, work: Work, announces: Listed) -> usize
+pub fn room_of(head: Head, ids: usize, work: Work, announces: Option<u64>) -> usize
     requires { (head.pending + head.evicted ≤ tracked_limit) × (ids ≤ id_list_size) }
     ensures { result ≡ room_of head ids work announces }
 {
     match announces {
-        Listed::Peer(_) => AREA_SIZE,
-        Listed::Nobody => most_sent(head, ids, work) + COMMAND_HEADER,
+        Some(_) => AREA_SIZE,
+        None => most_sent(head, ids, work) + COMMAND_HEADER,
     }
 }

@@ -1,10 +1,12 @@
 // The stalled peers' places after a step: as they were, emptied, or with a peer more.
 //
 // The set is read, joined and written by value, and only in a step that changes it.
+//
+// The places are written, so the count stands beside them.
 ghost use Rattle.std.specs.Prelude.{◌≡◌, List, [], ◌∷◌, ◌++◌, ℕ, ◌≤◌, ◌<◌, length};
 ghost use Rattle.step.specs.Stalling.{places_of, stalled_then, stalled_count_then};
 
-use peers::stalled::Stalled;
+use peers::stalled_set::{Stalled, StalledPlaces};
 use plan::Stalling;
 
 // A peer that joins stands behind those that were there.
@@ -12,8 +14,11 @@ fn join(places: &mut [u8], count: usize, peer: u64)
     requires { (length places.old ≡ 2048) × (count < 256) }
     ensures { (peers : List ℕ) → length peers ≡ count → places.old ≡ places_of peers → places.new ≡ places_of (peers ++ (peer ∷ [])) }
 {
-    let set = peers::stalled::read_stalled(places, count);
-    let joined = set.joined(peer);
+    let set = StalledPlaces {
+        bytes: places,
+        count,
+    };
+    let joined = set.read().joined(peer);
     peers::stalled::write_stalled(joined, places);
 }
 

@@ -9,6 +9,8 @@ use lib.Dec.{leb, ltb}
 use lib.ListN.{length, take, drop, get_or, set, length-set, length-drop}
 use lib.Seq.{take-append-le, drop-append-le, drop-append-add, take_all, length-take-le, get_or-take, get_or-drop}
 use borrow.Author.Tests.{le-ltb, lt-ltb, le-leb, lt-leb, ltb-true, leb-true}
+use Rattle.std.specs.Prelude.{Some, None}
+use Rattle.std.specs.Bool.{then_some}
 use Rattle.fields.specs.Number.{to_be}
 use Rattle.fields.specs.Zero.{zeros}
 use Rattle.fields.specs.Overwrite.{overwritten}
@@ -25,7 +27,8 @@ use Rattle.model.proofs.MapLaws.{WellCell, few_below}
 use Rattle.model.proofs.MapFormedLaws.{fits_encode, fits_well}
 use Rattle.model.proofs.MapRowLaws.{encode_over}
 use Rattle.model.proofs.MapWrittenLaws.{heights_bytes, changed_over, changed_byte, places_of_byte}
-use Rattle.window_map.specs.Changes.{word_anew, cell_anew, changeable}
+use Rattle.window_map.specs.Changes.{word_anew, cell_anew, changeable, changeable_at}
+use Rattle.heights.proofs.RowLaws.{none_tells, some_tells}
 use Rattle.window_map.proofs.PassLaws.{fits_long}
 
 -- ---- a height's byte with another flag
@@ -227,21 +230,21 @@ module _ (area : List ℕ) (height place : ℕ) where
   abbrev placed : Bool
   placed = ltb place (places (cell_here m height))
 
-  pub other_map : map_fits area ≡ false → false ≡ changeable area height place
-  unfolding changeable
+  pub other_map : map_fits area ≡ false → None ≡ changeable_at area height place
+  unfolding changeable_at changeable
   other_map h = rw h
 
   module _ (fits : map_fits area ≡ true) where
     many : length m.cells ≡ window_size
     many = (fits_well area fits).many
 
-    pub not_above_lem : height ≤ field 4 4 area → false ≡ changeable area height place
-    unfolding changeable in_window decode_map
+    pub not_above_lem : height ≤ field 4 4 area → None ≡ changeable_at area height place
+    unfolding changeable_at changeable in_window decode_map
     not_above_lem h = rw (fits, le-ltb (field 4 4 area) height h)
 
     module _ (above : field 4 4 area < height) where
-      pub too_high : window_size ≤ i → false ≡ changeable area height place
-      unfolding changeable in_window decode_map
+      pub too_high : window_size ≤ i → None ≡ changeable_at area height place
+      unfolding changeable_at changeable in_window decode_map
       too_high h =
           let k : field 4 4 area + window_size < height = omega arith in
           rw (fits, lt-ltb (field 4 4 area) height above, lt-leb height (field 4 4 area + window_size) k)
@@ -260,8 +263,8 @@ module _ (area : List ℕ) (height place : ℕ) where
         here_places : places (cell_here m height) ≡ cond (leb 128 byte) 0 (byte / 16)
         here_places = places_of_byte (cell_here m height) here_well ∙ ap (λ (b : ℕ). cond (leb 128 b) 0 (b / 16)) here_byte
 
-        pub in_window_lem : {n : ℕ} → n ≡ cond (leb 128 byte) 0 (byte / 16) → ltb place n ≡ changeable area height place
-        unfolding changeable in_window decode_map
+        pub in_window_lem : {n : ℕ} → n ≡ cond (leb 128 byte) 0 (byte / 16) → then_some (ltb place n) i ≡ changeable_at area height place
+        unfolding changeable_at changeable in_window decode_map
         in_window_lem e =
             let k : height ≤ field 4 4 area + window_size = omega arith in
             rw (fits, lt-ltb (field 4 4 area) height above, le-leb height (field 4 4 area + window_size) k, e, here_places)
@@ -347,33 +350,43 @@ module _ (area : List ℕ) (height place : ℕ) where
           w ∙ ap (cell_anew at new) over ∙ cell_anew_lem (field 4 4 area) (field 8 4 area) (height_bytes area) heights_long at new passed_below in
           rw (h, a, changed_over area passed_map height flag place, new_byte)
 
--- ---- the same with the downloaded height as it was read
+-- ---- the same with the downloaded height as it was read, and with the index that was found
 
-module _ (area : List ℕ) (height place : ℕ) {d : ℕ} (r : d ≡ field 4 4 area) where
-  module _ (fits : map_fits area ≡ true) where
-    pub read_not_above : height ≤ d → false ≡ changeable area height place
-    read_not_above h = not_above_lem area height place fits (rw r at h)
+module _ (area : List ℕ) (height place : ℕ) {d : ℕ} (r : d ≡ field 4 4 area) (fits : map_fits area ≡ true) where
+  pub read_not_above : height ≤ d → None ≡ changeable_at area height place
+  read_not_above h = not_above_lem area height place fits (rw r at h)
 
-    module _ (above : d < height) where
-      pub read_too_high : window_size ≤ height - d - 1 → false ≡ changeable area height place
-      read_too_high h = too_high area height place fits (rw r at above) (rw r at h)
+  module _ (above : d < height) where
+    pub read_too_high : window_size ≤ height - d - 1 → None ≡ changeable_at area height place
+    read_too_high h = too_high area height place fits (rw r at above) (rw r at h)
 
-      pub read_in_window : height - d - 1 < window_size → {n : ℕ}
-          → n ≡ cond (leb 128 (get_or area (64 + (height - d - 1)) 0)) 0 (get_or area (64 + (height - d - 1)) 0 / 16)
-          → ltb place n ≡ changeable area height place
-      read_in_window h e = in_window_lem area height place fits (rw r at above) (rw r at h) (rw r at e)
+    pub read_in_window : height - d - 1 < window_size → {n : ℕ}
+        → n ≡ cond (leb 128 (get_or area (64 + (height - d - 1)) 0)) 0 (get_or area (64 + (height - d - 1)) 0 / 16)
+        → then_some (ltb place n) (height - d - 1) ≡ changeable_at area height place
+    read_in_window h e = rw r (in_window_lem area height place fits (rw r at above) (rw r at h) (rw r at e))
 
-  module _ (h : changeable area height place ≡ true) where
-    pub read_above : d < height
-    read_above = rw r (passed_above area height place h)
+module _ (area : List ℕ) (height place : ℕ) where
+  pub found_none : None ≡ changeable_at area height place → changeable area height place ≡ false
+  unfolding changeable_at
+  found_none e = none_tells (changeable area height place) (height - field 4 4 area - 1) e
 
-    pub read_below : height - d - 1 < window_size
-    read_below = rw r (passed_below area height place h)
+  module _ {i : ℕ} (e : Some i ≡ changeable_at area height place) where
+    found_is : (changeable area height place ≡ true) × (height - field 4 4 area - 1 ≡ i)
+    unfolding changeable_at
+    found_is = some_tells (changeable area height place) (height - field 4 4 area - 1) i e
 
-    pub read_byte : (get_or area (64 + (height - d - 1)) 0 < 128) × (place < 3)
-    read_byte = rw r (passed_byte area height place h)
+    pub found_long : length area ≡ map_size
+    found_long = passed_long area height place found_is.0
 
-    pub read_finished : (flag : Bool) (new : ℕ) {after : List ℕ}
-        → new + 2 ^ place * (get_or area (64 + (height - d - 1)) 0 / 2 ^ place % 2) ≡ get_or area (64 + (height - d - 1)) 0 + 2 ^ place * bit flag
-        → after ≡ cell_anew (height - d - 1) new area → ◌≡◌ {A = Mapped} (record { number = 0; map = after }) (map_change flag area height place)
-    read_finished flag new e w = change_finished area height place h flag new (rw r at e) (rw r at w)
+    pub found_below : i < window_size
+    found_below = let is = found_is in rw is.1 at (passed_below area height place is.0)
+
+    pub found_byte : (get_or area (64 + i) 0 < 128) × (place < 3)
+    found_byte = let is = found_is in rw is.1 at (passed_byte area height place is.0)
+
+    pub found_finished : (flag : Bool) (new : ℕ) {after : List ℕ}
+        → new + 2 ^ place * (get_or area (64 + i) 0 / 2 ^ place % 2) ≡ get_or area (64 + i) 0 + 2 ^ place * bit flag
+        → after ≡ cell_anew i new area → ◌≡◌ {A = Mapped} (record { number = 0; map = after }) (map_change flag area height place)
+    found_finished flag new e w =
+        let is = found_is in
+        change_finished area height place is.0 flag new (rw is.1 e) (rw is.1 w)

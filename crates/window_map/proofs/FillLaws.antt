@@ -1,5 +1,5 @@
 -- The byte of a row where it stands in the view, of a height, and of so many heights one by one.
-use Prim.Native.Nat.{ℕ, zero, suc, ◌+◌, ◌-◌, ◌*◌, ◌/◌, ◌%◌, ◌^◌, ◌≤◌, ◌<◌}
+use Prim.Native.Nat.{ℕ, zero, suc, ◌+◌, ◌-◌, ◌*◌, ◌%◌, ◌^◌, ◌≤◌, ◌<◌}
 use mathlib.Core.Path.{◌≡◌, refl, sym, ap, ◌∙◌}
 use mathlib.Core.Bool.{Bool, true, false, cond, ◌&&◌, ◌||◌}
 use mathlib.Core.List.{List, [], ◌∷◌, map}
@@ -7,7 +7,10 @@ use mathlib.Core.Option.{none, some}
 use native.Mathlib.Omega.{arith}
 use lib.Dec.{eqb, leb, ltb}
 use lib.ListN.{length, drop, get_or, set, length-map, length-set}
-use borrow.Author.Tests.{eq-eqb, ne_eqb, le-leb, lt-leb, leb-true, ltb-true}
+use borrow.Author.Tests.{eq-eqb, ne_eqb, le-leb, lt-leb, le-ltb, leb-true}
+use Rattle.std.specs.Prelude.{Option, Some, None}
+use Rattle.std.specs.Bool.{then_some}
+use Rattle.std.specs.Option.{is_some}
 use Rattle.fields.specs.Entries.{entries, entry}
 use Rattle.fields.specs.Overwrite.{overwritten}
 use Rattle.fields.specs.Zero.{all_zero}
@@ -22,8 +25,8 @@ use Rattle.model.specs.MapBytes.{row_byte}
 use Rattle.model.proofs.ArgumentLaws.{row_fits_lem}
 use Rattle.model.proofs.MapLaws.{few_below}
 use Rattle.model.proofs.MapRowLaws as model
-use Rattle.heights.specs.Rows.{row_at}
-use Rattle.heights.proofs.RowLaws.{row_first, row_byte_lem, no_row, row_if}
+use Rattle.heights.specs.Rows.{row_of, row_at}
+use Rattle.heights.proofs.RowLaws.{row_first, row_byte_lem, has_row, view_none, row_is, row_below, row_within}
 
 -- ---- a row
 
@@ -76,22 +79,35 @@ module _ (i : ℕ) (view : List ℕ) where
 
 -- ---- a height
 
+-- a view that fits: where its heights end, and its rows
+ends : (view : List ℕ) → view_fits view ≡ true
+    → (first_height view + row_count view ≤ 2 ^ 32) × (rows_fit (entries row_size (row_count view) (drop 4 view)) ≡ true)
+unfolding view_fits
+ends view v =
+    let rows : Bool = rows_fit (entries row_size (row_count view) (drop 4 view)) in
+    let most : Bool = leb (first_height view + row_count view) (2 ^ 32) in
+    let whole : Bool = eqb ((length view - 4) % row_size) 0 in
+    let both : most && rows ≡ true = and_right whole (most && rows) (and_right (leb 4 (length view)) (whole && (most && rows)) v) in
+    (leb-true (first_height view + row_count view) (2 ^ 32) (and_left most rows both), and_right most rows both)
+
 module _ (view : List ℕ) (height : ℕ) where
-  -- whether it has a row
-  abbrev pub there : Bool
-  there = leb (first_height view) height && ltb (height - first_height view) (row_count view)
+  -- the index of its row
+  abbrev pub at_height : Option ℕ
+  at_height = row_of (first_height view) (row_count view) height
 
-  pub lies_before : {first : ℕ} → first ≡ first_height view → height < first → false ≡ there
-  lies_before {first} e h = rw (sym e) (no_row first (row_count view) height h)
+  -- heights of more than 32 bits have none
+  pub none_wide : view_fits view ≡ true → 2 ^ 32 ≤ height → None ≡ at_height
+  unfolding row_of
+  none_wide v h =
+      let l = (ends view v).0 in
+      rw (le-leb (first_height view) height (omega (arith, l, h)), le-ltb (height - first_height view) (row_count view) (omega (arith, l, h)))
 
-  pub lies_behind : {first count : ℕ} → first ≡ first_height view → count ≡ row_count view → first ≤ height → ltb (height - first) count ≡ there
-  lies_behind {first} {count} e f h = rw (sym e, sym f) (row_if first count height h)
-
-  is_there_lem : is_there (view_of view height) ≡ there
-  unfolding view_of
-  is_there_lem = go there
+  is_there_lem : is_there (view_of view height) ≡ is_some at_height
+  unfolding view_of row_of
+  is_there_lem = go (has_row view height)
     where
-      go : (t : Bool) → is_there (cond t (some (header_of (entry row_size (height - first_height view) (drop 4 view)))) none) ≡ t
+      go : (t : Bool) → is_there (cond t (some (header_of (entry row_size (height - first_height view) (drop 4 view)))) none)
+          ≡ is_some (then_some t (height - first_height view))
       go true = refl
       go false = refl
 
@@ -99,37 +115,24 @@ module _ (view : List ℕ) (height : ℕ) where
   unfolding cell_at
   above_byte chain h = rw (lt-leb height chain h)
 
-  module _ (chain : ℕ) (h : height ≤ chain) where
-    pub lacking_byte : there ≡ false → 128 ≡ cell_byte (cell_at (view_of view) chain height)
-    unfolding cell_at view_of
-    lacking_byte t = rw (le-leb height chain h, t)
+  pub lacking_byte : (chain : ℕ) → height ≤ chain → None ≡ at_height → 128 ≡ cell_byte (cell_at (view_of view) chain height)
+  unfolding cell_at
+  lacking_byte chain h e = rw (le-leb height chain h, view_none view height e)
 
-    pub there_byte : view_fits view ≡ true → there ≡ true → {first byte : ℕ} → first ≡ first_height view → byte ≡ row_byte (row_at (height - first) view)
+  module _ (v : view_fits view ≡ true) {row : ℕ} (e : Some row ≡ at_height) where
+    pub row_lent : row * row_size + 107 ≤ length view
+    row_lent = let w = row_within view height e v in omega (arith, w)
+
+    pub row_good : row_fits (row_at row view) ≡ true
+    unfolding row_at
+    row_good = row_fits_lem row (row_count view) (drop 4 view) (row_below view height e) (ends view v).1
+
+    pub there_byte : (chain : ℕ) → height ≤ chain → {byte : ℕ} → byte ≡ row_byte (row_at row view)
         → byte ≡ cell_byte (cell_at (view_of view) chain height)
     unfolding cell_at row_at
-    there_byte v t e b = b ∙ rw (e, le-leb height chain h) (sym (model.height_byte_lem view height v t))
-
-  module _ (v : view_fits view ≡ true) (t : there ≡ true) {first : ℕ} (e : first ≡ first_height view) where
-    pub first_under : first ≤ height
-    first_under = rw e (leb-true (first_height view) height (and_left (leb (first_height view) height) (ltb (height - first_height view) (row_count view)) t))
-
-    row_under : height - first_height view < row_count view
-    row_under =
-        ltb-true (height - first_height view) (row_count view) (and_right (leb (first_height view) height) (ltb (height - first_height view) (row_count view)) t)
-
-    pub row_within : 4 ≤ length view → (height - first) * row_size + 107 ≤ length view
-    unfolding row_count
-    row_within l = let b : height - first_height view < (length view - 4) / row_size = row_under in rw e (omega arith)
-
-    pub row_good : row_fits (row_at (height - first) view) ≡ true
-    unfolding view_fits row_at
-    row_good =
-        let n : ℕ = row_count view in
-        let rows : Bool = rows_fit (entries row_size n (drop 4 view)) in
-        let most : Bool = leb (first_height view + n) (2 ^ 32) in
-        let whole : Bool = eqb ((length view - 4) % row_size) 0 in
-        let fit : rows ≡ true = and_right most rows (and_right whole (most && rows) (and_right (leb 4 (length view)) (whole && (most && rows)) v)) in
-        rw e (row_fits_lem (height - first_height view) n (drop 4 view) row_under fit)
+    there_byte chain h b =
+        let is = row_is view height e in
+        b ∙ rw (← is.1, le-leb height chain h) (sym (model.height_byte_lem view height v is.0))
 
 -- ---- so many heights behind a height, one by one
 
@@ -149,7 +152,7 @@ module _ (view : List ℕ) (chain behind count : ℕ) where
   pub shows_start : true && shows_from 0 ≡ shows (view_of view) chain behind count
   shows_start = let z : behind + 0 ≡ behind = omega arith in let n : count - 0 ≡ count = omega arith in rw (z, n)
 
-  pub shows_turn : (ok : Bool) (i : ℕ) {has : Bool} → i < count → has ≡ there view (behind + i + 1)
+  pub shows_turn : (ok : Bool) (i : ℕ) {has : Bool} → i < count → has ≡ is_some (at_height view (behind + i + 1))
       → ok && shows_from i ≡ (ok && (ltb chain (behind + i + 1) || has)) && shows_from (i + 1)
   shows_turn ok i {has} h e =
       let height : ℕ = suc (behind + i) in
@@ -157,7 +160,7 @@ module _ (view : List ℕ) (chain behind count : ℕ) where
       let s : behind + i + 1 ≡ suc (behind + i) = omega arith in
       let t : behind + (i + 1) ≡ suc (behind + i) = omega arith in
       rw (n, e, s, t, is_there_lem view (suc (behind + i)))
-      (and_moved ok (ltb chain height || there view height) (shows (view_of view) chain height (count - (i + 1))))
+      (and_moved ok (ltb chain height || is_some (at_height view height)) (shows (view_of view) chain height (count - (i + 1))))
 
   pub shows_end : (ok : Bool) (i : ℕ) → count ≤ i → ok && shows_from i ≡ ok
   shows_end ok i h = let n : count - i ≡ 0 = omega arith in rw n (and_end ok)

@@ -64,29 +64,27 @@ module _ (area : List ℕ) (downloaded : ℕ) (view : List ℕ) where
         unfolding slide_refusal decode_map
         slide_free s = rw (fits, upwards, v, same_seen, s)
 
-  pub slide_passed : slide_refusal area downloaded view ≡ 0 → Slidable area downloaded view
+  pub slide_passed : slide_refusal area downloaded view ≡ 0 → Slidable area downloaded
   unfolding slide_refusal decode_map
   slide_passed e =
       let first = held (map_fits area && leb (field 4 4 area) downloaded) 12 _ (omega arith) e in
-      let second = held (view_fits view) 8 _ (omega arith) first.1 in
       record {
         fits = and_left (map_fits area) (leb (field 4 4 area) downloaded) first.0;
         up = leb-true (field 4 4 area) downloaded (and_right (map_fits area) (leb (field 4 4 area) downloaded) first.0);
-        shown = second.0;
       }
+
+  pub slide_shown : slide_refusal area downloaded view ≡ 0 → view_fits view ≡ true
+  unfolding slide_refusal decode_map
+  slide_shown e =
+      let first = held (map_fits area && leb (field 4 4 area) downloaded) 12 _ (omega arith) e in
+      let second = held (view_fits view) 8 _ (omega arith) first.1 in
+      second.0
 
 -- ---- what a slide writes
 
-module _ {area : List ℕ} {downloaded : ℕ} {view : List ℕ} (g : Slidable area downloaded view) where
+module _ {area : List ℕ} {downloaded : ℕ} (g : Slidable area downloaded) where
   pub slid_long : length area ≡ map_size
   slid_long = fits_long area g.fits
-
-  over : downloaded < 2 ^ 32 → Bytes view
-      → encode_map (slid (decode_map area) downloaded (view_of view))
-      ≡ map_over downloaded (field 8 4 area) (drop (new_heights (decode_map area) downloaded) (height_bytes area)
-      ++ map cell_byte (cells_behind (view_of view) (field 8 4 area) (new_behind (decode_map area) downloaded) (new_heights (decode_map area) downloaded)))
-  unfolding decode_map
-  over d b = slid_over area g.fits downloaded (view_of view) g.up d (view_well view b g.shown)
 
   module _ {before chain new : ℕ} (r : before ≡ field 4 4 area) (c : chain ≡ field 8 4 area) (n : new ≡ min (downloaded - before) window_size) where
     slid_few : new ≤ window_size
@@ -103,33 +101,45 @@ module _ {area : List ℕ} {downloaded : ℕ} {view : List ℕ} (g : Slidable ar
     abbrev stay : List ℕ
     stay = take (window_size - new) (drop (64 + new) area)
 
-    abbrev filled : List ℕ
-    filled = map cell_byte (cells_behind (view_of view) chain (downloaded + (window_size - new)) new)
+    stay_long : length stay ≡ window_size - new
+    stay_long =
+        let l = slid_long in
+        let few = slid_few in
+        length-take-le (window_size - new) (drop (64 + new) area) (simp length-drop (omega (arith, l, few)))
 
     stays : stay ≡ drop new (height_bytes area)
     stays =
         let e : new + (window_size - new) ≡ window_size = let k = slid_few in omega (arith, k) in
         sym (rw (e, drop-drop new 64 area) at (drop_take new (window_size - new) (drop 64 area)))
 
-    heights_after : {t₁ t₂ : List ℕ} → t₁ ≡ moved (64 + new) 64 (window_size - new) area → t₂ ≡ overwritten (64 + (window_size - new)) filled t₁
-        → height_bytes t₂ ≡ drop new (height_bytes area) ++ filled
-    unfolding moved
-    heights_after {t₁} {t₂} e₁ e₂ =
-        let l = slid_long in
-        let few = slid_few in
-        let ls : length stay ≡ window_size - new = length-take-le (window_size - new) (drop (64 + new) area) (simp length-drop (omega (arith, l, few))) in
-        let cells : List Cell = cells_behind (view_of view) chain (downloaded + (window_size - new)) new in
-        let lf : length filled ≡ new = length-map cells cell_byte ∙ length_behind (view_of view) chain (downloaded + (window_size - new)) new in
-        let all : length (stay ++ filled) ≡ window_size = length-append stay filled ∙ omega (arith, ls, lf, few) in
-        let m : t₂ ≡ overwritten 64 (stay ++ filled) area =
-        written_next 64 (64 + (window_size - new)) stay filled area (omega (arith, ls, lf, l, few)) (omega (arith, ls)) e₁ e₂ in
-        ap height_bytes m ∙ heights_read area (stay ++ filled) l all ∙ ap (λ (s : List ℕ). s ++ filled) stays
+    module _ (view : List ℕ) where
+      abbrev filled : List ℕ
+      filled = map cell_byte (cells_behind (view_of view) chain (downloaded + (window_size - new)) new)
 
-    pub slid_written : downloaded < 2 ^ 32 → Bytes view → {t₁ t₂ t₃ : List ℕ} → t₁ ≡ moved (64 + new) 64 (window_size - new) area
-        → t₂ ≡ overwritten (64 + (window_size - new)) filled t₁
-        → t₃ ≡ map_over downloaded chain (height_bytes t₂)
-        → t₃ ≡ encode_map (slid (decode_map area) downloaded (view_of view))
-    slid_written d b e₁ e₂ e₃ = e₃ ∙ ap (map_over downloaded chain) (heights_after e₁ e₂) ∙ sym (over d b ∙ rw (same_new, same_behind, c))
+      heights_after : {t₁ t₂ : List ℕ} → t₁ ≡ moved (64 + new) 64 (window_size - new) area → t₂ ≡ overwritten (64 + (window_size - new)) filled t₁
+          → height_bytes t₂ ≡ drop new (height_bytes area) ++ filled
+      unfolding moved
+      heights_after {t₁} {t₂} e₁ e₂ =
+          let l = slid_long in
+          let few = slid_few in
+          let ls = stay_long in
+          let cells : List Cell = cells_behind (view_of view) chain (downloaded + (window_size - new)) new in
+          let lf : length filled ≡ new = length-map cells cell_byte ∙ length_behind (view_of view) chain (downloaded + (window_size - new)) new in
+          let all : length (stay ++ filled) ≡ window_size = length-append stay filled ∙ omega (arith, ls, lf, few) in
+          let m : t₂ ≡ overwritten 64 (stay ++ filled) area =
+          written_next 64 (64 + (window_size - new)) stay filled area (omega (arith, ls, lf, l, few)) (omega (arith, ls)) e₁ e₂ in
+          ap height_bytes m ∙ heights_read area (stay ++ filled) l all ∙ ap (λ (s : List ℕ). s ++ filled) stays
+
+      module _ (known : Bytes view) (fit : view_fits view ≡ true) (d : downloaded < 2 ^ 32) where
+        over : encode_map (slid (decode_map area) downloaded (view_of view)) ≡ map_over downloaded chain (drop new (height_bytes area) ++ filled)
+        unfolding decode_map
+        over = slid_over area g.fits downloaded (view_of view) g.up d (view_well view known fit) ∙ rw (same_new, same_behind, c)
+
+        pub slid_written : {t₁ t₂ t₃ : List ℕ} → t₁ ≡ moved (64 + new) 64 (window_size - new) area
+            → t₂ ≡ overwritten (64 + (window_size - new)) filled t₁
+            → t₃ ≡ map_over downloaded chain (height_bytes t₂)
+            → t₃ ≡ encode_map (slid (decode_map area) downloaded (view_of view))
+        slid_written e₁ e₂ e₃ = e₃ ∙ ap (map_over downloaded chain) (heights_after e₁ e₂) ∙ sym over
 
 -- ---- a slide
 

@@ -1,10 +1,8 @@
 -- What a slide that is not refused was given.
 use Rattle.std.specs.Prelude.{ℕ, ◌≤◌, ◌≡◌, true, List}
 use Rattle.model.specs.Image.{field}
-use Rattle.model.specs.Lists.{view_fits}
 use Rattle.model.specs.WindowMap.{map_fits}
 
-pub record Slidable (area : List ℕ) (downloaded : ℕ) (view : List ℕ) : Type 0 where
+pub record Slidable (area : List ℕ) (downloaded : ℕ) : Type 0 where
   pub fits : map_fits area ≡ true
   pub up : field 4 4 area ≤ downloaded
-  pub shown : view_fits view ≡ true

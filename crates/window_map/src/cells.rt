@@ -24,8 +24,5 @@ pub fn is_complete(byte: u8) -> bool
 pub fn digit(byte: u8) -> u64
     ensures { result ≡ bit (byte_complete byte) }
 {
-    if is_complete(byte) {
-        return 1;
-    }
-    0
+    u64::from(is_complete(byte))
 }

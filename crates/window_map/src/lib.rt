@@ -21,14 +21,7 @@ ghost use Rattle.model.specs.WindowMap.{map_fits, map_passable};
 ghost use Rattle.window_map.specs.Answer.{passable_of};
 
 use model::layout::MAP_SIZE;
-
-// The number of a refusal or 0, and how many heights can be passed.
-#[repr(C)]
-#[derive(Clone, Copy)]
-pub struct Passable {
-    pub number: u32,
-    pub heights: u32,
-}
+use refusals::refusal::Refusal;
 
 // Whether an area is 512 bytes long and well formed.
 pub fn fits(map: &[u8]) -> bool
@@ -41,17 +34,11 @@ pub fn fits(map: &[u8]) -> bool
 }
 
 // How many heights can be passed, or 12 for an area that does not fit.
-pub fn map_passable(map: &[u8]) -> Passable
+pub fn map_passable(map: &[u8]) -> Result<u32, Refusal>
     ensures { passable_of result ≡ map_passable map.now }
 {
     if !fits(map) {
-        return Passable {
-            number: 12,
-            heights: 0,
-        };
+        return Err(Refusal::Map);
     }
-    Passable {
-        number: 0,
-        heights: passing::passable(map),
-    }
+    Ok(passing::passable(map))
 }

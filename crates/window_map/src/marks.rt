@@ -9,9 +9,7 @@ pub fn mark(map: &[u8], at: usize) -> u64
     ensures { result ≡ byte_mark (take 64 (drop at map.now)) }
 {
     let mut word: u64 = 0;
-    let mut left: usize = 64;
-    while 0 < left {
-        left -= 1;
+    for left in (0..64).rev() {
         word = word * 2 + crate::cells::digit(map[at + left]);
     }
     word

@@ -1,4 +1,6 @@
 // What can be passed: the run of complete heights at the window's low end, told from the three words.
+//
+// Three words, as the definition names them; the area's size is asked for once.
 ghost use Rattle.std.specs.Prelude.{◌≡◌, ◌+◌, ◌≤◌, length};
 ghost use Rattle.model.specs.Image.{field};
 ghost use Rattle.model.specs.Layout.{map_size};
@@ -10,7 +12,7 @@ fn ones_at(map: &[u8], at: usize) -> u32
     ensures { (result ≡ trailing_ones (field at 8 map.now)) × (result ≤ 64) }
 {
     let word = fields::read_u64(map, at);
-    u64::trailing_zeros(!word)
+    (!word).trailing_zeros()
 }
 
 // The run over the three words: a full one goes on into the next.

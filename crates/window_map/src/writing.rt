@@ -1,4 +1,6 @@
 // All of a map but its heights' bytes.
+//
+// The area is written, so its size is a clause and no ghost field.
 ghost use Rattle.std.specs.Prelude.{◌≡◌, length};
 ghost use Rattle.fields.specs.Overwrite.{overwritten};
 ghost use Rattle.model.specs.Layout.{map_size};

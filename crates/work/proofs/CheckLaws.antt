@@ -10,10 +10,9 @@ use borrow.Author.Tests.{le-leb}
 use Rattle.fields.specs.Facts.{All, Bytes}
 use Rattle.fields.specs.Zero.{zeros}
 use Rattle.fields.specs.Overwrite.{overwritten}
-use Rattle.fields.specs.Entries.{entries, entry}
+use Rattle.fields.specs.Entries.{entry}
 use Rattle.fields.proofs.AllLaws.{all_weaker}
 use Rattle.fields.proofs.FilterLaws.{length_kept}
-use Rattle.fields.proofs.EntriesLaws.{entries_wide, entries_bytes}
 use Rattle.model.specs.Protocol.{Id, tracked_limit}
 use Rattle.model.specs.Settings.{Settings}
 use Rattle.model.specs.Delivery.{Request, verdict, verdict_number, retried, abandoned, forgotten, judged}
@@ -29,7 +28,8 @@ use Rattle.image.specs.declared.head.Head.{Head}
 use Rattle.peers.specs.Aims.{aimed_at}
 use Rattle.peers.specs.declared.aim.Aim.{Aim}
 use Rattle.commands.specs.Pending.{requests_in, holding}
-use Rattle.commands.specs.Sent.{sent_bytes}
+use Rattle.commands.specs.Sent.{sent_bytes, sent_at, behind}
+use Rattle.commands.specs.declared.place.Place.{Place}
 use Rattle.delivery.specs.Region.{evicted_in}
 use Rattle.check_timeouts.specs.Checked.{pending_after_check, checked_as, retried_places}
 use Rattle.check_timeouts.specs.declared.check.Checked.{Checked}
@@ -39,17 +39,17 @@ use Rattle.plan.specs.Plans.{retried_by}
 use Rattle.work.specs.Worked.{region_of, Tracked, Given, Worked, acted_by, count_by, worked_by, fits, performed_as, Performs}
 use Rattle.work.specs.Checking.{checked_pending, checked_sendings, judged_count, checked_counts}
 use Rattle.work.specs.declared.Counts.{Counts}
-use Rattle.work.specs.declared.Performed.TheVariants.{Done as Finished}
+use Rattle.std.proofs.Common.{Ok}
 use Rattle.work.proofs.RegionLaws.{Stands, tracked_stands, stands_size, stands_requests, stands_holding, stands_cleared}
 use Rattle.work.proofs.WorkedLaws.{length_requests, length_evicted, settings_given, clock_given, gate_given}
 use Rattle.model.proofs.PendingLaws.{WellTarget}
-use Rattle.work.proofs.RetriedLaws.{types_below, items_at, retries_few, retries_in_width, below, types_at, retried_items}
+use Rattle.work.proofs.RetriedLaws.{tracked_types, items_at, retries_few, retries_in_width, below, types_at, retried_items}
 use Rattle.work.proofs.RetriedLaws.{after_rising, after_length, after_few, after_recorded}
 use Rattle.model.specs.Layout.{id_size, record_size, region_size}
 
 -- A check at its entry: the region, the targets and the clock are within their types.
 pub record Due (head : Head) (call : Call) (target : ℕ → ℕ) (region : List ℕ) : Type 0 where
-  pub tracked : Tracked head call.clock region
+  pub tracked : Tracked head region
   pub bytes : Bytes region
   pub targets : WellTarget target
   pub clock : call.clock < 2 ^ 64
@@ -59,8 +59,8 @@ abbrev sent_of : Bool → List ℕ → List ℕ → List Sending
 sent_of gate table places = retry_sendings (cond gate (items_at table places) [])
 
 -- the counts that the code answers
-abbrev counts_of : Checked → Head → ℕ → ℕ → Counts
-counts_of made head at batch =
+abbrev counts_of : Checked → Head → Place → Counts
+counts_of made head place =
     record {
       pending = made.pending;
       evicted = 0;
@@ -68,8 +68,7 @@ counts_of made head at batch =
       fresh = head.evicted;
       abandoned = made.abandoned;
       forgotten = made.forgotten;
-      at = at;
-      batch = batch;
+      place = place;
     }
 
 module _ {head : Head} {call : Call} {target : ℕ → ℕ} {region : List ℕ} (due : Due head call target region) where
@@ -89,7 +88,7 @@ module _ {head : Head} {call : Call} {target : ℕ → ℕ} {region : List ℕ} 
   after = pending_after_check gate settings call.clock target pending
 
   stands : Stands pending evicted region
-  stands = tracked_stands head call.clock region due.tracked due.bytes
+  stands = tracked_stands head region due.tracked due.bytes
 
   after_stands : Stands after evicted (holding head.pending after region)
   after_stands =
@@ -100,10 +99,7 @@ module _ {head : Head} {call : Call} {target : ℕ → ℕ} {region : List ℕ} 
       (after_rising gate settings call.clock target pending stands.rise) (omega (arith, stands.few)))
 
   types : All (λ (r : Request). r.type_id < 256) pending
-  types =
-      types_below (entries record_size head.pending region)
-      (entries_wide record_size head.pending region (omega (arith, due.tracked.few, due.tracked.size)))
-      (entries_bytes record_size head.pending region due.bytes) due.tracked.narrow
+  types = tracked_types due.tracked due.bytes
 
   retried_few : length (judged settings call.clock retried pending) ≤ head.pending
   unfolding judged
@@ -136,29 +132,28 @@ module _ {head : Head} {call : Call} {target : ℕ → ℕ} {region : List ℕ} 
     pub places_narrow : All (λ (place : ℕ). (request_of (entry record_size place table)).type_id < 256) places
     places_narrow = rw hp (types_at gate settings call.clock target pending stands.rise table held types)
 
-    sent_again : sent_of gate table places ≡ checked_sendings head call target region
+    items_again : sent_of gate table places ≡ checked_sendings head call target region
     unfolding checked_sendings
-    sent_again = ap retry_sendings (retried_items gate settings call.clock target pending stands.rise table places held hp)
+    items_again = ap retry_sendings (retried_items gate settings call.clock target pending stands.rise table places held hp)
 
     -- what the code has in its hands then
-    module _ {made : Checked} (at batch : ℕ) {at' batch' : ℕ} {cleared : List ℕ} (out : List ℕ) {out' : List ℕ}
+    module _ {made : Checked} (place : Place) {next : Place} {cleared : List ℕ} (out : List ℕ) {out' : List ℕ}
         (hm : made ≡ checked_as settings call.clock pending)
-        (ho : out' ≡ overwritten at (sent_bytes batch (sent_of gate table places)) out)
-        (ha : at' ≡ at + length (sent_bytes batch (sent_of gate table places)))
-        (hb : batch' ≡ batch + length (sent_of gate table places))
+        (ho : out' ≡ sent_at place (sent_of gate table places) out)
+        (hn : next ≡ behind place (sent_of gate table places))
         (hc : cleared ≡ overwritten (length table - head.evicted * id_size) (zeros (head.evicted * id_size)) table) where
       cleared_is : cleared ≡ region_of (checked_pending head call target region) []
       unfolding checked_pending
       cleared_is = hc ∙ (rw (length_evicted head.evicted region) at (stands_cleared after evicted table table_stands).held)
 
-      counts_are : counts_of made head at' batch' ≡ checked_counts head call target region at batch
+      counts_are : counts_of made head next ≡ checked_counts head call target region place
       unfolding checked_counts judged_count checked_pending checked_as
-      counts_are = rw (hm, ha, hb, sent_again, after_length gate settings call.clock target pending stands.rise)
+      counts_are = rw (hm, hn, items_again, after_length gate settings call.clock target pending stands.rise)
 
-      pub checked_so : (counts_of made head at' batch' ≡ checked_counts head call target region at batch)
+      pub checked_so : (counts_of made head next ≡ checked_counts head call target region place)
           × ((cleared ≡ region_of (checked_pending head call target region) [])
-          × (out' ≡ overwritten at (sent_bytes batch (checked_sendings head call target region)) out))
-      checked_so = (counts_are, (cleared_is, ho ∙ ap (λ (x : List Sending). overwritten at (sent_bytes batch x) out) sent_again))
+          × (out' ≡ sent_at place (checked_sendings head call target region) out))
+      checked_so = (counts_are, (cleared_is, ho ∙ ap (λ (x : List Sending). sent_at place x out) items_again))
 
   -- ---- for what comes behind the check
 
@@ -209,12 +204,12 @@ check_worked st c downloaded gate clock settings aim p e hp he hs hg hc =
 module _ {head : Head} {call : Call} {region ids stored view : List ℕ} {st : State} {c : calls.Call}
     (g : Given head region call ids stored view st c) where
   pub checks : (aim : Aim) → Due head call (aimed_at aim) region
-      → (downloaded at batch : ℕ) {counts : Counts} {after : List ℕ} (out : List ℕ) {out' : List ℕ}
-      → counts ≡ checked_counts head call (aimed_at aim) region at batch → after ≡ region_of (checked_pending head call (aimed_at aim) region) []
-      → out' ≡ overwritten at (sent_bytes batch (checked_sendings head call (aimed_at aim) region)) out
-      → Performs at batch (worked_by st c downloaded (Check aim)) out (Finished counts) after out'
+      → (downloaded : ℕ) (place : Place) {counts : Counts} {after : List ℕ} (out : List ℕ) {out' : List ℕ}
+      → counts ≡ checked_counts head call (aimed_at aim) region place → after ≡ region_of (checked_pending head call (aimed_at aim) region) []
+      → out' ≡ sent_at place (checked_sendings head call (aimed_at aim) region) out
+      → Performs place (worked_by st c downloaded (Check aim)) out (Ok counts) after out'
   unfolding performed_as fits checked_counts judged_count checked_pending checked_sendings
-  checks aim due downloaded at batch out a h o =
+  checks aim due downloaded place out a h o =
       let p : List Request = requests_in head.pending region in
       let e : List Id = evicted_in head.evicted region in
       let after' : List Request = pending_after_check (eqb call.gate 1) (settings_of head.settings) call.clock (aimed_at aim) p in

@@ -122,9 +122,9 @@ pub record Stands (pending : List Request) (evicted : List Id) (region : List �
   pub few : length pending + length evicted ≤ tracked_limit
   pub held : region ≡ region_of pending evicted
 
-pub tracked_stands : (head : Head) (clock : ℕ) (region : List ℕ) → Tracked head clock region → Bytes region
+pub tracked_stands : (head : Head) (region : List ℕ) → Tracked head region → Bytes region
     → Stands (requests_in head.pending region) (evicted_in head.evicted region) region
-tracked_stands head clock region t f =
+tracked_stands head region t f =
     let few : head.pending + head.evicted ≤ tracked_limit = t.few in
     let size : length region ≡ region_size = t.size in
     let from : ℕ = length region - head.evicted * id_size in

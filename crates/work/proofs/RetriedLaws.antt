@@ -10,10 +10,10 @@ use lib.Dec.{eqb}
 use Rattle.fields.specs.Facts.{All, Bytes}
 use Rattle.fields.specs.Filter.{cons_if}
 use Rattle.fields.specs.Entries.{entries, entry}
-use Rattle.fields.proofs.AllLaws.{all_weaker, all_at, all_map, all_kept, either}
+use Rattle.fields.proofs.AllLaws.{all_weaker, all_at, all_map, all_kept, all_both, either}
 use Rattle.fields.proofs.FilterLaws.{length_kept}
 use Rattle.fields.proofs.OrderLaws.{and_left, and_right}
-use Rattle.fields.proofs.EntriesLaws.{Wide, entries_at}
+use Rattle.fields.proofs.EntriesLaws.{Wide, entries_at, entries_wide, entries_bytes}
 use Rattle.model.specs.Settings.{Settings}
 use Rattle.model.specs.Delivery.{Request, Verdict, waiting, retried, abandoned, forgotten, verdict, verdict_number, judged, restarted, check_timeouts, ids_of}
 use Rattle.model.specs.Sections.{Item}
@@ -23,7 +23,9 @@ use Rattle.model.proofs.Well.{RisingIds}
 use Rattle.model.proofs.Widths.{WellPeer, WellItem}
 use Rattle.model.proofs.RecordLaws.{Recorded, narrow_type}
 use Rattle.model.proofs.PendingLaws.{WellTarget, rising_checked, rising_retried}
+use Rattle.image.specs.declared.head.Head.{Head}
 use Rattle.commands.specs.Pending.{requests_in}
+use Rattle.work.specs.Worked.{Tracked}
 use Rattle.retries.specs.Items.{item_of}
 use Rattle.check_timeouts.specs.Checked.{pending_after_check, placed_after, retried_places}
 use Rattle.check_timeouts.specs.Turn.{restarted_to}
@@ -38,13 +40,16 @@ types_below (e ∷ es) w f h = (
   types_below es w.1 f.1 (and_right (eqb (get_or e 40 0) 0) (types_narrow es) h),
 )
 
+-- a pending type is a byte
+pub tracked_types : {head : Head} {region : List ℕ} → Tracked head region → Bytes region
+    → All (λ (r : Request). r.type_id < 256) (requests_in head.pending region)
+tracked_types {head} {region} t f =
+    types_below (entries record_size head.pending region) (entries_wide record_size head.pending region (omega (arith, t.few, t.size)))
+    (entries_bytes record_size head.pending region f) t.narrow
+
 -- what the requests at some places of a table stand for
 abbrev pub items_at : List ℕ → List ℕ → List Item
 items_at table places = map (λ (place : ℕ). item_of (request_of (entry record_size place table))) places
-
-all_both : (P Q : Request → Type 0) (rs : List Request) → All P rs → All Q rs → All (λ (r : Request). P r × Q r) rs
-all_both P Q [] p q = tt
-all_both P Q (r ∷ rs) p q = ((p.0, q.0), all_both P Q rs p.1 q.1)
 
 module _ (settings : Settings) (clock : ℕ) (target : ℕ → ℕ) where
   checked_all : (P Q : Request → Type 0) → ((r : Request) → P r → Q r) → ((r : Request) → P r → Q (restarted_to clock target r))

@@ -3,7 +3,6 @@ use Prim.Native.Nat.{ℕ, ◌+◌, ◌-◌, ◌*◌, ◌≤◌}
 use mathlib.Core.Path.{◌≡◌, sym, ap, ◌∙◌}
 use mathlib.Core.Bool.{Bool}
 use mathlib.Core.List.{List, []}
-use native.Mathlib.Nat.{add-zero}
 use native.Mathlib.Omega.{arith}
 use lib.ListN.{length, length-map, drop}
 use borrow.Author.Tests.{le-leb}
@@ -12,7 +11,6 @@ use Rattle.fields.specs.Filter.{kept}
 use Rattle.fields.specs.Entries.{entries}
 use Rattle.fields.proofs.AllLaws.{all_kept}
 use Rattle.fields.proofs.FilterLaws.{length_kept}
-use Rattle.fields.proofs.OverwriteLaws.{overwritten_nil}
 use Rattle.fields.proofs.EntriesLaws.{length_entries}
 use Rattle.model.specs.Protocol.{Id, tracked_limit}
 use Rattle.model.specs.Delivery.{Request, ids_of}
@@ -28,14 +26,14 @@ use Rattle.settings.specs.Values.{settings_of}
 use Rattle.image.specs.declared.head.Head.{Head}
 use Rattle.image.specs.Heads.{head_of}
 use Rattle.commands.specs.Pending.{requests_in, holding}
-use Rattle.commands.specs.Sent.{sent_bytes}
+use Rattle.commands.specs.declared.place.Place.{Place}
+use Rattle.commands.proofs.SentLaws.{sent_none, behind_none}
 use Rattle.delivery.specs.Region.{evicted_in}
 use Rattle.plan.specs.declared.Call.{Call}
 use Rattle.plan.specs.declared.Work.TheVariants.{Nothing}
 use Rattle.plan.specs.Plans.{numbers_of, retried_by}
-use Rattle.work.specs.Worked.{region_of, Tracked, Given, Worked, acted_by, count_by, worked_by, fits, performed_as, Performs}
-use Rattle.work.specs.declared.Performed.{Performed}
-use Rattle.work.specs.declared.Performed.TheVariants.{Done as Finished}
+use Rattle.work.specs.Worked.{region_of, Tracked, Given, Worked, acted_by, count_by, worked_by, unasked, fits, performed_as, Performs}
+use Rattle.std.proofs.Common.{Ok}
 use Rattle.work.proofs.RegionLaws.{Stands, tracked_stands, stands_holding}
 use Rattle.model.specs.Layout.{id_size, record_size}
 
@@ -43,19 +41,15 @@ use Rattle.model.specs.Layout.{id_size, record_size}
 abbrev pub quiet : List Request → List Id → Worked
 quiet pending evicted = record { pending = pending; evicted = evicted; sendings = []; retried = 0; fresh = 0; abandoned = 0; forgotten = 0 }
 
--- its answer, where so many requests and ids are left
-abbrev pub leaving : ℕ → ℕ → ℕ → ℕ → Performed
-leaving left gone at batch = Finished (record { pending = left; evicted = gone; retried = 0; fresh = 0; abandoned = 0; forgotten = 0; at = at; batch = batch })
-
-pub quiet_done : (p : List Request) (e : List Id) (at batch left gone : ℕ) (after out : List ℕ) → left ≡ length p → gone ≡ length e
+pub quiet_done : (p : List Request) (e : List Id) (place : Place) (left gone : ℕ) (after out : List ℕ) → left ≡ length p → gone ≡ length e
     → length p + length e ≤ tracked_limit → after ≡ region_of p e
-    → Performs at batch (quiet p e) out (leaving left gone at batch) after out
-unfolding performed_as fits sent_bytes
-quiet_done p e at batch left gone after out a b few h =
+    → Performs place (quiet p e) out (Ok (unasked left gone place)) after out
+unfolding performed_as fits
+quiet_done p e place left gone after out a b few h =
     record {
-      answered = rw (le-leb (length p + length e) tracked_limit few, a, b, add-zero at, add-zero batch);
+      answered = rw (le-leb (length p + length e) tracked_limit few, a, b, behind_none place);
       left = λ _. h;
-      written = λ _. sym (overwritten_nil at out);
+      written = λ _. sym (sent_none place out);
     }
 
 -- ---- what each comes to
@@ -73,7 +67,7 @@ length_requests count region = length-map (entries record_size count region) req
 pub length_evicted : (count : ℕ) (region : List ℕ) → length (evicted_in count region) ≡ count
 length_evicted count region = length_entries id_size count (drop (length region - count * id_size) region)
 
-module _ (head : Head) (clock : ℕ) (region : List ℕ) (t : Tracked head clock region) where
+module _ (head : Head) (region : List ℕ) (t : Tracked head region) where
   abbrev pending : List Request
   pending = requests_in head.pending region
 
@@ -83,15 +77,15 @@ module _ (head : Head) (clock : ℕ) (region : List ℕ) (t : Tracked head clock
   few : length pending + length evicted ≤ tracked_limit
   few = rw (length_requests head.pending region, length_evicted head.evicted region) t.few
 
-  nothing_done : (at batch : ℕ) (out : List ℕ)
-      → Performs at batch (quiet pending evicted) out (leaving head.pending head.evicted at batch) region out
-  nothing_done at batch out =
-      quiet_done pending evicted at batch head.pending head.evicted region out
+  nothing_done : (place : Place) (out : List ℕ)
+      → Performs place (quiet pending evicted) out (Ok (unasked head.pending head.evicted place)) region out
+  nothing_done place out =
+      quiet_done pending evicted place head.pending head.evicted region out
       (sym (length_requests head.pending region)) (sym (length_evicted head.evicted region)) few t.held
 
   module _ (f : Bytes region) where
     pub stands : Stands pending evicted region
-    stands = tracked_stands head clock region t f
+    stands = tracked_stands head region t f
 
     -- fewer requests in their place
     pub taken_stands : (q : List Request) → All Recorded q → RisingIds (ids_of q) → length q ≤ length pending
@@ -103,11 +97,11 @@ module _ (head : Head) (clock : ℕ) (region : List ℕ) (t : Tracked head clock
         taken_stands (kept test pending) (all_kept Recorded test pending stands.recorded) (rising_kept test pending stands.rise)
         (length_kept test pending)
 
-    pub taken_done : (q : List Request) (at batch left : ℕ) (after out : List ℕ) → Stands q evicted (holding head.pending q region)
+    pub taken_done : (q : List Request) (place : Place) (left : ℕ) (after out : List ℕ) → Stands q evicted (holding head.pending q region)
         → left ≡ length q → after ≡ holding head.pending q region
-        → Performs at batch (quiet q evicted) out (leaving left head.evicted at batch) after out
-    taken_done q at batch left after out s a h =
-        quiet_done q evicted at batch left head.evicted after out a (sym (length_evicted head.evicted region)) s.few (h ∙ s.held)
+        → Performs place (quiet q evicted) out (Ok (unasked left head.evicted place)) after out
+    taken_done q place left after out s a h =
+        quiet_done q evicted place left head.evicted after out a (sym (length_evicted head.evicted region)) s.few (h ∙ s.held)
 
 -- ---- by the state and the call that are given
 
@@ -137,9 +131,9 @@ module _ {head : Head} {call : Call} {region ids stored view : List ℕ} {st : S
   unfolding head_of
   peer_given = ap (λ (h : Head). h.peer) g.header
 
-  module _ (downloaded : ℕ) {at batch clock : ℕ} (t : Tracked head clock region) where
+  module _ (downloaded : ℕ) {place : Place} (t : Tracked head region) where
     pub does_nothing : {out : List ℕ}
-        → Performs at batch (worked_by st c downloaded Nothing) out (leaving head.pending head.evicted at batch) region out
+        → Performs place (worked_by st c downloaded Nothing) out (Ok (unasked head.pending head.evicted place)) region out
     does_nothing {out} =
-        rw (nothing_worked st c downloaded (pending head clock region t) (evicted head clock region t) g.pending g.evicted)
-        (nothing_done head clock region t at batch out)
+        rw (nothing_worked st c downloaded (pending head region t) (evicted head region t) g.pending g.evicted)
+        (nothing_done head region t place out)

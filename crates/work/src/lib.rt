@@ -9,13 +9,15 @@
 pub mod region_check;
 pub mod removals;
 
-ghost use Rattle.std.specs.Prelude.{ℕ, List};
+ghost use Rattle.std.specs.Prelude.{◌≡◌, ℕ, List};
 ghost use Rattle.model.specs.State.{State};
 ghost use Rattle.model.specs.Calls as calls;
-ghost use Rattle.work.specs.Worked.{Tracked, Given, Performs, worked_by};
+ghost use Rattle.work.specs.Worked.{Tracked, Given, Performs, worked_by, unasked};
 ghost use Rattle.plan.specs.declared.Call.{Call};
 ghost use Rattle.plan.specs.declared.Work.TheVariants as works;
 
+use commands::place::Place;
+use commands::tracker::TrackerError;
 use image::head::Head;
 
 #[derive(Clone, Copy)]
@@ -26,28 +28,30 @@ pub struct Counts {
     pub fresh: usize,
     pub abandoned: usize,
     pub forgotten: usize,
-    pub at: usize,
-    pub batch: u16,
+    // where the next command goes
+    pub place: Place,
 }
 
-#[derive(Clone, Copy)]
-pub enum Performed {
-    Done(Counts),
-    Full,
+impl Counts {
+    // So many pending and evicted, and nothing else done.
+    pub fn unasked(pending: usize, evicted: usize, place: Place) -> Counts
+        ensures { result ≡ unasked pending evicted place }
+    {
+        Counts {
+            pending,
+            evicted,
+            retried: 0,
+            fresh: 0,
+            abandoned: 0,
+            forgotten: 0,
+            place,
+        }
+    }
 }
 
 // No work: the region stays.
-pub fn nothing(head: Head, at: usize, batch: u16) -> Performed
-    ensures { (st : State) (c : calls.Call) (region ids stored view out : List ℕ) (call : Call) → Tracked head c.clock region → Given head region call ids stored view st c → (downloaded : ℕ) → Performs at batch (worked_by st c downloaded works.Nothing) out result region out }
+pub fn nothing(head: Head, place: Place) -> Result<Counts, TrackerError>
+    ensures { (st : State) (c : calls.Call) (region ids stored view out : List ℕ) (call : Call) → Tracked head region → Given head region call ids stored view st c → (downloaded : ℕ) → Performs place (worked_by st c downloaded works.Nothing) out result region out }
 {
-    Performed::Done(Counts {
-        pending: head.pending,
-        evicted: head.evicted,
-        retried: 0,
-        fresh: 0,
-        abandoned: 0,
-        forgotten: 0,
-        at,
-        batch,
-    })
+    Ok(Counts::unasked(head.pending, head.evicted, place))
 }

@@ -1,14 +1,16 @@
 -- The pairs of a lost peer's requests, and the asks that they stand for.
-use Prim.Native.Nat.{ℕ}
+use Prim.Native.Nat.{ℕ, ◌<◌}
 use mathlib.Core.Path.{◌≡◌, refl, ap, ◌∙◌}
 use mathlib.Core.Bool.{Bool, true, false, not, cond, ◌&&◌}
 use mathlib.Core.List.{List, [], ◌∷◌, map}
 use native.Mathlib.Omega.{arith}
 use lib.ListN.{length}
 use lib.Dec.{eqb}
-use Rattle.fields.specs.Facts.{All}
+use Rattle.fields.specs.Facts.{All, Bytes}
 use Rattle.fields.specs.Sort.{sorted}
-use Rattle.fields.proofs.AllLaws.{all_map, all_kept}
+use Rattle.fields.proofs.AllLaws.{all_map, all_kept, all_both}
+use Rattle.fields.specs.Entries.{joined}
+use Rattle.fields.proofs.NumberLaws.{bytes_nil, bytes_cons, bytes_append}
 use Rattle.fields.proofs.SortLaws.{all_sorted}
 use Rattle.fields.proofs.EntriesLaws.{Wide}
 use Rattle.model.specs.Protocol.{is_transaction}
@@ -78,6 +80,19 @@ orphan_asks_lem peer stored rs =
     let items : List Item = orphan_items peer rs in
     ap (λ (is : List Item). map (λ (b : Batch). ask b.type_id b.peer stored b.ids) (batches_of is)) (orphan_items_lem peer rs)
     ∙ asks_peer peer stored (batches_of items) (batches_peer peer items (items_peer peer rs))
+
+pub orphans_bytes : (peer : ℕ) (rs : List Request) → All Recorded rs → All (λ (r : Request). r.type_id < 256) rs
+    → Bytes (joined (orphan_pairs (orphans_of peer rs)))
+unfolding orphans_of
+orphans_bytes peer rs w t =
+    let Q : Request → Type 0 = λ (r : Request). Recorded r × (r.type_id < 256) in
+    go (orphans_of peer rs) (all_kept Q (λ (r : Request). eqb r.peer peer && not (is_transaction r.type_id)) rs
+    (all_both Recorded (λ (r : Request). r.type_id < 256) rs w t))
+  where
+    go : (left : List Request) → All (λ (r : Request). Recorded r × (r.type_id < 256)) left → Bytes (joined (orphan_pairs left))
+    go [] q = bytes_nil
+    go (r ∷ left) q =
+        bytes_append (pair_bytes r.type_id r.id) (joined (orphan_pairs left)) (bytes_cons r.type_id r.id q.0.1 q.0.0.id.bytes) (go left q.1)
 
 pub orphans_wide : (peer : ℕ) (rs : List Request) → All Recorded rs → Wide pair_size (orphan_pairs (orphans_of peer rs))
 unfolding orphans_of

@@ -21,7 +21,7 @@ module _ (ps : List (List ℕ)) (w : Wide pair_size ps) where
       rw n (rw (append-nil (joined ps)) at (entries_joined pair_size ps [] w))
 
   module _ (number : ℕ) (room pairs : List ℕ) (h : number ≡ length ps) (e : pairs ≡ overwritten 0 (joined ps) room) where
-    front_is : take (number * pair_size) pairs ≡ joined ps
+    pub front_is : take (number * pair_size) pairs ≡ joined ps
     front_is =
         let n : number * pair_size ≡ length (joined ps) = omega (arith, length_pairs) in
         rw (e, n) (front_read_back (joined ps) room)

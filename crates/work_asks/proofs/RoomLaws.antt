@@ -20,9 +20,10 @@ use Rattle.image.specs.declared.head.Head.{Head}
 use Rattle.peers.specs.Aims.{aimed_at}
 use Rattle.peers.specs.Peers.{listed_peer}
 use Rattle.peers.specs.declared.aim.Aim.{Aim}
-use Rattle.peers.specs.declared.Listed.{Listed}
-use Rattle.peers.specs.declared.Listed.TheVariants.{Peer, Nobody}
-use Rattle.commands.specs.Sent.{sent_bytes}
+use Rattle.std.proofs.Common.{Option, Some, None}
+use Rattle.commands.specs.Sent.{first_place, sent_bytes, behind}
+use Rattle.commands.specs.declared.place.Place.{Place}
+use Rattle.commands.proofs.SentLaws.{behind_none}
 use Rattle.plan.specs.declared.Call.{Call}
 use Rattle.plan.specs.declared.Plan.{Plan}
 use Rattle.plan.specs.declared.Work.{Work}
@@ -52,28 +53,28 @@ sent_most head ids (CheckFresh peer aim) few h = omega arith
 
 -- ---- an announcement's part of it
 
-pub told_room : {announces : Listed} {peer room : ℕ} → announces ≡ Peer peer → room_for announces 0 ≤ room → area_size ≤ room
+pub told_room : {announces : Option ℕ} {peer room : ℕ} → announces ≡ Some peer → room_for announces 0 ≤ room → area_size ≤ room
 told_room e h = rw e at h
 
-pub first_room : (announces : Listed) (most room : ℕ) → room_for announces most ≤ room → room_for announces 0 ≤ room
-first_room (Peer peer) most room h = h
-first_room Nobody most room h = omega arith
+pub first_room : (announces : Option ℕ) (most room : ℕ) → room_for announces most ≤ room → room_for announces 0 ≤ room
+first_room (Some peer) most room h = h
+first_room None most room h = omega arith
 
 -- what is left behind it
-pub behind_room : (announces : Listed) (bytes : List ℕ) {at most room : ℕ} → at ≡ length (sent_bytes 0 (announced (listed_peer announces) (ids_in bytes)))
-    → at + most_bytes ≤ area_size → most ≤ most_bytes → room_for announces most ≤ room
-    → at + most ≤ room
-unfolding sent_bytes
-behind_room (Peer peer) bytes e first few h = omega arith
-behind_room Nobody bytes e first few h = omega arith
+pub behind_room : (announces : Option ℕ) (bytes : List ℕ) {place : Place} {most room : ℕ}
+    → place ≡ behind first_place (announced (listed_peer announces) (ids_in bytes))
+    → place.at + most_bytes ≤ area_size → most ≤ most_bytes → room_for announces most ≤ room
+    → place.at + most ≤ room
+behind_room (Some peer) bytes e first few h = omega arith
+behind_room None bytes e first few h = omega (arith, ap (λ (p : Place). p.at) (e ∙ behind_none first_place))
 
 -- ---- what a work sends
 
-untold : (announces : Listed) (ids : List Id) (ss : List Sending) → announces ≡ Nobody → announced (listed_peer announces) ids ++ ss ≡ ss
+untold : (announces : Option ℕ) (ids : List Id) (ss : List Sending) → announces ≡ None → announced (listed_peer announces) ids ++ ss ≡ ss
 untold announces ids ss e = rw e
 
 module _ {head : Head} {call : Call} {region ids stored view : List ℕ} {st : State} {c : calls.Call}
-    (g : Given head region call ids stored view st c) (t : Tracked head call.clock region) where
+    (g : Given head region call ids stored view st c) (t : Tracked head region) where
   ids_count : length (ids_in c.ids) ≡ length ids / id_size
   ids_count = ap (λ (bytes : List ℕ). length (ids_in bytes)) g.its_ids ∙ length_ids ids
 
@@ -124,7 +125,7 @@ module _ {head : Head} {call : Call} {region ids stored view : List ℕ} {st : S
       omega (arith, sent, again_few aim, evicted_count_lem)
 
   -- so does a plan that announces nothing, up to its sync info
-  pub plan_sends : (plan : Plan) → plan.announces ≡ Nobody → most_sent head (length ids) plan.work < most_bytes
+  pub plan_sends : (plan : Plan) → plan.announces ≡ None → most_sent head (length ids) plan.work < most_bytes
       → length (sent_bytes 0 (carried_by st c plan).sendings) ≤ most_sent head (length ids) plan.work
   unfolding carried_by
   plan_sends plan nobody few =

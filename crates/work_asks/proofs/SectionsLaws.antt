@@ -24,18 +24,20 @@ use Rattle.model.proofs.SectionLaws.{sections_well}
 use Rattle.model.proofs.SendingLaws.{act_weight, batches_weight}
 use Rattle.image.specs.declared.head.Head.{Head}
 use Rattle.commands.specs.Pending.{requests_in, holding}
+use Rattle.commands.specs.declared.place.Place.{Place}
 use Rattle.delivery.specs.Region.{evicted_in}
 use Rattle.plan.specs.declared.Call.{Call}
 use Rattle.plan.specs.declared.Work.TheVariants.{Sections, PurgeSections}
 use Rattle.plan.specs.Plans.{retried_by}
 use Rattle.heights.proofs.ItemLaws.{items_most}
 use Rattle.work.specs.declared.Counts.{Counts}
-use Rattle.work.specs.declared.Performed.{Performed}
-use Rattle.work.specs.Worked.{Given, acted_by, count_by, worked_by, Performs}
+use Rattle.std.proofs.Common.{Result}
+use Rattle.commands.specs.declared.tracker.TrackerError.{TrackerError}
+use Rattle.work.specs.Worked.{Given, acted_by, count_by, worked_by, unasked, Performs}
 use Rattle.work.proofs.RegionLaws.{Stands, tracked_stands}
 use Rattle.work.proofs.WorkedLaws.{length_requests, length_evicted, taken_stands, clock_given, gate_given, height_given}
-use Rattle.work_asks.specs.Asked.{unasked, Asks}
-use Rattle.work_asks.proofs.EntryLaws.{Entered, SectionsAsks}
+use Rattle.work_asks.specs.Asked.{SectionsAsks, Asks}
+use Rattle.work_asks.proofs.EntryLaws.{Entered}
 use Rattle.work_asks.proofs.AskedLaws.{asking, first_done}
 use Rattle.model.specs.Layout.{id_size, most_bytes, record_size}
 
@@ -46,16 +48,16 @@ abbrev sections : Call → List ℕ → ℕ → ℕ → List Act
 sections call view downloaded peer = (request_sections_from (view_of view) call.height downloaded (some peer)).acts
 
 module _ {head : Head} {call : Call} {region ids stored view : List ℕ} {st : State} {c : calls.Call}
-    (g : Given head region call ids stored view st c) (downloaded n gone at batch peer : ℕ) where
+    (g : Given head region call ids stored view st c) (downloaded n gone : ℕ) (place : Place) (peer : ℕ) where
   sections_worked : worked_by st c downloaded (Sections peer)
       ≡ asking (perform_all (eqb call.gate 1) call.clock (sections call view downloaded peer) (requests_in head.pending region))
-      (evicted_in head.evicted region) [] (unasked n gone at batch)
+      (evicted_in head.evicted region) [] (unasked n gone place)
   unfolding worked_by acted_by count_by retried_by retry_sendings batches_of
   sections_worked = rw (g.pending, g.evicted, gate_given g, clock_given g, height_given g, g.its_view)
 
   purge_sections_worked : worked_by st c downloaded (PurgeSections peer)
       ≡ asking (perform_all (eqb call.gate 1) call.clock (sections call view downloaded peer) (purge_all (requests_in head.pending region)))
-      (evicted_in head.evicted region) [] (unasked n gone at batch)
+      (evicted_in head.evicted region) [] (unasked n gone place)
   unfolding worked_by acted_by count_by retried_by retry_sendings batches_of
   purge_sections_worked = rw (g.pending, g.evicted, gate_given g, clock_given g, height_given g, g.its_view)
 
@@ -78,36 +80,40 @@ none_rising : (table : List ℕ) → rising id_size (entries record_size 0 table
 unfolding rising
 none_rising table = refl
 
-module _ {head : Head} {call : Call} {region : List ℕ} {at batch peer : ℕ} {out : List ℕ} (n : Entered head call region at batch peer most_bytes out)
-    (view : List ℕ) (fits : view_fits view ≡ true) {before : Counts} where
-  pub sections_ask : before ≡ unasked head.pending head.evicted at batch → SectionsAsks before region view out
-  sections_ask b = let t = n.tracked in rw b ((t.few, omega (arith, t.size)), (t.order, (fits, n.room)))
+module _ {head : Head} {call : Call} {region : List ℕ} {place : Place} {peer : ℕ} {out : List ℕ}
+    (n : Entered head call region place peer most_bytes out) {before : Counts} where
+  pub purged_ask : (purged : List ℕ) → length purged ≡ length region → before ≡ unasked 0 head.evicted place
+      → SectionsAsks before purged out
+  purged_ask purged same b =
+      let t = n.tracked in
+      rw b
+      (record {
+        table = record { few = omega (arith, t.few); size = omega (arith, same, t.size); order = none_rising purged };
+        room = n.room;
+      })
 
-  pub purged_ask : (purged : List ℕ) → length purged ≡ length region → before ≡ unasked 0 head.evicted at batch
-      → SectionsAsks before purged view out
-  purged_ask purged same b = let t = n.tracked in rw b ((omega (arith, t.few), omega (arith, t.size)), (none_rising purged, (fits, n.room)))
-
-  module _ (fv : Bytes view) (downloaded : ℕ) {r : Performed} {after out' : List ℕ} where
-    pub asks_sections : before ≡ unasked head.pending head.evicted at batch
+  module _ (view : List ℕ) (fits : view_fits view ≡ true) (fv : Bytes view) (downloaded : ℕ)
+      {r : Result Counts TrackerError} {after out' : List ℕ} where
+    pub asks_sections : before ≡ unasked head.pending head.evicted place
         → Asks (eqb call.gate 1) call.clock (sections call view downloaded peer) before region out r after out'
         → {st : State} {c : calls.Call} {ids stored : List ℕ} → Given head region call ids stored view st c
-        → Performs at batch (worked_by st c downloaded (Sections peer)) out r after out'
+        → Performs place (worked_by st c downloaded (Sections peer)) out r after out'
     asks_sections b a g =
-        rw (sections_worked g downloaded head.pending head.evicted at batch peer)
-        (first_done (tracked_stands head call.clock region n.tracked n.bytes) refl (sym (length_requests head.pending region))
+        rw (sections_worked g downloaded head.pending head.evicted place peer)
+        (first_done (tracked_stands head region n.tracked n.bytes) refl (sym (length_requests head.pending region))
         (sym (length_evicted head.evicted region)) n.clock (window_acts_well view fv fits call.height downloaded peer n.asked)
-        (omega (arith, window_weight view fv fits call.height downloaded peer, n.room)) (rw b at a))
+        (omega (arith, window_weight view fv fits call.height downloaded peer, n.room.bytes)) (rw b at a))
 
     pub asks_after_purge : {purged : List ℕ} → purged ≡ holding head.pending (purge_all (requests_in head.pending region)) region
-        → before ≡ unasked 0 head.evicted at batch
+        → before ≡ unasked 0 head.evicted place
         → Asks (eqb call.gate 1) call.clock (sections call view downloaded peer) before purged out r after out'
         → {st : State} {c : calls.Call} {ids stored : List ℕ} → Given head region call ids stored view st c
-        → Performs at batch (worked_by st c downloaded (PurgeSections peer)) out r after out'
+        → Performs place (worked_by st c downloaded (PurgeSections peer)) out r after out'
     unfolding purge_all
     asks_after_purge {purged} h b a g =
         let s : Stands [] (evicted_in head.evicted region) purged =
-        rw h (taken_stands head call.clock region n.tracked n.bytes [] tt tt (omega arith)) in
-        rw (purge_sections_worked g downloaded 0 head.evicted at batch peer)
+        rw h (taken_stands head region n.tracked n.bytes [] tt tt (omega arith)) in
+        rw (purge_sections_worked g downloaded 0 head.evicted place peer)
         (first_done s refl refl (sym (length_evicted head.evicted region)) n.clock
         (window_acts_well view fv fits call.height downloaded peer n.asked)
-        (omega (arith, window_weight view fv fits call.height downloaded peer, n.room)) (rw b at a))
+        (omega (arith, window_weight view fv fits call.height downloaded peer, n.room.bytes)) (rw b at a))

@@ -1,10 +1,10 @@
 -- Announcements as bytes, and work behind an announcement.
 use Prim.Native.Nat.{ℕ, ◌+◌, ◌*◌, ◌%◌, ◌≤◌, ◌<◌}
-use mathlib.Core.Path.{◌≡◌, refl, sym, ◌∙◌, subst}
+use mathlib.Core.Path.{◌≡◌, refl, sym, ap, ◌∙◌, subst}
 use mathlib.Core.Bool.{true}
 use mathlib.Core.List.{List, [], ◌∷◌, ◌++◌, append-nil}
 use mathlib.Core.Option.{some}
-use native.Mathlib.Nat.{zero-add, lt_irrefl}
+use native.Mathlib.Nat.{lt_irrefl}
 use native.Mathlib.Omega.{arith}
 use lib.ListN.{length, take, drop, length-append}
 use lib.Seq.{length-take-le}
@@ -12,7 +12,6 @@ use lib.Dec.{eqb, leb}
 use borrow.Author.Tests.{eqb-true, leb-true}
 use Rattle.fields.specs.Overwrite.{overwritten}
 use Rattle.fields.proofs.OrderLaws.{and_left, and_right}
-use Rattle.fields.proofs.OverwriteLaws.{overwritten_nil, overwritten_next}
 use Rattle.model.specs.Protocol.{Id, continuation_limit}
 use Rattle.model.specs.State.{State}
 use Rattle.model.specs.Calls as calls
@@ -20,13 +19,14 @@ use Rattle.model.specs.Requests.{Sending, Command, announcement}
 use Rattle.model.specs.Lists.{ids_in, list_fits, continuation_fits}
 use Rattle.model.specs.Commands.{command_bytes}
 use Rattle.peers.specs.Peers.{listed_peer}
-use Rattle.peers.specs.declared.Listed.{Listed}
-use Rattle.peers.specs.declared.Listed.TheVariants.{Peer, Nobody}
-use Rattle.commands.specs.Sent.{sent_bytes}
+use Rattle.work.specs.declared.Counts.{Counts}
+use Rattle.std.proofs.Common.{Option, Some, None, Result}
+use Rattle.commands.specs.Sent.{first_place, sent_bytes, sent_at, behind}
+use Rattle.commands.specs.declared.place.Place.{Place}
 use Rattle.commands.proofs.WriteLaws.{length_ids, joined_ids}
-use Rattle.commands.proofs.SentLaws.{sent_append}
+use Rattle.commands.proofs.SentLaws.{sent_none, behind_none, behind_again, sent_again}
 use Rattle.plan.specs.declared.Plan.{Plan}
-use Rattle.work.specs.declared.Performed.{Performed}
+use Rattle.commands.specs.declared.tracker.TrackerError.{TrackerError}
 use Rattle.work.specs.Worked.{Worked, worked_by, fits, performed_as, Performs}
 use Rattle.work_asks.specs.Carried.{announced, carried_by}
 use Rattle.model.specs.Layout.{id_size, most_bytes}
@@ -61,28 +61,29 @@ announcement_long : (batch peer : ℕ) (bytes : List ℕ) → length bytes % id_
 unfolding command_bytes
 announcement_long batch peer bytes h = rw (joined_ids bytes h) (omega arith)
 
--- What was announced, the place behind it and the next batch, and that there is room for the work's commands.
-module _ (announces : Listed) (bytes out : List ℕ) where
+-- What was announced, the place behind it, and that there is room for the work's commands.
+module _ (announces : Option ℕ) (bytes out : List ℕ) where
   abbrev announcements : List Sending
   announcements = announced (listed_peer announces) (ids_in bytes)
 
-  abbrev pub Announced : List ℕ → ℕ → ℕ → Type 0
-  Announced out' at batch =
-      (out' ≡ overwritten 0 (sent_bytes 0 announcements) out)
-      × (((at ≡ length (sent_bytes 0 announcements)) × (batch ≡ length announcements)) × ((at + most_bytes ≤ 65536) × (batch ≤ 1)))
+  abbrev pub Announced : List ℕ → Place → Type 0
+  Announced out' place =
+      (out' ≡ sent_at first_place announcements out)
+      × ((place ≡ behind first_place announcements) × ((place.at + most_bytes ≤ 65536) × (place.batch ≤ 1)))
 
-  pub nobody_told : announces ≡ Nobody → Announced out 0 0
-  unfolding sent_bytes
-  nobody_told e = rw e (sym (overwritten_nil 0 out), ((refl, refl), (omega arith, omega arith)))
+  none_told : announcements ≡ [] → Announced out first_place
+  none_told e = rw e (sym (sent_none first_place out), (sym (behind_none first_place), (omega arith, omega arith)))
 
-  pub nothing_told : (peer : ℕ) → announces ≡ Peer peer → length bytes < 1 → Announced out 0 0
-  unfolding sent_bytes
-  nothing_told peer e h = rw (e, no_ids bytes h) (sym (overwritten_nil 0 out), ((refl, refl), (omega arith, omega arith)))
+  pub nobody_told : announces ≡ None → Announced out first_place
+  nobody_told e = none_told (rw e)
 
-  pub told : (peer : ℕ) (out' : List ℕ) (end : ℕ) → announces ≡ Peer peer → continuation_fits bytes ≡ true → 1 ≤ length bytes
+  pub nothing_told : (peer : ℕ) → announces ≡ Some peer → length bytes < 1 → Announced out first_place
+  nothing_told peer e h = none_told (rw (e, no_ids bytes h))
+
+  pub told : (peer : ℕ) (out' : List ℕ) (end : ℕ) → announces ≡ Some peer → continuation_fits bytes ≡ true → 1 ≤ length bytes
       → out' ≡ overwritten 0 (command_bytes (record { kind = 2; type_id = 101; batch = 0; peer = peer; ids = ids_in bytes })) out
       → end ≡ 0 + 16 + length bytes
-      → Announced out' end 1
+      → Announced out' (record { at = end; batch = 1 })
   unfolding sent_bytes
   told peer out' end p fits some' e n =
       let w = continuation_whole bytes fits in
@@ -90,14 +91,14 @@ module _ (announces : Listed) (bytes out : List ℕ) where
       let s : announced (some peer) (ids_in bytes) ≡ announcement peer (ids_in bytes) ∷ [] = announced_some peer (ids_in bytes) (omega (arith, w.0)) in
       let c : Command = record { kind = 2; type_id = 101; batch = 0; peer = peer; ids = ids_in bytes } in
       let b : command_bytes c ++ [] ≡ command_bytes c = append-nil (command_bytes c) in
-      rw (p, s, b) (e, ((n ∙ sym (announcement_long 0 peer bytes w.0), refl), (omega (arith, w.1), omega arith)))
+      let at : end ≡ 0 + length (command_bytes c) = omega (arith, n, announcement_long 0 peer bytes w.0) in
+      rw (p, s, b) (e, (rw at, (omega (arith, w.1), omega arith)))
 
 -- with nobody told, the commands are as they were
-pub nothing_before : (announces : Listed) (bytes out : List ℕ) {out' : List ℕ}
-    → out' ≡ overwritten 0 (sent_bytes 0 (announced (listed_peer announces) (ids_in bytes))) out
-    → announces ≡ Nobody → out' ≡ out
-unfolding sent_bytes
-nothing_before announces bytes out e nobody = e ∙ rw nobody (overwritten_nil 0 out)
+pub nothing_before : (announces : Option ℕ) (bytes out : List ℕ) {out' : List ℕ}
+    → out' ≡ sent_at first_place (announced (listed_peer announces) (ids_in bytes)) out
+    → announces ≡ None → out' ≡ out
+nothing_before announces bytes out e nobody = e ∙ rw nobody (sent_none first_place out)
 
 -- ---- work behind an announcement
 
@@ -117,30 +118,27 @@ module _ (st : State) (c : calls.Call) (plan : Plan) where
   abbrev work : Worked
   work = worked_by st c plan.head.downloaded plan.work
 
-  pub carries : {bytes out out₁ out₂ region : List ℕ} {at batch : ℕ} {r : Performed} → c.continuation ≡ bytes
-      → Announced plan.announces bytes out out₁ at batch
-      → at ≤ length out → length out₁ ≡ length out → length out₂ ≡ length out₁
-      → Performs at batch work out₁ r region out₂ → Performs 0 0 (carried_by st c plan) out r region out₂
+  pub carries : {bytes out out₁ out₂ region : List ℕ} {place : Place} {r : Result Counts TrackerError} → c.continuation ≡ bytes
+      → Announced plan.announces bytes out out₁ place
+      → place.at ≤ length out → length out₁ ≡ length out → length out₂ ≡ length out₁
+      → Performs place work out₁ r region out₂ → Performs first_place (carried_by st c plan) out r region out₂
   unfolding carried_by performed_as fits
-  carries {bytes} {out} {out₁} {out₂} {region} {at} {batch} same told' room l₁ l₂ p =
-      let a : Announced plan.announces c.continuation out out₁ at batch =
-      subst (λ (b : List ℕ). Announced plan.announces b out out₁ at batch) (sym same) told' in
-      let A : List ℕ = sent_bytes 0 first in
-      let B : List ℕ = sent_bytes batch work.sendings in
-      let w : out₁ ≡ overwritten 0 A out = a.0 in
-      let na : at ≡ length A = a.1.0.0 in
-      let nb : batch ≡ length first = a.1.0.1 in
-      let both : sent_bytes 0 (first ++ work.sendings) ≡ A ++ B = sent_append 0 first work.sendings ∙ rw (zero-add (length first), ← nb) in
-      let e-at : at + length B ≡ 0 + length (sent_bytes 0 (first ++ work.sendings)) = rw (both, length-append A B) (omega arith) in
-      let e-batch : batch + length work.sendings ≡ 0 + length (first ++ work.sendings) = rw (length-append first work.sendings) (omega arith) in
+  carries {bytes} {out} {out₁} {out₂} {region} {place} same told' room l₁ l₂ p =
+      let a : Announced plan.announces c.continuation out out₁ place =
+      subst (λ (b : List ℕ). Announced plan.announces b out out₁ place) (sym same) told' in
+      let then : List ℕ = sent_bytes place.batch work.sendings in
+      let at : place ≡ behind first_place first = a.1.0 in
+      let next : behind place work.sendings ≡ behind first_place (first ++ work.sendings) =
+      ap (λ (q : Place). behind q work.sendings) at ∙ behind_again first_place first work.sendings in
       record {
-        answered = p.answered ∙ rw (e-at, e-batch);
+        answered = p.answered ∙ rw next;
         left = p.left;
         written =
             λ h.
-            let q : out₂ ≡ overwritten at B out₁ = p.written h in
-            let n : at + length B ≤ length out₂ = rw q (over_fits at B out₁ (omega arith)) in
-            let k : overwritten (0 + length A) B (overwritten 0 A out) ≡ overwritten 0 (A ++ B) out = overwritten_next 0 A B out (omega arith) in
-            let z : 0 + length A ≡ at = omega arith in
-            q ∙ rw (w, both, ← z) k;
+            let q : out₂ ≡ sent_at place work.sendings out₁ = p.written h in
+            let fit : place.at + length then ≤ length out₂ = rw q (over_fits place.at then out₁ (omega arith)) in
+            let end : place.at + length then ≡ (behind (behind first_place first) work.sendings).at =
+            ap (λ (x : Place). (behind x work.sendings).at) at in
+            q ∙ ap (sent_at place work.sendings) a.0 ∙ ap (λ (x : Place). sent_at x work.sendings (sent_at first_place first out)) at
+            ∙ sent_again first_place first work.sendings out (omega (arith, fit, end));
       }

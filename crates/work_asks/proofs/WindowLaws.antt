@@ -20,13 +20,13 @@ use Rattle.heights.specs.Window.{item_pair}
 use Rattle.heights.proofs.MissingLaws.{window_pairs, pairs_wide}
 use Rattle.heights.proofs.ItemLaws.{items_most, window_peer}
 use Rattle.work.specs.declared.Counts.{Counts}
-use Rattle.work.specs.declared.Performed.{Performed}
-use Rattle.work_asks.specs.Asked.{Asks}
-use Rattle.work_asks.proofs.EntryLaws.{PairsAsks, SectionsAsks}
+use Rattle.std.proofs.Common.{Result}
+use Rattle.commands.specs.declared.tracker.TrackerError.{TrackerError}
+use Rattle.work_asks.specs.Asked.{PairsAsks, SectionsAsks, Asks}
 use Rattle.work_asks.proofs.PairLaws.{front_length, front_pairs}
 use Rattle.model.specs.Layout.{pair_size}
 
-no_pairs_fit : pairs_fit [] ≡ true
+pub no_pairs_fit : pairs_fit [] ≡ true
 unfolding pairs_fit list_fits rising
 no_pairs_fit = refl
 
@@ -89,16 +89,18 @@ module _ {view : List ℕ} {chain downloaded peer number : ℕ} {room pairs : Li
 
   -- ---- asked for, with no stored pairs
 
-  pub window_ask : (before : Counts) (table out : List ℕ) → SectionsAsks before table view out
-      → PairsAsks before table [] front out
+  pub window_ask : (before : Counts) (table out : List ℕ) → SectionsAsks before table out → PairsAsks before table front out
   window_ask before table out asks =
       let long = window_long in
-      let few = window_few in (
-        (omega (arith, long), (omega (arith, long, few), asks.0)),
-        (asks.1.0, (no_pairs_fit, (omega (arith, long, few, asks.1.1.1), omega (arith, long, few, asks.1.1.1)))),
-      )
+      let few = window_few in
+      record {
+        table = asks.table;
+        few = omega (arith, long, few);
+        room = omega (arith, long, few, asks.room.bytes);
+        number = omega (arith, long, few, asks.room.batches);
+      }
 
-  pub window_asked : {gate : Bool} {clock : ℕ} {before : Counts} {table out : List ℕ} {r : Performed} {after out' : List ℕ}
+  pub window_asked : {gate : Bool} {clock : ℕ} {before : Counts} {table out : List ℕ} {r : Result Counts TrackerError} {after out' : List ℕ}
       → Asks gate clock (asks_by_type peer (pairs_in []) (entries_of pair_size front)) before table out r after out'
       → Asks gate clock wanted before table out r after out'
   window_asked {gate} {clock} {before} {table} {out} {r} {after} {out'} =

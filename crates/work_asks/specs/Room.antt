@@ -1,8 +1,6 @@
 -- The room for commands that a work and a plan ask for.
-use Rattle.std.specs.Prelude.{ℕ, ◌+◌, ◌*◌, ◌/◌}
+use Rattle.std.specs.Prelude.{ℕ, ◌+◌, ◌*◌, ◌/◌, Option, Some, None}
 use Rattle.image.specs.declared.head.Head.{Head}
-use Rattle.peers.specs.declared.Listed.{Listed}
-use Rattle.peers.specs.declared.Listed.TheVariants.{Peer, Nobody}
 use Rattle.plan.specs.declared.Plan.{Plan}
 use Rattle.plan.specs.declared.Work.{Work}
 use Rattle.plan.specs.declared.Work.TheVariants.{Nothing, Ids, Sections, Received, Evicted, Purge, PurgeSections, Lose, LoseAsk, Check, CheckFresh}
@@ -23,9 +21,9 @@ most_sent head ids (Check aim) = head.pending * command_size
 most_sent head ids (CheckFresh peer aim) = (head.pending + head.evicted) * command_size
 
 -- a whole area where continuation ids are announced, else what comes behind them
-abbrev pub room_for : Listed → ℕ → ℕ
-room_for (Peer peer) most = area_size
-room_for Nobody most = most
+abbrev pub room_for : Option ℕ → ℕ → ℕ
+room_for (Some peer) most = area_size
+room_for None most = most
 
 -- a plan before its sync info
 abbrev pub most_carried : Head → ℕ → Plan → ℕ

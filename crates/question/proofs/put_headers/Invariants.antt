@@ -1,10 +1,6 @@
 -- The loop: pairs written so far, then those of the ids to come, are all pairs (`Heading`).
-use Prim.Native.Nat.{◌-◌}
 use Rattle.question.proofs.AnswerLaws.{Heading}
 use Rattle.question.proofs.put_headers.Given as goal
 
 abbrev pub invariant-loop-i : goal.invariant-loop-i
-invariant-loop-i l = Heading l.ids l.count l.initial.pairs l.pairs l.i
-
-abbrev pub decreases-loop-i : goal.decreases-loop-i
-decreases-loop-i l = l.count - l.i
+invariant-loop-i l = Heading l.ids l.initial.pairs l.pairs l.i

@@ -1,27 +1,18 @@
--- Each number by the tests before it.
-use mathlib.Core.Path.{sym, ◌∙◌}
-use borrow.Author.Tests.{lt-leb, le-leb, eq-eqb, ne_eqb}
-use Rattle.refusals.proofs.RefusalLaws.{asked_1, asked_2, asked_3, asked_5, asked_none}
+-- What the areas say, then the flag.
+use borrow.Author.Tests.{lt-leb, le-leb}
+use Rattle.std.proofs.lemmas.Result.{err_from_is_err_and}
+use Rattle.refusals.proofs.NumberLaws.{positive}
+use Rattle.refusals.proofs.RefusalLaws.{areas, asked_refused, asked_5, asked_none}
 use Rattle.refusals.proofs.question_refusal.Goals as goal
 
-pub returns-then-state-ne65536 : goal.returns-then-state-ne65536
-returns-then-state-ne65536 c = λ area e. asked_1 _ area _ (ne_eqb _ _ c.if-state-ne65536.true)
-
-pub returns-then-not-is_well_formed : goal.returns-then-not-is_well_formed
-returns-then-not-is_well_formed c =
-    λ area e. asked_2 _ area _ (eq-eqb _ _ c.if-state-ne65536.false) (sym c.is_well_formed.ensures ∙ c.if-not-is_well_formed.true)
-
-pub returns-then-room-lt65536 : goal.returns-then-room-lt65536
-returns-then-room-lt65536 c =
-    let well = sym c.is_well_formed.ensures ∙ c.if-not-is_well_formed.false in
-    λ area e. asked_3 _ area _ (eq-eqb _ _ c.if-state-ne65536.false) well (rw e (lt-leb _ _ c.if-room-lt65536.true))
+pub returns-in_err-areas_refusal : goal.returns-in_err-areas_refusal
+returns-in_err-areas_refusal c =
+    let p = err_from_is_err_and c.from_residual.result c.from_residual.ensures.1 in
+    let refusal = c.in_err-areas_refusal.field-0.0 in
+    rw (p.1, p.2) (λ area e. asked_refused _ area _ e (positive refusal) c.in_err-areas_refusal.ensures)
 
 pub returns-then-flag-gt1 : goal.returns-then-flag-gt1
-returns-then-flag-gt1 c =
-    let well = sym c.is_well_formed.ensures ∙ c.if-not-is_well_formed.false in
-    λ area e. asked_5 _ area _ (eq-eqb _ _ c.if-state-ne65536.false) well (rw e (le-leb _ _ c.if-room-lt65536.false)) (lt-leb _ _ c.if-flag-gt1.true)
+returns-then-flag-gt1 c = λ area e. asked_5 _ area _ e (areas _ _ c.in_ok-areas_refusal.ensures) (lt-leb _ _ c.if-flag-gt1.true)
 
 pub returns : goal.returns
-returns c =
-    let well = sym c.is_well_formed.ensures ∙ c.if-not-is_well_formed.false in
-    λ area e. asked_none _ area _ (eq-eqb _ _ c.if-state-ne65536.false) well (rw e (le-leb _ _ c.if-room-lt65536.false)) (le-leb _ _ c.if-flag-gt1.false)
+returns c = λ area e. asked_none _ area _ e (areas _ _ c.in_ok-areas_refusal.ensures) (le-leb _ _ c.if-flag-gt1.false)

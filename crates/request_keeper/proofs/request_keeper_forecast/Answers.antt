@@ -1,16 +1,14 @@
--- The refusals 1, 2 and 4 to 8 decide; behind them `forecast_step` has the equation.
-use borrow.Author.Tests.{ne_eqb}
+-- What `forecast_step` answers, with the forecast's numbers named one by one.
+use mathlib.Core.Path.{ap, ◌∙◌}
+use Rattle.model.specs.Forecast.{no_figures}
 use Rattle.plan.specs.Plans.{call_of}
 use Rattle.step.specs.Forecasts.{forecast_of}
-use Rattle.request_keeper.proofs.EntryLaws.{not_forecast}
 use Rattle.request_keeper.proofs.request_keeper_forecast.Goals as goal
 
-pub returns-then-number-ne0 : goal.returns-then-number-ne0
+pub returns-in-Ok : goal.returns-in-Ok
 unfolding call_of forecast_of
-returns-then-number-ne0 c =
-    let r = c.step_refusal-number in
-    not_forecast _ _ r.result r.ensures (ne_eqb _ _ c.if-number-ne0.true) c.no_figures.ensures
+returns-in-Ok c = c.in-Ok.ensures
 
-pub returns : goal.returns
+pub returns-in-Err : goal.returns-in-Err
 unfolding call_of forecast_of
-returns c = c.forecast_step.ensures
+returns-in-Err c = c.no_figures.ensures ∙ ap no_figures c.number.ensures ∙ c.in-Err.ensures

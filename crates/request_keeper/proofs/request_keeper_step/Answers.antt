@@ -1,16 +1,17 @@
--- The refusals 1 to 8 decide; behind them `run` has the equation.
-use borrow.Author.Tests.{ne_eqb}
+-- What `take_step` answers, with the answer's numbers named one by one.
+use mathlib.Core.Path.{ap, ◌∙◌}
+use Rattle.model.specs.Calls.{Answer, refused}
 use Rattle.plan.specs.Plans.{call_of}
 use Rattle.step.specs.Answers.{answer_of}
-use Rattle.request_keeper.proofs.EntryLaws.{not_stepped}
 use Rattle.request_keeper.proofs.request_keeper_step.Goals as goal
 
-pub returns-then-number-ne0 : goal.returns-then-number-ne0
+pub returns-in-Ok : goal.returns-in-Ok
 unfolding call_of answer_of
-returns-then-number-ne0 c =
-    let r = c.step_refusal-number in
-    not_stepped _ _ _ r.result _ r.ensures (ne_eqb _ _ c.if-number-ne0.true) c.refused.ensures
+returns-in-Ok c = c.in-Ok.ensures
 
-pub returns : goal.returns
+pub returns-in-Err : goal.returns-in-Err
 unfolding call_of answer_of
-returns c = c.run.ensures
+returns-in-Err c =
+    let areas = c.take_step.new in
+    ap (λ (x : Answer). record { answer = x; state = areas.state; commands = areas.commands }) (c.refused.ensures ∙ ap refused c.number.ensures)
+    ∙ c.in-Err.ensures

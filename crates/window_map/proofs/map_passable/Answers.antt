@@ -2,7 +2,6 @@
 use mathlib.Core.Path.{◌≡◌, sym, ◌∙◌}
 use mathlib.Core.Bool.{true}
 use Rattle.model.specs.WindowMap.{map_fits}
-use Rattle.window_map.specs.Answer.{passable_of}
 use Rattle.window_map.proofs.PassLaws.{fits_long, refused, passed}
 use Rattle.window_map.proofs.map_passable.Goals.{Else-not-fits}
 use Rattle.window_map.proofs.map_passable.Goals as goal
@@ -13,7 +12,6 @@ module _ (c : Else-not-fits) where
   fitting = sym c.fits.ensures ∙ c.if-not-fits.false
 
 pub returns-then-not-fits : goal.returns-then-not-fits
-unfolding passable_of
 returns-then-not-fits c =
     sym (refused c.args.map.now (sym c.fits.ensures ∙ c.if-not-fits.true))
 
@@ -21,7 +19,6 @@ pub passable-requires : goal.passable-requires
 passable-requires c = fits_long c.args.map.now (fitting c)
 
 pub returns : goal.returns
-unfolding passable_of
 returns c =
     let here = (goal.at.returns c).Else-not-fits in
     sym (passed here.args.map.now (fitting here) c.passable.ensures)

@@ -1,9 +1,8 @@
-use native.Mathlib.Omega.{arith}
 use mathlib.Core.Path.{◌≡◌}
 use lib.ListN.{length}
 use Rattle.request_announced.specs.Pairs.{pairs_at}
 use Rattle.question.proofs.PlaceLaws.{pairs_wide, length_pairs}
-use Rattle.question.proofs.DistinctLaws.{writing_starts, writing_next, writing_ends}
+use Rattle.question.proofs.DistinctLaws.{writing_next, writing_ends}
 use Rattle.question.proofs.rising.put_distinct.Goals.{Start}
 use Rattle.question.proofs.rising.put_distinct.Goals as goal
 
@@ -11,22 +10,12 @@ use Rattle.question.proofs.rising.put_distinct.Goals as goal
 as_many : (s : Start) → length (pairs_at s.args.pairs.now s.args.places.now) ≡ length s.args.places.now
 as_many s = length_pairs s.args.pairs.now s.args.places.now
 
-pub loop-i-init : goal.loop-i-init
-loop-i-init c = writing_starts (pairs_at c.args.pairs.now c.args.places.now) c.args.out.now
-
-pub put_once-at-requires : goal.put_once-at-requires
-put_once-at-requires c =
-    record { all = (c.requires.0, c.loop-i-test.true); pair_size_in_bounds = omega (arith, c.loop-i.invariant.at_le, c.loop-i.invariant.long, c.loop-i-test.true, c.requires.1) }
-
 pub loop-i-preserved : goal.loop-i-preserved
 loop-i-preserved c =
     let s = (goal.at.loop-i-preserved c).Start in
     let put = c.put_once-at.ensures in
     let wide = pairs_wide s.args.pairs.now s.args.places.now s.requires.0 in
     writing_next c.loop-i.invariant (rw (as_many s) c.loop-i-test.true) wide (rw (as_many s) s.requires.1) (put.out_after, put.value)
-
-pub shape_of-out : goal.shape_of-out
-shape_of-out c = c.loop-i.invariant.long
 
 pub returns : goal.returns
 returns c =

@@ -1,12 +1,7 @@
 -- The loop: what is written, then what the rest gives, is what the whole gives (`Writing`).
-use Prim.Native.Nat.{◌-◌}
-use lib.ListN.{length}
 use Rattle.request_announced.specs.Pairs.{pairs_at}
 use Rattle.question.proofs.DistinctLaws.{Writing}
 use Rattle.question.proofs.rising.put_distinct.Given as goal
 
 abbrev pub invariant-loop-i : goal.invariant-loop-i
 invariant-loop-i l = Writing (pairs_at l.pairs l.places) l.initial.out l.out l.at l.i
-
-abbrev pub decreases-loop-i : goal.decreases-loop-i
-decreases-loop-i l = length l.places - l.i

@@ -16,19 +16,10 @@ returns-then-is_repeated c =
     let whole = none_put c.args.pairs.now c.args.places.now c.args.i c.args.at c.args.out.now c.is_repeated.ensures c.if-is_repeated.true in record { out_after = whole.0; value = whole.1 }
 
 pub overflow_mul-from : goal.overflow_mul-from
-overflow_mul-from c = let s = (goal.at.overflow_mul-from c).Start in omega (arith, c.wide-from.ensures, within s)
-
-pub overflow_add-end : goal.overflow_add-end
-overflow_add-end c = let s = (goal.at.overflow_add-end c).Start in omega (arith, c.wide-from.ensures, within s)
-
-pub slice_bounds-overwrite-end : goal.slice_bounds-overwrite-end
-slice_bounds-overwrite-end c = let s = (goal.at.slice_bounds-overwrite-end c).Start in omega (arith, c.wide-from.ensures, within s)
-
-pub shape_of-out : goal.shape_of-out
-shape_of-out c = c.overwrite.auto.s
+overflow_mul-from c = let s = (goal.at.overflow_mul-from c).Start in omega (arith, c.from-from.ensures, within s)
 
 pub returns : goal.returns
 returns c =
     let s = (goal.at.returns c).Start in
     let whole = one_put s.args.pairs.now s.args.places.now s.args.i s.args.at s.args.out.now s.requires.all.1 (within s)
-    c.is_repeated.ensures c.if-is_repeated.false c.wide-from.ensures c.overwrite.ensures in record { out_after = whole.0; value = whole.1 }
+    c.is_repeated.ensures c.if-is_repeated.false c.from-from.ensures c.overwrite.ensures in record { out_after = whole.0; value = whole.1 }

@@ -1,22 +1,17 @@
-use mathlib.Core.Path.{refl, sym, ◌∙◌}
-use Rattle.refusals.proofs.RowLaws.{rows_break, rows_go_on, rows_end}
-use mathlib.Core.Path.{ap}
-use mathlib.Core.Bool.{not}
+-- A row fits where the model's does, and the answer is that of all: `fits_all`.
+use Rattle.std.proofs.Common.{ℕ, ◌≡◌, ◌-◌, refl, ◌∙◌, arith, rules, tests}
+use Rattle.std.proofs.lemmas.Iterator.{YieldsList-from_range}
+use Rattle.std.proofs.lemmas.Iterator.Search.{all_from_yields_List}
+use Rattle.fields.specs.Entries.{entry}
+use Rattle.model.specs.Lists.{row_fits}
+use Rattle.model.specs.Layout.{row_size}
+use Rattle.refusals.proofs.RowLaws.{fits_all}
 use Rattle.refusals.proofs.view.rows_fit.Goals as goal
-
-pub loop-i-init : goal.loop-i-init
-loop-i-init c = refl
-
-pub returns-then-not-row_fits : goal.returns-then-not-row_fits
-returns-then-not-row_fits c =
-    rows_break c.args.count c.loop-i.i c.args.rows.now c.loop-i-test.true c.row_fits.ensures c.loop-i.invariant (ap not c.if-not-row_fits.true)
-
-pub loop-i-preserved : goal.loop-i-preserved
-loop-i-preserved c =
-    rows_go_on c.args.count c.loop-i.i c.args.rows.now c.loop-i-test.true c.row_fits.ensures c.loop-i.invariant (ap not c.if-not-row_fits.false)
 
 pub returns : goal.returns
 returns c =
-    let l = c.loop-i in
-    let s = c.args in
-    sym (l.invariant ∙ rows_end s.count l.i s.rows.now c.loop-i-test.false)
+    let a = c.args in
+    let n : a.count - 0 ≡ a.count = omega arith in
+    all_from_yields_List (λ (i : ℕ). row_fits (entry row_size i a.rows.now)) _ _ _ c.all.ensures.ran
+    (YieldsList-from_range 0 a.count a.count refl n) (λ x b q k. search (rules, tests))
+    ∙ fits_all a.rows.now a.count 0

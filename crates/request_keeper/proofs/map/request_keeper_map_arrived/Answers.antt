@@ -2,4 +2,4 @@
 use Rattle.request_keeper.proofs.map.request_keeper_map_arrived.Goals as goal
 
 pub returns : goal.returns
-returns c = c.change.ensures
+returns c = rw c.number_of.ensures c.change.ensures

@@ -2,4 +2,4 @@
 use Rattle.request_keeper.proofs.map.request_keeper_map_fill.Goals as goal
 
 pub returns : goal.returns
-returns c = c.fill.ensures
+returns c = rw c.number_of.ensures c.fill.ensures

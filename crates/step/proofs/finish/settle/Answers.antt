@@ -6,10 +6,10 @@ use Rattle.step.proofs.finish.settle.Goals as goal
 
 pub finished-requires : goal.finished-requires
 finished-requires c =
-    let end = said_end _ _ _ (listed_peer c.args.plan.says) c.say-end.ensures.value in
+    let end = said_end _ _ (listed_peer c.args.plan.says) c.say-end.ensures.value in
     let few = c.requires.pending_le_tracked_limit in
     record {
-      pending_bound = (omega (arith, few), (omega (arith, few), omega (arith, end, c.requires.none_len.1.1)));
+      pending_bound = (omega (arith, few), (omega (arith, few), omega (arith, end, c.requires.stalling_bound.1)));
       retried_bound = (omega (arith, few), (omega (arith, few), (omega (arith, few), omega (arith, few))));
     }
 

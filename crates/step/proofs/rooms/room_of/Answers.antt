@@ -8,9 +8,9 @@ overflow_add-result c =
     let a = c.args in
     omega (arith, c.most_sent.ensures, sent_most a.head a.ids a.work c.requires.0 c.requires.1)
 
-pub returns-in-Peer : goal.returns-in-Peer
-returns-in-Peer c = rw c.in-Peer.is
+pub returns-in-Some : goal.returns-in-Some
+returns-in-Some c = rw c.in-Some.is
 
-pub returns-in-Nobody : goal.returns-in-Nobody
-returns-in-Nobody c =
-    rw (c.in-Nobody.is, c.most_sent.ensures)
+pub returns-in-None : goal.returns-in-None
+returns-in-None c =
+    rw (c.in-None.is, c.most_sent.ensures)

@@ -4,6 +4,6 @@ use Rattle.step.proofs.stalling.join.Goals as goal
 
 pub returns : goal.returns
 returns c =
-    let r = c.read_stalled-set in
+    let r = c.read in
     let j = c.joined-joined in
     joined_written c.args.peer r.ensures.result_value r.ensures.count_value j.ensures.result_value j.ensures.count_value c.write_stalled.ensures

@@ -26,7 +26,7 @@ module _ (c : Else-not-shows) where
   bytes = λ i. omega (arith, c.type_inv.view i)
 
   seen : shows (view_of c.args.view.now) c.args.chain c.args.downloaded window_size ≡ true
-  seen = sym c.shows.ensures ∙ c.if-not-shows.false
+  seen = rw c.from-behind.ensures at (sym c.shows.ensures ∙ c.if-not-shows.false)
 
 pub returns-then-map-ne-MAP_SIZE : goal.returns-then-map-ne-MAP_SIZE
 returns-then-map-ne-MAP_SIZE c =
@@ -37,21 +37,15 @@ returns-then-not-view_fits c =
     fill_other_view c.args.map.now c.args.downloaded c.args.chain c.args.view.now c.if-map-ne-MAP_SIZE.false
     (sym c.view_fits.ensures ∙ c.if-not-view_fits.true)
 
-pub shows-requires : goal.shows-requires
-shows-requires c = let past = c in (fits past, omega arith)
-
 pub returns-then-not-shows : goal.returns-then-not-shows
 returns-then-not-shows c =
     let past = (goal.at.returns-then-not-shows c).Else-not-view_fits in
     fill_lacking c.args.map.now c.args.downloaded c.args.chain c.args.view.now c.if-map-ne-MAP_SIZE.false (fits past)
-    (sym c.shows.ensures ∙ c.if-not-shows.true)
-
-pub fill_heights-requires : goal.fill_heights-requires
-fill_heights-requires c = let past = (goal.at.fill_heights-requires c).Else-not-view_fits in record { view_value = (fits past, omega arith); count_in_bounds = omega arith }
+    (rw c.from-behind.ensures at (sym c.shows.ensures ∙ c.if-not-shows.true))
 
 pub returns : goal.returns
 returns c =
     let past = (goal.at.returns c).Else-not-view_fits in
     let all = (goal.at.returns c).Else-not-shows in
     fill_finished c.args.map.now c.args.downloaded c.args.chain c.args.view.now (long all) (fits past) (bytes all) (seen all)
-    c.fill_heights.ensures c.write_around.ensures
+    (rw c.from-behind.ensures at c.fill_heights.ensures) c.write_around.ensures

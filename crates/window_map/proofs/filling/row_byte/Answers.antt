@@ -14,16 +14,16 @@ pub returns-then-count : goal.returns-then-count
 returns-then-count c = absent_byte c.args.i c.args.view.now c.if-count.true
 
 pub overflow_mul-result : goal.overflow_mul-result
-overflow_mul-result c = let p = c in omega (arith, small p)
+overflow_mul-result c = let p = (goal.at.overflow_mul-result c).Else-count in omega (arith, small p)
 
-pub overflow_mul-result-2 : goal.overflow_mul-result-2
-overflow_mul-result-2 c = let p = (goal.at.overflow_mul-result-2 c).Else-count in omega (arith, small p)
+pub overflow_mul-result-4 : goal.overflow_mul-result-4
+overflow_mul-result-4 c = let p = (goal.at.overflow_mul-result-4 c).Else-count in omega (arith, small p)
+
+pub overflow_mul-result-5 : goal.overflow_mul-result-5
+overflow_mul-result-5 c = let p = (goal.at.overflow_mul-result-5 c).Else-count in omega (arith, small p)
 
 pub overflow_add-result-4 : goal.overflow_add-result-4
 overflow_add-result-4 c = let p = (goal.at.overflow_add-result-4 c).Else-count in omega (arith, small p)
-
-pub overflow_mul-result-3 : goal.overflow_mul-result-3
-overflow_mul-result-3 c = let p = (goal.at.overflow_mul-result-3 c).Else-count in omega (arith, small p)
 
 pub overflow_add-result-5 : goal.overflow_add-result-5
 overflow_add-result-5 c = let p = (goal.at.overflow_add-result-5 c).Else-count in omega (arith, small p)

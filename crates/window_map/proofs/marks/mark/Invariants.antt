@@ -7,6 +7,3 @@ use Rattle.window_map.proofs.marks.mark.Given as goal
 
 abbrev pub invariant-loop-left : goal.invariant-loop-left
 invariant-loop-left l = (l.left ≤ 64) × (l.word ≡ byte_mark (drop l.left (take 64 (drop l.at l.map))))
-
-abbrev pub decreases-loop-left : goal.decreases-loop-left
-decreases-loop-left l = l.left

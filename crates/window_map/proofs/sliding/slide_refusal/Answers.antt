@@ -43,19 +43,16 @@ read_u32-chain-requires c =
     let l = fits_long f.args.map.now (fitting f) in
     omega (arith, l)
 
-pub shows-requires : goal.shows-requires
-shows-requires c = let v = (goal.at.shows-requires c).Else-not-view_fits in (shown v, omega arith)
-
 pub returns-then-not-shows : goal.returns-then-not-shows
 returns-then-not-shows c =
     let f = (goal.at.returns-then-not-shows c).Else-not-fits in
     let v = (goal.at.returns-then-not-shows c).Else-not-view_fits in
     slide_lacking c.args.map.now c.args.downloaded c.args.view.now (fitting f) c.read_u32-before.ensures c.if-downloaded-before.false (shown v)
-    c.read_u32-chain.ensures c.new_heights-new.ensures (sym c.shows.ensures ∙ c.if-not-shows.true)
+    c.read_u32-chain.ensures c.new_heights-new.ensures (rw c.from.ensures at (sym c.shows.ensures ∙ c.if-not-shows.true))
 
 pub returns : goal.returns
 returns c =
     let f = (goal.at.returns c).Else-not-fits in
     let v = (goal.at.returns c).Else-not-view_fits in
     slide_free c.args.map.now c.args.downloaded c.args.view.now (fitting f) c.read_u32-before.ensures c.if-downloaded-before.false (shown v)
-    c.read_u32-chain.ensures c.new_heights-new.ensures (sym c.shows.ensures ∙ c.if-not-shows.false)
+    c.read_u32-chain.ensures c.new_heights-new.ensures (rw c.from.ensures at (sym c.shows.ensures ∙ c.if-not-shows.false))

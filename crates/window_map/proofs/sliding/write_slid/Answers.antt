@@ -1,18 +1,7 @@
 -- What stays and what is filled are the heights' bytes; the rest follows from these.
 use native.Mathlib.Omega.{arith}
-use Prim.Native.Nat.{◌^◌, ◌<◌}
-use Rattle.fields.specs.Facts.{Bytes}
 use Rattle.window_map.proofs.SlideLaws.{slid_long, slid_written}
-use Rattle.window_map.proofs.sliding.write_slid.Goals.{After-new_heights-new}
 use Rattle.window_map.proofs.sliding.write_slid.Goals as goal
-
--- what was read
-module _ (c : After-new_heights-new) where
-  bytes : Bytes c.args.view.now
-  bytes = λ i. omega (arith, c.type_inv.view i)
-
-  small : c.args.downloaded < 2 ^ 32
-  small = omega arith
 
 pub read_u32-before-requires : goal.read_u32-before-requires
 read_u32-before-requires c = let l = slid_long c.requires in omega (arith, l)
@@ -32,7 +21,7 @@ move_down-requires c =
 pub fill_heights-requires : goal.fill_heights-requires
 fill_heights-requires c =
     let l = slid_long c.requires in
-    record { view_value = (c.requires.shown, omega (arith, c.new_heights-new.ensures)); count_in_bounds = omega (arith, l, c.new_heights-new.ensures, c.move_down.auto.s) }
+    (omega (arith, c.new_heights-new.ensures), omega (arith, l, c.new_heights-new.ensures, c.move_down.auto.s))
 
 pub write_around-requires : goal.write_around-requires
 write_around-requires c =
@@ -41,6 +30,6 @@ write_around-requires c =
 
 pub returns : goal.returns
 returns c =
-    let new = (goal.at.returns c).After-new_heights-new in
-    slid_written c.requires c.read_u32-before.ensures c.read_u32-chain.ensures c.new_heights-new.ensures (small new) (bytes new)
-    c.move_down.ensures c.fill_heights.ensures c.write_around.ensures
+    let view = c.args.view in
+    slid_written c.requires c.read_u32-before.ensures c.read_u32-chain.ensures c.new_heights-new.ensures view.bytes.now view.known view.fit
+    (omega arith) c.move_down.ensures (rw c.from.ensures at c.fill_heights.ensures) c.write_around.ensures

@@ -17,4 +17,4 @@ returns c =
     } in
     let made = c.check_region.ensures in
     λ st call ids stored view g downloaded.
-    checks g a.aim due downloaded a.at a.batch a.out.now made.value made.region_after made.out_after
+    checks g a.aim due downloaded a.place a.out.now made.value made.region_after made.out_after

@@ -8,7 +8,7 @@ use Rattle.work_asks.proofs.asks.ask_list_with.Goals as goal
 pub returns : goal.returns
 returns c =
     let a = c.args in
-    let act : Act = ask a.typeid a.peer (pairs_in a.stored.now) (ids_in a.ids.now) in
+    let act : Act = ask a.typeid a.peer (pairs_in a.stored.bytes.now) (ids_in a.ids.now) in
     let gate = eqb a.call.gate 1 in
     let made = c.request_announced-asked.ensures in record {
       asks = list_asked gate a.call.clock act a.before a.region.now a.out.now made.value c.answer.ensures made.table_after made.out_after;

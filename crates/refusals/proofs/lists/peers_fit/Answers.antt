@@ -1,7 +1,0 @@
--- The definition.
-use Rattle.model.specs.Lists.{peers_fit}
-use Rattle.refusals.proofs.lists.peers_fit.Goals as goal
-
-pub returns : goal.returns
-unfolding peers_fit
-returns c = c.list_fits.ensures

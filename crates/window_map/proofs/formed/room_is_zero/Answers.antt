@@ -1,7 +1,0 @@
--- The three parts; the last is the rest of the area.
-use Rattle.window_map.proofs.FormedLaws.{room_end}
-use Rattle.window_map.proofs.formed.room_is_zero.Goals as goal
-
-pub returns : goal.returns
-returns c =
-    rw (c.is_zero-numbers.ensures, c.is_zero-words.ensures, c.is_zero-end.ensures, room_end c.args.map.now c.requires)
