@@ -1,4 +1,5 @@
-// The cases of document 01 that have no star, and others worth having, played by the proved core.
+// The cases of document 01 that have no star, and others worth having, played by the proved core. A program is run on one
+// list, so that there are two.
 #![tactic(auto)]
 
 use std::io;

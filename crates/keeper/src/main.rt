@@ -2,9 +2,11 @@
 //
 // What it prints is said and proved in keeper_text; here it is read and written in pieces, by standard input and output alone.
 // A line of 1,536 bytes or more is "any other line".
+//
+// Table and output are written, so how far they reach is a clause.
 #![tactic(auto)]
 
-ghost use Rattle.std.specs.Prelude.{◌≡◌, true, ◌+◌, ◌*◌, ◌≤◌, ◌<◌, length, IfOk};
+ghost use Rattle.std.specs.Prelude.{◌≡◌, ◌+◌, ◌*◌, ◌≤◌, ◌<◌, length, IfOk, IfSome};
 ghost use Rattle.keeper_text.specs.Kept.{Kept};
 
 use keeper_text::keeping::Keeper;
@@ -16,7 +18,6 @@ use std::io::{Read, Write};
 struct Reading {
     keeper: Keeper,
     held: usize,
-    going: bool,
 }
 
 // Reads behind the bytes held. Gives how many there are then.
@@ -28,7 +29,8 @@ fn read_behind<R: Read>(input: &mut R, text: &mut [u8], held: usize) -> io::Resu
     Ok(held + got)
 }
 
-// Answers the whole lines, and moves what is left to the front.
+// Answers the whole lines, and moves what is left to the front. Nothing is left to read behind a line that ended the program or
+// that fills the text.
 fn answer<W: Write>(
     output: &mut W,
     table: &mut [u8],
@@ -36,29 +38,24 @@ fn answer<W: Write>(
     text: &mut [u8],
     size: usize,
     out: &mut [u8],
-) -> io::Result<Reading>
+) -> io::Result<Option<Reading>>
     requires { Kept keeper table.old × ((size ≤ length text.old) × (length text.old * 42 + 126 ≤ length out.old)) }
-    ensures { IfOk result (λ r. r.going ≡ true → Kept r.keeper table.new × (r.held < length text.old)) }
+    ensures { IfOk result (λ next. IfSome next (λ r. Kept r.keeper table.new × (r.held < length text.old))) }
 {
     let done = keeper_text::printing::answer_lines(table, keeper, &text[..size], out);
-    let written = done.written;
-    output.write_all(&out[..written])?;
-    let used = done.used;
-    let held = size - used;
-    let next = done.keeper;
-    if done.ended {
-        return Ok(Reading {
-            keeper: next,
-            held: 0,
-            going: false,
-        });
+    output.write_all(&out[..done.written])?;
+    let Some(rest) = done.rest else {
+        return Ok(None);
+    };
+    let held = size - rest.used;
+    text.copy_within(rest.used..size, 0);
+    if text.len() <= held {
+        return Ok(None);
     }
-    spans::moving::move_down(text, used, 0, held);
-    Ok(Reading {
-        keeper: next,
+    Ok(Some(Reading {
+        keeper: rest.keeper,
         held,
-        going: held < text.len(),
-    })
+    }))
 }
 
 // A last line that lacks its line feed gets one.
@@ -90,37 +87,28 @@ fn answer_all<R: Read, W: Write>(
 ) -> io::Result<()>
     requires { (55296 ≤ length table.old) × ((0 < length text.old) × (length text.old * 42 + 126 ≤ length out.old)) }
 {
-    let mut keeper = keeper_text::keeping::at_first();
-    let mut held = 0;
-    let mut turns = u64::MAX;
-    while turns > 0 {
-        turns -= 1;
-        let size = read_behind(input, text, held)?;
-        if size <= held {
-            return answer_last(output, table, keeper, text, held, out);
+    let mut now = Reading {
+        keeper: keeper_text::keeping::at_first(),
+        held: 0,
+    };
+    for _ in 0..u64::MAX {
+        let size = read_behind(input, text, now.held)?;
+        if size <= now.held {
+            return answer_last(output, table, now.keeper, text, now.held, out);
         }
-        let next = answer(output, table, keeper, text, size, out)?;
-        if !next.going {
+        let Some(next) = answer(output, table, now.keeper, text, size, out)? else {
             return Ok(());
-        }
-        keeper = next.keeper;
-        held = next.held;
+        };
+        now = next;
     }
     Ok(())
 }
 
-// Room for the table, or for what is printed.
-fn room() -> [u8; 65536]
-    ensures { 65536 ≡ length result }
-{
-    [0; 65536]
-}
-
 // All of the input, with the table and both buffers made here.
 fn main(rt: HostRuntime) -> io::Result<()> {
-    let mut table = room();
-    let mut text = [0u8; 1536];
-    let mut out = room();
+    let mut table = [0; 65536];
+    let mut text = [0; 1536];
+    let mut out = [0; 65536];
     let mut input = rt.reader();
     let mut output = io::writer(&rt);
     answer_all(&mut input, &mut output, &mut table, &mut text, &mut out)

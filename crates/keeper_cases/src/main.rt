@@ -4,25 +4,16 @@
 // For each the name is printed, and then what `keeper` prints.
 #![tactic(auto)]
 
-ghost use Rattle.std.specs.Prelude.{◌≡◌, length};
-
 use std::io;
 use std::io::Write;
-
-// Room for a list, for a table, or for what is printed.
-fn room() -> [u8; 65536]
-    ensures { 65536 ≡ length result }
-{
-    [0; 65536]
-}
 
 // What the program prints of an input of at most 1,536 bytes.
 fn print<W: Write>(output: &mut W, input: &[u8]) -> io::Result<()> {
     if input.len() > 1536 {
         return Ok(());
     }
-    let mut table = room();
-    let mut out = room();
+    let mut table = [0; 65536];
+    let mut out = [0; 65536];
     let end = keeper_text::printing::print_all(&mut table, input, &mut out);
     output.write_all(&out[..end])
 }
@@ -40,21 +31,17 @@ fn case<W: Write>(output: &mut W, text: &[u8]) -> io::Result<()> {
     Ok(())
 }
 
-// All cases, each from its `%` to the next.
+// All cases, each behind its `%`.
 fn cases<W: Write>(output: &mut W, text: &[u8]) -> io::Result<()> {
-    let mut from = input::find(text, 0, b'%');
-    while from < text.len() {
-        let name = from + 1;
-        let end = input::find(text, name, b'%');
-        case(output, &text[name..end])?;
-        from = end;
+    for case_text in text.split(|byte| *byte == b'%').skip(1) {
+        case(output, case_text)?;
     }
     Ok(())
 }
 
 // The list from standard input.
 fn main(rt: HostRuntime) -> io::Result<()> {
-    let mut text = room();
+    let mut text = [0; 65536];
     let size = input::read_full(&mut rt.reader(), &mut text)?;
     cases(&mut io::writer(&rt), &text[..size])
 }

@@ -3,7 +3,7 @@ use Prim.Native.Nat.{ℕ, zero, suc, ◌+◌, ◌-◌, ◌*◌, ◌/◌, ◌%◌
 use mathlib.Core.Path.{◌≡◌, refl, sym, ap, ◌∙◌}
 use mathlib.Core.Bool.{Bool, true, false, ◌&&◌, cond, and_assoc}
 use mathlib.Core.List.{List, [], ◌∷◌, ◌++◌}
-use mathlib.Core.Option.{some}
+use Rattle.std.proofs.Common.{Some}
 use lib.Dec.{ltb}
 use lib.ListN.{length, set, length-append}
 use native.Mathlib.Nat.{lt_irrefl, pow-suc, mod-lt, div-add-mod', div-lt_iff_lt-mul}
@@ -69,7 +69,7 @@ digits_value (suc most) n h = go (ltb n 10) (digits_value most (n / 10) ((div-lt
     go false h = rw (value_append 0 (digits_within most (n / 10)) ((48 + n % 10) ∷ []), h) (omega (arith, div-add-mod' n 10))
 
 -- a printed number reads back
-pub digits_read_back : (n : ℕ) → n < 2 ^ 64 → decimal (2 ^ 64) (digits n) ≡ some n
+pub digits_read_back : (n : ℕ) → n < 2 ^ 64 → decimal (2 ^ 64) (digits n) ≡ Some n
 unfolding decimal
 digits_read_back n h =
     rw (digits_empty n, digits_all 20 n, digits_value 20 n (omega arith), lt-ltb n (2 ^ 64) h)

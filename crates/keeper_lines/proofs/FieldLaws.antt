@@ -1,9 +1,9 @@
 -- Fields one behind another, and the line that they make.
 use Prim.Native.Nat.{ℕ, zero, suc, ◌+◌, ◌-◌, ◌≤◌, ◌<◌}
-use mathlib.Core.Path.{◌≡◌, refl, sym, ◌∙◌}
+use mathlib.Core.Path.{◌≡◌, refl, sym, ap, ◌∙◌}
 use mathlib.Core.Bool.{Bool, true, false, cond}
 use mathlib.Core.List.{List, [], ◌∷◌}
-use mathlib.Core.Option.{Option, none, some}
+use Rattle.std.proofs.Common.{Option, None, Some}
 use lib.Dec.{eqb, ltb}
 use lib.ListN.{length, take, drop, get_or, length-drop, drop_of_length-le}
 use lib.Seq.{drop-cons}
@@ -12,13 +12,10 @@ use native.Mathlib.Numerals.{add-one}
 use native.Mathlib.Omega.{arith}
 use borrow.Author.Tests.{eq-eqb, ne_eqb, eqb-true, ltb-true, ltb-false}
 use Rattle.keeper_lines.specs.Number.{decimal, hex_byte}
-use Rattle.keeper_lines.proofs.NumberLaws.{decimal_none, decimal_below, hex_none, hex_byte_below}
+use Rattle.keeper_lines.proofs.NumberLaws.{decimal_none, decimal_below, hex_none}
 use Rattle.keeper_lines.specs.Line.{up_to, onto_first, fields_of, given, field, done, settings_of, request_of, check_of, by_letter, of_fields, line_of}
 use Rattle.keeper_lines.specs.Reading.{field_behind, end_behind, field_of, fields_behind}
 use Rattle.keeper_lines.specs.declared.lines.Line.{Line}
-use Rattle.keeper_lines.specs.declared.lines.Line.TheVariants.{Other}
-use Rattle.keeper_lines.specs.declared.field.Field.{Field}
-use Rattle.keeper_lines.specs.declared.field.Field.TheVariants.{Read, Refused}
 
 -- ---- the bytes before a stop
 
@@ -48,6 +45,26 @@ up_to_stop stop i s h e = rw (drop-cons s i 0 h, eq-eqb (get_or s i 0) stop e)
 
 pub up_to_end : (stop i : ℕ) (s : List ℕ) → length s ≤ i → up_to stop (drop i s) ≡ []
 up_to_end stop i s h = rw (drop_of_length-le s {i = i} h)
+
+-- where the first stop from `from` on was found, the bytes before it end
+module _ (stop : ℕ) (s : List ℕ) (end : ℕ) (within : end ≤ length s) (found : end < length s → get_or s end 0 ≡ stop) where
+  stop_found : up_to stop (drop end s) ≡ []
+  stop_found = go (ltb end (length s)) refl
+    where
+      go : (t : Bool) → ltb end (length s) ≡ t → up_to stop (drop end s) ≡ []
+      go true e = let h : end < length s = ltb-true end (length s) e in up_to_stop stop end s h (found h)
+      go false e = up_to_end stop end s (ltb-false end (length s) e)
+
+  pub found_up_to : (n from : ℕ) → from + n ≡ end → ((k : ℕ) → from ≤ k → k < end → get_or s k 0 ≡ stop → ⊥) → end ≡ from + length (up_to stop (drop from s))
+  found_up_to zero from e before =
+      let same : from ≡ end = omega arith in
+      rw (same, stop_found) (omega arith)
+  found_up_to (suc n) from e before =
+      omega (
+        arith,
+        up_to_pass stop from s (omega arith) (before from (omega arith) (omega arith)),
+        found_up_to n (from + 1) (omega arith) (λ k h l. before k (omega arith) l),
+      )
 
 -- ---- fields
 
@@ -90,23 +107,27 @@ field_none space line h = up_to_end 32 (space + 1) line (omega arith)
 
 -- ---- a field read, and then the next
 
-given_read : (o : Option ℕ) (at v end : ℕ) (next : ℕ → ℕ → Line) → field_of o at ≡ Read v end → given o (λ n. next n at) ≡ next v end
-given_read none at v end next h = let z : ◌≡◌ {A = ℕ} 0 1 = cc in absurd (lt_irrefl 0 (omega arith))
-given_read (some n) at v end next h =
-    let e : n ≡ v = cc in
-    let f : at ≡ end = cc in
-    rw (e, f)
+same_pair : {n at v end : ℕ} → ◌≡◌ {A = Option (ℕ × ℕ)} (Some (n, at)) (Some (v, end)) → (n ≡ v) × (at ≡ end)
+same_pair {n = n} {at = at} {v = v} {end = end} h =
+    let p : ◌≡◌ {A = ℕ × ℕ} (n, at) (v, end) = cc in
+    (ap (λ (x : ℕ × ℕ). x.0) p, ap (λ (x : ℕ × ℕ). x.1) p)
 
-given_refused : (o : Option ℕ) (at : ℕ) (next : ℕ → Line) → field_of o at ≡ Refused → given o next ≡ Other
-given_refused none at next h = refl
-given_refused (some n) at next h = let z : ◌≡◌ {A = ℕ} 0 1 = cc in absurd (lt_irrefl 0 (omega arith))
+given_read : (o : Option ℕ) (at v end : ℕ) (next : ℕ → ℕ → Option Line) → field_of o at ≡ Some (v, end) → given o (λ n. next n at) ≡ next v end
+given_read None at v end next h = let z : ◌≡◌ {A = ℕ} 0 1 = cc in absurd (lt_irrefl 0 (omega arith))
+given_read (Some n) at v end next h =
+    let p = same_pair h in
+    rw (p.0, p.1)
 
-pub value_read : (o : Option ℕ) (at v end : ℕ) → field_of o at ≡ Read v end → o ≡ some v
-value_read none at v end h = let z : ◌≡◌ {A = ℕ} 0 1 = cc in absurd (lt_irrefl 0 (omega arith))
-value_read (some n) at v end h = let e : n ≡ v = cc in rw e
+given_refused : (o : Option ℕ) (at : ℕ) (next : ℕ → Option Line) → field_of o at ≡ None → given o next ≡ None
+given_refused None at next h = refl
+given_refused (Some n) at next h = let z : ◌≡◌ {A = ℕ} 0 1 = cc in absurd (lt_irrefl 0 (omega arith))
 
-module _ (read : List ℕ → Option ℕ) (empty : read [] ≡ none) (next : ℕ → List (List ℕ) → Line) (space : ℕ) (line : List ℕ) where
-  field_read : (v end : ℕ) → field_of (read (field_behind space line)) (end_behind space line) ≡ Read v end
+pub value_read : (o : Option ℕ) (at v end : ℕ) → field_of o at ≡ Some (v, end) → o ≡ Some v
+value_read None at v end h = let z : ◌≡◌ {A = ℕ} 0 1 = cc in absurd (lt_irrefl 0 (omega arith))
+value_read (Some n) at v end h = rw (same_pair h).0
+
+module _ (read : List ℕ → Option ℕ) (empty : read [] ≡ None) (next : ℕ → List (List ℕ) → Option Line) (space : ℕ) (line : List ℕ) where
+  field_read : (v end : ℕ) → field_of (read (field_behind space line)) (end_behind space line) ≡ Some (v, end)
       → field read next (fields_behind space line) ≡ next v (fields_behind end line)
   field_read v end h = go (ltb space (length line)) refl
     where
@@ -115,87 +136,76 @@ module _ (read : List ℕ → Option ℕ) (empty : read [] ≡ none) (next : ℕ
           rw (fields_next space line (ltb-true space (length line) e))
           (given_read (read (field_behind space line)) (end_behind space line) v end (λ n at. next n (fields_behind at line)) h)
       go false e =
-          let b : read (field_behind space line) ≡ none = rw (field_none space line (ltb-false space (length line) e)) empty in
-          let c : read (field_behind space line) ≡ some v = value_read (read (field_behind space line)) (end_behind space line) v end h in
+          let b : read (field_behind space line) ≡ None = rw (field_none space line (ltb-false space (length line) e)) empty in
+          let c : read (field_behind space line) ≡ Some v = value_read (read (field_behind space line)) (end_behind space line) v end h in
           let z : ◌≡◌ {A = ℕ} 0 1 = cc in
           absurd (lt_irrefl 0 (omega arith))
 
-  field_refused : field_of (read (field_behind space line)) (end_behind space line) ≡ Refused → field read next (fields_behind space line) ≡ Other
+  field_refused : field_of (read (field_behind space line)) (end_behind space line) ≡ None → field read next (fields_behind space line) ≡ None
   field_refused h = go (ltb space (length line)) refl
     where
-      go : (t : Bool) → ltb space (length line) ≡ t → field read next (fields_behind space line) ≡ Other
+      go : (t : Bool) → ltb space (length line) ≡ t → field read next (fields_behind space line) ≡ None
       go true e =
           rw (fields_next space line (ltb-true space (length line) e))
           (given_refused (read (field_behind space line)) (end_behind space line) (λ n. next n (fields_behind (end_behind space line) line)) h)
       go false e = rw (fields_none space line (ltb-false space (length line) e))
 
--- What a reader of fields says of the field behind the space at index `space`: v, and it ends at `end`.
-pub record ReadAs (read : List ℕ → Option ℕ) (line : List ℕ) (space v end : ℕ) : Type 0 where
-  pub empty : read [] ≡ none
-  pub says : field_of (read (field_behind space line)) (end_behind space line) ≡ Read v end
+-- A reader's answer, and what follows: read, or refused.
+module _ (limit : ℕ) (next : ℕ → List (List ℕ) → Option Line) (space : ℕ) (line : List ℕ) {r : Option (ℕ × ℕ)}
+    (answer : r ≡ field_of (decimal limit (field_behind space line)) (end_behind space line)) where
+  pub decimal_then : {v end : ℕ} → r ≡ Some (v, end) → field (decimal limit) next (fields_behind space line) ≡ next v (fields_behind end line)
+  decimal_then {v = v} {end = end} e = field_read (decimal limit) (decimal_none limit) next space line v end (sym answer ∙ e)
 
-pub decimal_says : (limit : ℕ) {space v end : ℕ} {line : List ℕ} {r : Field}
-    → r ≡ field_of (decimal limit (field_behind space line)) (end_behind space line) → r ≡ Read v end → ReadAs (decimal limit) line space v end
-decimal_says limit h e = record { empty = decimal_none limit; says = sym h ∙ e }
+  pub decimal_refused : r ≡ None → field (decimal limit) next (fields_behind space line) ≡ None
+  decimal_refused e = field_refused (decimal limit) (decimal_none limit) next space line (sym answer ∙ e)
 
-pub hex_says : {space v end : ℕ} {line : List ℕ} {r : Field}
-    → r ≡ field_of (hex_byte (field_behind space line)) (end_behind space line) → r ≡ Read v end → ReadAs hex_byte line space v end
-hex_says h e = record { empty = hex_none; says = sym h ∙ e }
+module _ (next : ℕ → List (List ℕ) → Option Line) (space : ℕ) (line : List ℕ) {r : Option (ℕ × ℕ)}
+    (answer : r ≡ field_of (hex_byte (field_behind space line)) (end_behind space line)) where
+  pub hex_then : {v end : ℕ} → r ≡ Some (v, end) → field hex_byte next (fields_behind space line) ≡ next v (fields_behind end line)
+  hex_then {v = v} {end = end} e = field_read hex_byte hex_none next space line v end (sym answer ∙ e)
 
-pub read_then : {read : List ℕ → Option ℕ} {line : List ℕ} {space v end : ℕ} (next : ℕ → List (List ℕ) → Line) → ReadAs read line space v end
-    → field read next (fields_behind space line) ≡ next v (fields_behind end line)
-read_then {read = read} {line = line} {space = space} {v = v} {end = end} next a = field_read read a.empty next space line v end a.says
+  pub hex_refused : r ≡ None → field hex_byte next (fields_behind space line) ≡ None
+  hex_refused e = field_refused hex_byte hex_none next space line (sym answer ∙ e)
 
-pub decimal_refused : (limit : ℕ) (next : ℕ → List (List ℕ) → Line) (space : ℕ) (line : List ℕ) {r : Field}
-    → r ≡ field_of (decimal limit (field_behind space line)) (end_behind space line) → r ≡ Refused → field (decimal limit) next (fields_behind space line) ≡ Other
-decimal_refused limit next space line h e = field_refused (decimal limit) (decimal_none limit) next space line (sym h ∙ e)
+pub decimal_as_below : (limit space : ℕ) (line : List ℕ) {v end : ℕ} {r : Option (ℕ × ℕ)}
+    → r ≡ field_of (decimal limit (field_behind space line)) (end_behind space line) → r ≡ Some (v, end) → v < limit
+decimal_as_below limit space line {v = v} {end = end} answer e =
+    decimal_below limit v (field_behind space line) (value_read (decimal limit (field_behind space line)) (end_behind space line) v end (sym answer ∙ e))
 
-pub hex_refused : (next : ℕ → List (List ℕ) → Line) (space : ℕ) (line : List ℕ) {r : Field}
-    → r ≡ field_of (hex_byte (field_behind space line)) (end_behind space line) → r ≡ Refused → field hex_byte next (fields_behind space line) ≡ Other
-hex_refused next space line h e = field_refused hex_byte hex_none next space line (sym h ∙ e)
-
-pub decimal_as_below : (limit : ℕ) {space v end : ℕ} {line : List ℕ} → ReadAs (decimal limit) line space v end → v < limit
-decimal_as_below limit {space = space} {v = v} {end = end} {line = line} a =
-    decimal_below limit v (field_behind space line) (value_read (decimal limit (field_behind space line)) (end_behind space line) v end a.says)
-
-pub hex_as_below : {space v end : ℕ} {line : List ℕ} → ReadAs hex_byte line space v end → v < 256
-hex_as_below {space = space} {v = v} {end = end} {line = line} a =
-    hex_byte_below (field_behind space line) v (value_read (hex_byte (field_behind space line)) (end_behind space line) v end a.says)
-
-pub done_last : (made : Line) (space : ℕ) (line : List ℕ) → length line ≤ space → done made (fields_behind space line) ≡ made
+pub done_last : (made : Line) (space : ℕ) (line : List ℕ) → length line ≤ space → done made (fields_behind space line) ≡ Some made
 done_last made space line h = rw (fields_none space line h)
 
-pub done_more : (made : Line) (space : ℕ) (line : List ℕ) → space < length line → done made (fields_behind space line) ≡ Other
+pub done_more : (made : Line) (space : ℕ) (line : List ℕ) → space < length line → done made (fields_behind space line) ≡ None
 done_more made space line h = rw (fields_next space line h)
 
 -- ---- a line by its letter
 
-cond_same : (t : Bool) (a : Line) → cond t a a ≡ a
+cond_same : (t : Bool) (a : Option Line) → cond t a a ≡ a
 cond_same true a = refl
 cond_same false a = refl
 
-letter-only : (letter : ℕ) → by_letter letter [] ≡ Other
+letter-only : (letter : ℕ) → by_letter letter [] ≡ None
 unfolding by_letter settings_of request_of check_of
-letter-only letter = rw (cond_same (eqb letter 99) Other, cond_same (eqb letter 113) Other, cond_same (eqb letter 116) Other)
+letter-only letter = rw (cond_same (eqb letter 99) None, cond_same (eqb letter 113) None, cond_same (eqb letter 116) None)
 
-pub too_short : (line : List ℕ) → length line < 2 → line_of line ≡ Other
+pub too_short : (line : List ℕ) → length line < 2 → line_of line ≡ None
 unfolding line_of
 too_short [] h = refl
 too_short (a ∷ []) h = go (eqb a 32)
   where
-    go : (t : Bool) → of_fields (cond t ([] ∷ ([] ∷ [])) (onto_first a ([] ∷ []))) ≡ Other
+    go : (t : Bool) → of_fields (cond t ([] ∷ ([] ∷ [])) (onto_first a ([] ∷ []))) ≡ None
     go true = refl
     go false = letter-only a
 too_short (a ∷ (b ∷ line)) h = absurd (lt_irrefl 0 (omega arith))
 
-pub no_letter : (line : List ℕ) → 2 ≤ length line → (get_or line 1 0 ≡ 32 → ⊥) → line_of line ≡ Other
+pub no_letter : (line : List ℕ) → 2 ≤ length line → (get_or line 1 0 ≡ 32 → ⊥) → line_of line ≡ None
 unfolding line_of
 no_letter [] h e = absurd (lt_irrefl 0 (omega arith))
 no_letter (a ∷ []) h e = absurd (lt_irrefl 0 (omega arith))
 no_letter (a ∷ (b ∷ line)) h e = rw (ne_eqb b 32 e, fields_first line) (go (eqb a 32) (up_to 32 line) (fields_behind (length (up_to 32 line)) line))
   where
     go : (t : Bool) (bytes : List ℕ) (fields : List (List ℕ))
-        → of_fields (cond t ([] ∷ ((b ∷ bytes) ∷ fields)) (onto_first a ((b ∷ bytes) ∷ fields))) ≡ Other
+        → of_fields (cond t ([] ∷ ((b ∷ bytes) ∷ fields)) (onto_first a ((b ∷ bytes) ∷ fields))) ≡ None
     go true bytes fields = refl
     go false bytes fields = refl
 

@@ -3,7 +3,8 @@ use Prim.Native.Nat.{ℕ, ◌+◌, ◌*◌, ◌≤◌, ◌<◌}
 use mathlib.Core.Path.{◌≡◌, refl, sym, ap, ◌∙◌}
 use mathlib.Core.List.{List, [], ◌∷◌, ◌++◌, append_assoc, append-nil}
 use native.Mathlib.Omega.{arith}
-use lib.ListN.{length, set, length-append}
+use lib.ListN.{length, take, get_or, set, length-append}
+use Rattle.std.proofs.lemmas.List.{take_all, take_more, length-take}
 use Rattle.fields.specs.Overwrite.{overwritten}
 use Rattle.fields.proofs.OverwriteLaws.{overwritten_nil, overwritten_next, length_overwritten}
 use Rattle.keeper_lines.specs.Row.{digits, number_then, row}
@@ -61,32 +62,37 @@ spaced_row (m ∷ []) n = rw append-nil
 spaced_row (m ∷ (k ∷ ns)) n =
     append_assoc (number_then 32 m) (spaced (k ∷ ns)) (number_then 10 n) ∙ ap (λ (x : List ℕ). number_then 32 m ++ x) (spaced_row (k ∷ ns) n)
 
--- The numbers ns are written from `at` on, in a slice with room for a row; `end` is behind them.
-pub record Written (at : ℕ) (s ns o : List ℕ) (end : ℕ) : Type 0 where
-  pub room : at + 126 ≤ length s
-  pub put : Put at s (spaced ns) o end
+-- The first i numbers are written from `at` on, in a slice with room for all and one more; `end` is behind them.
+pub record Written (at : ℕ) (s numbers : List ℕ) (i : ℕ) (o : List ℕ) (end : ℕ) : Type 0 where
+  pub room : at + (length numbers + 1) * 21 ≤ length s
+  pub put : Put at s (spaced (take i numbers)) o end
 
-pub none_written : (at : ℕ) (s : List ℕ) → at + 126 ≤ length s → Written at s [] s at
-none_written at s room = record { room = room; put = record { out_after = sym (overwritten_nil at s); value = omega arith } }
+pub none_written : (at : ℕ) (s numbers : List ℕ) → at + (length numbers + 1) * 21 ≤ length s → Written at s numbers 0 s at
+none_written at s numbers room = record { room = room; put = record { out_after = sym (overwritten_nil at s); value = omega arith } }
 
-module _ {at : ℕ} {s ns o : List ℕ} {end : ℕ} (w : Written at s ns o end) (few : length ns ≤ 5) where
-  still_room : at + length (spaced ns) + 21 ≤ length s
-  still_room = omega (arith, w.room, spaced_few ns)
+module _ {at : ℕ} {s numbers : List ℕ} {i : ℕ} {o : List ℕ} {end : ℕ} (w : Written at s numbers i o end) where
+  still_room : at + length (spaced (take i numbers)) + 21 ≤ length s
+  still_room = omega (arith, w.room, spaced_few (take i numbers), length-take i numbers)
 
   -- one more number has room
   pub room_for_next : end + 21 ≤ length o
   room_for_next =
-      let kept : length o ≡ length s = ap length w.put.out_after ∙ length_overwritten at (spaced ns) s (omega (arith, still_room)) in
+      let kept : length o ≡ length s = ap length w.put.out_after ∙ length_overwritten at (spaced (take i numbers)) s (omega (arith, still_room)) in
       omega (arith, still_room, w.put.value)
 
-  behind : (mark n : ℕ) {o' : List ℕ} {end' : ℕ} → Put end o (number_then mark n) o' end' → Put at s (spaced ns ++ number_then mark n) o' end'
-  behind mark n p = next_put at s (spaced ns) (number_then mark n) o _ end _ (omega (arith, still_room, number_fits mark n)) w.put p
+  behind : (mark n : ℕ) {o' : List ℕ} {end' : ℕ} → Put end o (number_then mark n) o' end' → Put at s (spaced (take i numbers) ++ number_then mark n) o' end'
+  behind mark n p = next_put at s (spaced (take i numbers)) (number_then mark n) o _ end _ (omega (arith, still_room, number_fits mark n)) w.put p
 
-  pub next_written : (n : ℕ) {o' : List ℕ} {end' : ℕ} → Put end o (number_then 32 n) o' end' → Written at s (ns ++ (n ∷ [])) o' end'
-  next_written n p = record { room = w.room; put = rw (← spaced_next ns n) (behind 32 n p) }
+  pub next_written : {o' : List ℕ} {end' : ℕ} → i < length numbers → Put end o (number_then 32 (get_or numbers i 0)) o' end'
+      → Written at s numbers (i + 1) o' end'
+  next_written more p = record { room = w.room; put = rw (take_more numbers i 0 more, ← spaced_next (take i numbers) (get_or numbers i 0)) (behind 32 _ p) }
 
-  pub row_written : (n : ℕ) {o' : List ℕ} {end' : ℕ} → Put end o (number_then 10 n) o' end' → Put at s (row (ns ++ (n ∷ []))) o' end'
-  row_written n p = rw (← spaced_row ns n) (behind 10 n p)
+  pub row_written : (n : ℕ) {o' : List ℕ} {end' : ℕ} → length numbers ≤ i → Put end o (number_then 10 n) o' end' → Put at s (row (numbers ++ (n ∷ []))) o' end'
+  row_written n all p = rw (← spaced_row numbers n) (rw (take_all i numbers all) at (behind 10 n p))
+
+pub nothing_put : (at : ℕ) (numbers s : List ℕ) → length numbers ≡ 0 → Put at s (row numbers) s at
+nothing_put at [] s e = record { out_after = sym (overwritten_nil at s); value = omega arith }
+nothing_put at (n ∷ numbers) s e = absurd (omega arith)
 
 -- ---- a row's length
 

@@ -1,9 +1,8 @@
 -- The lines of `keeper` (document 01, "Program `keeper` reads lines"; DECISIONS.md, U-8), as lists of bytes.
-use Rattle.std.specs.Prelude.{ℕ, ◌^◌, cond, List, [], ◌∷◌, eqb}
-use Rattle.std.proofs.Math.Option.{Option, none, some}
+use Rattle.std.specs.Prelude.{ℕ, ◌^◌, cond, List, [], ◌∷◌, eqb, Option, None, Some}
 use Rattle.keeper_lines.specs.Number.{decimal, hex_byte}
 use Rattle.keeper_lines.specs.declared.lines.Line.{Line}
-use Rattle.keeper_lines.specs.declared.lines.Line.TheVariants.{Settings, Request, Check, Other}
+use Rattle.keeper_lines.specs.declared.lines.Line.TheVariants.{Settings, Request, Check}
 
 -- the bytes before the first `stop`, or all
 abbrev pub up_to : ℕ → List ℕ → List ℕ
@@ -25,26 +24,26 @@ fields_of (byte ∷ bytes) = cond (eqb byte 32) ([] ∷ fields_of bytes) (onto_f
 
 -- ---- what the fields say, one after another
 
-abbrev pub given : Option ℕ → (ℕ → Line) → Line
-given none next = Other
-given (some n) next = next n
+abbrev pub given : Option ℕ → (ℕ → Option Line) → Option Line
+given None next = None
+given (Some n) next = next n
 
 -- a field read as a number, then what follows
-abbrev pub field : (List ℕ → Option ℕ) → (ℕ → List (List ℕ) → Line) → List (List ℕ) → Line
-field read next [] = Other
+abbrev pub field : (List ℕ → Option ℕ) → (ℕ → List (List ℕ) → Option Line) → List (List ℕ) → Option Line
+field read next [] = None
 field read next (first ∷ fields) = given (read first) (λ n. next n fields)
 
 -- nothing more
-abbrev pub done : Line → List (List ℕ) → Line
-done line [] = line
-done line (field ∷ fields) = Other
+abbrev pub done : Line → List (List ℕ) → Option Line
+done line [] = Some line
+done line (field ∷ fields) = None
 
 -- `t TIMEOUT LIMIT`
-unfoldable pub settings_of : List (List ℕ) → Line
+unfoldable pub settings_of : List (List ℕ) → Option Line
 settings_of = field (decimal (2 ^ 32)) (λ timeout. field (decimal (2 ^ 32)) (λ limit. done (Settings timeout limit)))
 
 -- `q CLOCK PEER TYPE ID`
-unfoldable pub request_of : List (List ℕ) → Line
+unfoldable pub request_of : List (List ℕ) → Option Line
 request_of =
     field (decimal (2 ^ 64)) (λ clock.
     field (decimal (2 ^ 64)) (λ peer.
@@ -52,22 +51,22 @@ request_of =
     field hex_byte (λ id. done (Request clock peer typeid id)))))
 
 -- `c CLOCK`
-unfoldable pub check_of : List (List ℕ) → Line
+unfoldable pub check_of : List (List ℕ) → Option Line
 check_of = field (decimal (2 ^ 64)) (λ clock. done (Check clock))
 
 -- by the letter: 't', 'q' or 'c'
-unfoldable pub by_letter : ℕ → List (List ℕ) → Line
+unfoldable pub by_letter : ℕ → List (List ℕ) → Option Line
 by_letter letter fields =
     cond (eqb letter 116) (settings_of fields)
     (cond (eqb letter 113) (request_of fields)
-    (cond (eqb letter 99) (check_of fields) Other))
+    (cond (eqb letter 99) (check_of fields) None))
 
 -- the first field is one letter
-abbrev pub of_fields : List (List ℕ) → Line
-of_fields [] = Other
-of_fields ([] ∷ fields) = Other
+abbrev pub of_fields : List (List ℕ) → Option Line
+of_fields [] = None
+of_fields ([] ∷ fields) = None
 of_fields ((letter ∷ []) ∷ fields) = by_letter letter fields
-of_fields ((letter ∷ (byte ∷ bytes)) ∷ fields) = Other
+of_fields ((letter ∷ (byte ∷ bytes)) ∷ fields) = None
 
-unfoldable pub line_of : List ℕ → Line
+unfoldable pub line_of : List ℕ → Option Line
 line_of bytes = of_fields (fields_of bytes)

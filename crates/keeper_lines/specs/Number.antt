@@ -1,8 +1,5 @@
 -- Numbers as a line writes them: decimal, and a byte in hex.
-use Rattle.std.specs.Prelude.{ℕ, ◌+◌, ◌-◌, ◌*◌, Bool, true, false, ◌&&◌, cond, List, [], ◌∷◌, leb, ltb}
-use Rattle.std.proofs.Math.Option.{Option, none, some}
-use Rattle.keeper_lines.specs.declared.numerals.Number.{Number}
-use Rattle.keeper_lines.specs.declared.numerals.Number.TheVariants.{Value, Nothing}
+use Rattle.std.specs.Prelude.{ℕ, ◌+◌, ◌-◌, ◌*◌, Bool, true, false, ◌&&◌, cond, List, [], ◌∷◌, leb, ltb, Option, None, Some}
 
 unfoldable pub within : ℕ → ℕ → ℕ → Bool
 within low high n = leb low n && leb n high
@@ -27,28 +24,23 @@ is_empty (byte ∷ bytes) = false
 -- one digit or more, with a value below the limit
 unfoldable pub decimal : ℕ → List ℕ → Option ℕ
 decimal limit bytes =
-    cond (is_empty bytes) none (cond (all_digits bytes && ltb (value_after 0 bytes) limit) (some (value_after 0 bytes)) none)
+    cond (is_empty bytes) None (cond (all_digits bytes && ltb (value_after 0 bytes) limit) (Some (value_after 0 bytes)) None)
 
 -- '0' to '9', 'a' to 'f', 'A' to 'F'
 unfoldable pub hex_digit : ℕ → Option ℕ
 hex_digit byte =
-    cond (within 48 57 byte) (some (byte - 48))
-    (cond (within 97 102 byte) (some (byte - 97 + 10))
-    (cond (within 65 70 byte) (some (byte - 65 + 10)) none))
+    cond (within 48 57 byte) (Some (byte - 48))
+    (cond (within 97 102 byte) (Some (byte - 97 + 10))
+    (cond (within 65 70 byte) (Some (byte - 65 + 10)) None))
 
 abbrev pub hex_pair : Option ℕ → Option ℕ → Option ℕ
-hex_pair none low = none
-hex_pair (some high) none = none
-hex_pair (some high) (some low) = some (high * 16 + low)
+hex_pair None low = None
+hex_pair (Some high) None = None
+hex_pair (Some high) (Some low) = Some (high * 16 + low)
 
 -- exactly two hex digits
 unfoldable pub hex_byte : List ℕ → Option ℕ
-hex_byte [] = none
-hex_byte (high ∷ []) = none
+hex_byte [] = None
+hex_byte (high ∷ []) = None
 hex_byte (high ∷ (low ∷ [])) = hex_pair (hex_digit high) (hex_digit low)
-hex_byte (high ∷ (low ∷ (other ∷ bytes))) = none
-
--- as the code answers it
-abbrev pub number_of : Option ℕ → Number
-number_of none = Nothing
-number_of (some n) = Value n
+hex_byte (high ∷ (low ∷ (other ∷ bytes))) = None

@@ -1,9 +1,6 @@
 -- What the functions below `parse` answer, field by field.
-use Rattle.std.specs.Prelude.{ℕ, zero, suc, ◌+◌, List, [], ◌∷◌, length, drop}
-use Rattle.std.proofs.Math.Option.{Option, none, some}
+use Rattle.std.specs.Prelude.{ℕ, zero, suc, ◌+◌, List, [], ◌∷◌, length, drop, Option, None, Some}
 use Rattle.keeper_lines.specs.Line.{up_to, fields_of}
-use Rattle.keeper_lines.specs.declared.field.Field.{Field}
-use Rattle.keeper_lines.specs.declared.field.Field.TheVariants.{Read, Refused}
 
 -- the field behind the space at index `space`, and where it ends
 unfoldable pub field_behind : ℕ → List ℕ → List ℕ
@@ -13,9 +10,9 @@ unfoldable pub end_behind : ℕ → List ℕ → ℕ
 end_behind space line = space + 1 + length (field_behind space line)
 
 -- a field's value with the index of the space behind the field
-abbrev pub field_of : Option ℕ → ℕ → Field
-field_of none end = Refused
-field_of (some n) end = Read n end
+abbrev pub field_of : Option ℕ → ℕ → Option (ℕ × ℕ)
+field_of None end = None
+field_of (Some n) end = Some (n, end)
 
 -- the fields behind the space at index `space`; none behind the line's end
 abbrev pub fields_behind : ℕ → List ℕ → List (List ℕ)

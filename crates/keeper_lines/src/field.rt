@@ -1,59 +1,37 @@
 // Fields of a line, one behind another. A field ends at a space or with the line.
-ghost use Rattle.std.specs.Prelude.{◌≡◌, ◌+◌, ◌≤◌, length, drop};
-ghost use Rattle.keeper_lines.specs.Line.{up_to};
+//
+// By places, since the contract says where the next field begins.
+ghost use Rattle.std.specs.Prelude.{◌≡◌, ◌+◌, ◌≤◌, length, MatchOption};
 ghost use Rattle.keeper_lines.specs.Number.{decimal, hex_byte};
 ghost use Rattle.keeper_lines.specs.Reading.{field_of, field_behind, end_behind};
 
-use crate::numerals::Number;
-
-#[derive(Clone, Copy)]
-pub enum Field {
-    // value, end
-    Read(u64, usize),
-    Refused,
-}
-
-// The index of the first `stop` from `from` on, or the length. Beyond the length: `from`.
-pub fn end_before(text: &[u8], from: usize, stop: u8) -> usize
-    ensures { result ≡ from + length (up_to stop (drop from text.now)) }
+// The field behind the space at index `space`, and where it ends. Behind the line's end there is none.
+fn field_behind(line: &[u8], space: usize) -> Option<(&[u8], usize)>
+    ensures { MatchOption result (length line.now ≤ space) (λ r. (r.0.now ≡ field_behind space line.now) × (r.1 ≡ end_behind space line.now)) }
 {
-    let mut i = from;
-    while i < text.len() {
-        if text[i] == stop {
-            return i;
-        }
-        i += 1;
+    if line.len() <= space {
+        return None;
     }
-    i
+    let from = space + 1;
+    let end = input::find(line, from, b' ');
+    Some((&line[from..end], end))
 }
 
-// The field behind the space at index `space`, a decimal number of at most `most`.
-pub fn decimal_behind(line: &[u8], space: usize, most: u64) -> Field
+// That field as a decimal number of at most `most`, and where it ends.
+pub fn decimal_behind(line: &[u8], space: usize, most: u64) -> Option<(u64, usize)>
     requires { 9 ≤ most }
     ensures { result ≡ field_of (decimal (most + 1) (field_behind space line.now)) (end_behind space line.now) }
 {
-    if line.len() <= space {
-        return Field::Refused;
-    }
-    let from = space + 1;
-    let end = end_before(line, from, b' ');
-    let Number::Value(n) = crate::numerals::read_decimal(&line[from..end], most) else {
-        return Field::Refused;
-    };
-    Field::Read(n, end)
+    let (field, end) = field_behind(line, space)?;
+    let number = crate::numerals::read_decimal(field, most)?;
+    Some((number, end))
 }
 
-// The field behind the space at index `space`, a byte in hex.
-pub fn hex_behind(line: &[u8], space: usize) -> Field
+// That field as a byte in hex, and where it ends.
+pub fn hex_behind(line: &[u8], space: usize) -> Option<(u8, usize)>
     ensures { result ≡ field_of (hex_byte (field_behind space line.now)) (end_behind space line.now) }
 {
-    if line.len() <= space {
-        return Field::Refused;
-    }
-    let from = space + 1;
-    let end = end_before(line, from, b' ');
-    let Number::Value(n) = crate::numerals::read_hex(&line[from..end]) else {
-        return Field::Refused;
-    };
-    Field::Read(n, end)
+    let (field, end) = field_behind(line, space)?;
+    let byte = crate::numerals::read_hex(field)?;
+    Some((byte, end))
 }

@@ -6,7 +6,7 @@ ghost use Rattle.std.specs.Prelude.{◌≡◌, ◌+◌, length, drop};
 ghost use Rattle.keeper_lines.specs.Line.{next_line, line_of, settings_of, request_of, check_of};
 ghost use Rattle.keeper_lines.specs.Reading.{fields_behind};
 
-use crate::field::Field;
+use crate::field::{decimal_behind, hex_behind};
 
 #[derive(Clone, Copy)]
 pub enum Line {
@@ -16,86 +16,66 @@ pub enum Line {
     Request(u64, u64, u8, u8),
     // clock
     Check(u64),
-    Other,
 }
 
 // `t TIMEOUT LIMIT`
-fn settings(line: &[u8]) -> Line
+fn settings(line: &[u8]) -> Option<Line>
     ensures { result ≡ settings_of (fields_behind 1 line.now) }
 {
-    let Field::Read(timeout, a) = crate::field::decimal_behind(line, 1, 4294967295) else {
-        return Line::Other;
-    };
-    let Field::Read(limit, b) = crate::field::decimal_behind(line, a, 4294967295) else {
-        return Line::Other;
-    };
+    let (timeout, a) = decimal_behind(line, 1, 4294967295)?;
+    let (limit, b) = decimal_behind(line, a, 4294967295)?;
     if b < line.len() {
-        return Line::Other;
+        return None;
     }
-    Line::Settings(timeout as u32, limit as u32)
+    Some(Line::Settings(timeout as u32, limit as u32))
 }
 
 // `q CLOCK PEER TYPE ID`
-fn request(line: &[u8]) -> Line
+fn request(line: &[u8]) -> Option<Line>
     ensures { result ≡ request_of (fields_behind 1 line.now) }
 {
-    let Field::Read(clock, a) = crate::field::decimal_behind(line, 1, 18446744073709551615) else {
-        return Line::Other;
-    };
-    let Field::Read(peer, b) = crate::field::decimal_behind(line, a, 18446744073709551615) else {
-        return Line::Other;
-    };
-    let Field::Read(typeid, c) = crate::field::decimal_behind(line, b, 255) else {
-        return Line::Other;
-    };
-    let Field::Read(id, d) = crate::field::hex_behind(line, c) else {
-        return Line::Other;
-    };
+    let (clock, a) = decimal_behind(line, 1, u64::MAX)?;
+    let (peer, b) = decimal_behind(line, a, u64::MAX)?;
+    let (typeid, c) = decimal_behind(line, b, 255)?;
+    let (id, d) = hex_behind(line, c)?;
     if d < line.len() {
-        return Line::Other;
+        return None;
     }
-    Line::Request(clock, peer, typeid as u8, id as u8)
+    Some(Line::Request(clock, peer, typeid as u8, id))
 }
 
 // `c CLOCK`
-fn check(line: &[u8]) -> Line
+fn check(line: &[u8]) -> Option<Line>
     ensures { result ≡ check_of (fields_behind 1 line.now) }
 {
-    let Field::Read(clock, a) = crate::field::decimal_behind(line, 1, 18446744073709551615) else {
-        return Line::Other;
-    };
+    let (clock, a) = decimal_behind(line, 1, u64::MAX)?;
     if a < line.len() {
-        return Line::Other;
+        return None;
     }
-    Line::Check(clock)
+    Some(Line::Check(clock))
 }
 
 // What a line says, without its line feed.
-pub fn parse(line: &[u8]) -> Line
+pub fn parse(line: &[u8]) -> Option<Line>
     ensures { result ≡ line_of line.now }
 {
-    if line.len() < 2 {
-        return Line::Other;
+    let [letter, b' ', ..] = line else {
+        return None;
+    };
+    match *letter {
+        b't' => settings(line),
+        b'q' => request(line),
+        b'c' => check(line),
+        _ => None,
     }
-    if line[1] != b' ' {
-        return Line::Other;
-    }
-    let letter = line[0];
-    if letter == b't' {
-        return settings(line);
-    }
-    if letter == b'q' {
-        return request(line);
-    }
-    if letter == b'c' {
-        return check(line);
-    }
-    Line::Other
 }
 
 // Where the line that starts at `from` ends: the index of its line feed, or the length. Beyond the length: `from`.
 pub fn line_end(text: &[u8], from: usize) -> usize
     ensures { result ≡ from + length (next_line (drop from text.now)) }
 {
-    crate::field::end_before(text, from, b'\n')
+    if text.len() < from {
+        return from;
+    }
+    input::find(text, from, b'\n')
 }

@@ -1,87 +1,40 @@
 // Numbers as a line writes them: decimal, and a byte in hex.
 //
 // All bytes are taken, or nothing: `read_decimal` equals `decimal` of specs/Number.antt and `read_hex` equals `hex_byte`, on
-// every byte list.
+// every byte list. By hand: `parse` takes a sign, and text.
 ghost use Rattle.std.specs.Prelude.{◌≡◌, ◌+◌, ◌≤◌};
-ghost use Rattle.keeper_lines.specs.Number.{decimal, hex_digit, hex_byte, number_of};
-
-#[derive(Clone, Copy)]
-pub enum Number {
-    Value(u64),
-    Nothing,
-}
-
-// A byte as a number of 64 bits.
-fn wide(x: u8) -> u64
-    ensures { result ≡ x }
-{
-    x as u64
-}
+ghost use Rattle.keeper_lines.specs.Number.{decimal, hex_byte};
 
 // All of s as a decimal number of at most `most`. The value never passes `most`, so no number is too long.
-pub fn read_decimal(s: &[u8], most: u64) -> Number
+pub fn read_decimal(s: &[u8], most: u64) -> Option<u64>
     requires { 9 ≤ most }
-    ensures { result ≡ number_of (decimal (most + 1) s.now) }
+    ensures { result ≡ decimal (most + 1) s.now }
 {
-    if s.len() < 1 {
-        return Number::Nothing;
+    if s.is_empty() {
+        return None;
     }
-    let mut n: u64 = 0;
-    let mut i = 0;
-    while i < s.len() {
-        let byte = wide(s[i]);
-        if byte < 48 {
-            return Number::Nothing;
+    let mut n = 0;
+    for byte in s {
+        let digit = match *byte {
+            b'0'..=b'9' => u64::from(*byte - b'0'),
+            _ => return None,
+        };
+        if (most - digit) / 10 < n {
+            return None;
         }
-        if byte > 57 {
-            return Number::Nothing;
-        }
-        if (most - (byte - 48)) / 10 < n {
-            return Number::Nothing;
-        }
-        n = n * 10 + (byte - 48);
-        i += 1;
+        n = n * 10 + digit;
     }
-    Number::Value(n)
+    Some(n)
 }
 
-// The value of a hex digit, of either case.
-fn hex_digit(byte: u64) -> Number
-    ensures { result ≡ number_of (hex_digit byte) }
+// All of s as a byte in hex, with digits of either case.
+pub fn read_hex(s: &[u8]) -> Option<u8>
+    ensures { result ≡ hex_byte s.now }
 {
-    if byte < 48 {
-        return Number::Nothing;
-    }
-    if byte <= 57 {
-        return Number::Value(byte - 48);
-    }
-    if byte < 65 {
-        return Number::Nothing;
-    }
-    if byte <= 70 {
-        return Number::Value(byte - 65 + 10);
-    }
-    if byte < 97 {
-        return Number::Nothing;
-    }
-    if byte <= 102 {
-        return Number::Value(byte - 97 + 10);
-    }
-    Number::Nothing
-}
-
-// All of s as a byte in hex.
-pub fn read_hex(s: &[u8]) -> Number
-    ensures { result ≡ number_of (hex_byte s.now) }
-{
-    if s.len() != 2 {
-        return Number::Nothing;
-    }
-    let Number::Value(high) = hex_digit(wide(s[0])) else {
-        return Number::Nothing;
+    let [high, low] = s else {
+        return None;
     };
-    let Number::Value(low) = hex_digit(wide(s[1])) else {
-        return Number::Nothing;
-    };
-    Number::Value(high * 16 + low)
+    let high = char::from(*high).to_digit(16)?;
+    let low = char::from(*low).to_digit(16)?;
+    Some((high * 16 + low) as u8)
 }

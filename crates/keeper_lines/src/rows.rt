@@ -1,11 +1,12 @@
 // The numbers that the program `keeper` prints, in a row.
 //
 // `put_row` writes `row` of specs/Row.antt: numbers parted by one space, then a line feed.
-ghost use Rattle.std.specs.Prelude.{◌≡◌, [], ◌∷◌, ◌+◌, ◌≤◌, length};
+ghost use Rattle.std.specs.Prelude.{◌≡◌, ◌+◌, ◌*◌, ◌≤◌, length};
 ghost use Rattle.fields.specs.Overwrite.{overwritten};
 ghost use Rattle.keeper_lines.specs.Row.{digits_within, number_then, row};
 
-// Writes n with its low `most` digits at most, the high ones first.
+// Writes n with its low `most` digits at most, the high ones first. By hand: no writer of the library puts them at a place of a
+// slice that it is lent.
 fn put_digits(out: &mut [u8], at: usize, n: u64, most: usize) -> usize
     requires { at + most ≤ length out.old }
     ensures out_after { out.new ≡ overwritten at (digits_within most n) out.old }
@@ -34,16 +35,18 @@ fn put_number(out: &mut [u8], at: usize, n: u64, mark: u8) -> usize
     end + 1
 }
 
-// A row of six numbers from index `at` on. Gives the index behind it.
-pub fn put_row(out: &mut [u8], at: usize, a: u64, b: u64, c: u64, d: u64, e: u64, f: u64) -> usize
-    requires { at + 126 ≤ length out.old }
-    ensures out_after { out.new ≡ overwritten at (row (a ∷ b ∷ c ∷ d ∷ e ∷ f ∷ [])) out.old }
-    ensures value { result ≡ at + length (row (a ∷ b ∷ c ∷ d ∷ e ∷ f ∷ [])) }
+// A row of numbers from index `at` on. Gives the index behind it.
+pub fn put_row(out: &mut [u8], at: usize, numbers: &[u64]) -> usize
+    requires { at + length numbers.now * 21 ≤ length out.old }
+    ensures out_after { out.new ≡ overwritten at (row numbers.now) out.old }
+    ensures value { result ≡ at + length (row numbers.now) }
 {
-    let mut end = put_number(out, at, a, b' ');
-    end = put_number(out, end, b, b' ');
-    end = put_number(out, end, c, b' ');
-    end = put_number(out, end, d, b' ');
-    end = put_number(out, end, e, b' ');
-    put_number(out, end, f, b'\n')
+    let Some((last, others)) = numbers.split_last() else {
+        return at;
+    };
+    let mut end = at;
+    for n in others {
+        end = put_number(out, end, *n, b' ');
+    }
+    put_number(out, end, *last, b'\n')
 }

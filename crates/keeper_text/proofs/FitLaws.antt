@@ -86,9 +86,6 @@ module _ (settings : Settings) (clock : ℕ) where
       all_weaker (Fits settings old) (Fits settings clock)
       (λ r p. let s = p.stamp in record { id = p.id; byte = p.byte; type_id = p.type_id; peer = p.peer; stamp = omega arith; checks = p.checks })
 
-  pub fits_stamps : (rs : List Request) → All (Fits settings clock) rs → All (λ (r : Request). r.stamp ≤ clock) rs
-  fits_stamps = all_weaker (Fits settings clock) (λ (r : Request). r.stamp ≤ clock) (λ r p. p.stamp)
-
   pub fits_checks : settings.max_checks < 2 ^ 32 → (rs : List Request) → All (Fits settings clock) rs → All (λ (r : Request). r.checks + 1 < 2 ^ 32) rs
   fits_checks m =
       all_weaker (Fits settings clock) (λ (r : Request). r.checks + 1 < 2 ^ 32)

@@ -1,7 +1,7 @@
 -- Lines one after another: what is printed so far, and what the rest will print.
 use Prim.Native.Nat.{ℕ, suc, ◌+◌, ◌-◌, ◌*◌, ◌≤◌, ◌<◌}
 use mathlib.Core.Path.{◌≡◌, refl, sym, ap, ◌∙◌}
-use mathlib.Core.Bool.{Bool, true, false, cond, false≢true}
+use mathlib.Core.Bool.{Bool, true, false, cond}
 use mathlib.Core.List.{List, [], ◌∷◌, ◌++◌, append_assoc, append-nil}
 use lib.Dec.{eqb}
 use lib.ListN.{length, take, drop, length-append, length-drop}
@@ -20,12 +20,12 @@ use Rattle.keeper_lines.proofs.FieldLaws.{too_short, line_taken, length_up_to, t
 use Rattle.keeper_text.specs.Keeping.{Keeping, Step, ended, goes, timed, at_first, in_order, begun_with, after_request, after_check, check_row, answered}
 use Rattle.keeper_text.specs.Printed.{lines_of, printing, printed_from, printed}
 use Rattle.keeper_text.specs.Kept.{keeping_in, Kept, keeper_of, answer_as, bytes_of}
-use Rattle.keeper_text.specs.Progress.{Prints}
+use Rattle.keeper_text.specs.Progress.{rest_prints, Leaves, Prints}
 use Rattle.keeper_text.proofs.LineLaws.{Told}
 use Rattle.keeper_text.specs.declared.keeping.Keeper.{Keeper}
 use Rattle.keeper_text.specs.declared.printing.Progress.{Progress}
-use Rattle.keeper_text.specs.declared.keeping.Answer.{Answer}
-use Rattle.keeper_text.specs.declared.keeping.Answer.TheVariants as answer
+use Rattle.keeper_text.specs.declared.printing.Rest.{Rest}
+use Rattle.std.proofs.Common.{Option, None, Some}
 use Rattle.settings.specs.Values.{settings_of}
 use Rattle.keeper_lines.proofs.RowLaws.{row_few}
 use Rattle.model.specs.Layout.{table_size}
@@ -75,37 +75,37 @@ abbrev Few : Step → Type 0
 Few step = length (bytes_of step) ≤ 126
 
 -- a line prints at most 126 bytes
-pub bytes_few : (k : Keeping) (l : Line) → length (bytes_of (answered k l)) ≤ 126
+pub bytes_few : (k : Keeping) (l : Option Line) → length (bytes_of (answered k l)) ≤ 126
 unfolding answered
-bytes_few k (line.Settings timeout limit) = either Few k.begun ended (goes (begun_with k timeout limit) []) (omega arith) (omega arith)
-bytes_few k (line.Request clock peer type_id byte) =
+bytes_few k (Some (line.Settings timeout limit)) = either Few k.begun ended (goes (begun_with k timeout limit) []) (omega arith) (omega arith)
+bytes_few k (Some (line.Request clock peer type_id byte)) =
     either Few (in_order k clock) (goes (after_request k clock peer type_id byte) []) ended (omega arith) (omega arith)
-bytes_few k (line.Check clock) = either Few (in_order k clock) (goes (after_check k clock) (check_row k clock)) ended (check_few k clock) (omega arith)
-bytes_few k line.Other = omega arith
+bytes_few k (Some (line.Check clock)) = either Few (in_order k clock) (goes (after_check k clock) (check_row k clock)) ended (check_few k clock) (omega arith)
+bytes_few k None = omega arith
 
 abbrev next_of : Step → Keeping
 next_of ended = at_first
 next_of (goes k bytes) = k
 
-abbrev keeper_in : Answer → Keeper
-keeper_in (answer.Next keeper place) = keeper
-keeper_in answer.Ended = keeper_of at_first
+abbrev keeper_in : Option (Keeper × ℕ) → Keeper
+keeper_in (Some (keeper, place)) = keeper
+keeper_in None = keeper_of at_first
 
-abbrev place_in : Answer → ℕ
-place_in (answer.Next keeper place) = place
-place_in answer.Ended = 0
+abbrev place_in : Option (Keeper × ℕ) → ℕ
+place_in (Some (keeper, place)) = place
+place_in None = 0
 
-next_means : (at : ℕ) (keeper : Keeper) (place : ℕ) (step : Step) → answer.Next keeper place ≡ answer_as at step
+next_means : (at : ℕ) (keeper : Keeper) (place : ℕ) (step : Step) → Some (keeper, place) ≡ answer_as at step
     → (step ≡ goes (next_of step) (bytes_of step)) × ((keeper ≡ keeper_of (next_of step)) × (place ≡ at + length (bytes_of step)))
 next_means at keeper place ended h = let z : ◌≡◌ {A = ℕ} 0 1 = cc in absurd (lt_irrefl 0 (omega arith))
 next_means at keeper place (goes k bytes) h = (refl, (ap keeper_in h, ap place_in h))
 
-ended_means : (at : ℕ) (step : Step) → answer.Ended ≡ answer_as at step → step ≡ ended
+ended_means : (at : ℕ) (step : Step) → None ≡ answer_as at step → step ≡ ended
 ended_means at ended h = refl
 ended_means at (goes k bytes) h = let z : ◌≡◌ {A = ℕ} 0 1 = cc in absurd (lt_irrefl 0 (omega arith))
 
 -- a line that goes on has a letter and a space
-other_stops : (k : Keeping) (l : Line) (next : Keeping) (said : List ℕ) → l ≡ line.Other → answered k l ≡ goes next said → ⊥
+other_stops : (k : Keeping) (l : Option Line) (next : Keeping) (said : List ℕ) → l ≡ None → answered k l ≡ goes next said → ⊥
 unfolding answered
 other_stops k l next said e h = let z : ◌≡◌ {A = ℕ} 0 1 = cc in lt_irrefl 0 (omega arith)
 
@@ -146,18 +146,20 @@ module _ {k : Keeping} {text out₀ table out : List ℕ} {keeper : Keeper} {fro
   run_room = omega (arith, s.place, s.inside, s.long, s.room)
 
   -- the text is used up but for a line without its line feed
-  pub run_ends : length text ≤ end → Prints k text out₀ (record { keeper = keeper; used = from; written = at; ended = false }) table out
+  pub run_ends : length text ≤ end → Prints k text out₀ (record { written = at; rest = Some (record { keeper = keeper; used = from }) }) table out
   run_ends h =
       let rest : List ℕ = drop from text in
       let l : length rest ≡ length text - from = length-drop from text in
       let u : length (up_to 10 rest) ≤ length rest = length_up_to 10 rest in
       record {
         prints = s.prints;
-        whole = λ e. sym (take_up_to 10 rest) ∙ take_all (length (up_to 10 rest)) rest (omega (arith, s.next, s.inside));
-        within = s.inside;
+        left = record {
+          whole = sym (take_up_to 10 rest) ∙ take_all (length (up_to 10 rest)) rest (omega (arith, s.next, s.inside));
+          within = s.inside;
+          kept = s.kept;
+        };
         place = run_room;
         stay = s.stay;
-        kept = λ e. s.kept;
       }
 
   module _ (more_left : end < length text) where
@@ -188,8 +190,8 @@ module _ {k : Keeping} {text out₀ table out : List ℕ} {keeper : Keeper} {fro
     prints_here more = s.prints more ∙ ap (λ (ls : List (List ℕ)). take at out ++ printed_from (keeping_in keeper table) ls) (lines_here more)
 
     -- a line ends it
-    pub run_stops : {made : Answer} {table' out' : List ℕ} → made ≡ answer.Ended → Told step at keeper.count table out made table' out'
-        → Prints k text out₀ (record { keeper = keeper; used = from; written = at; ended = true }) table' out'
+    pub run_stops : {made : Option (Keeper × ℕ)} {table' out' : List ℕ} → made ≡ None → Told step at keeper.count table out made table' out'
+        → Prints k text out₀ (record { written = at; rest = None }) table' out'
     run_stops g m =
         let z : step ≡ ended = ended_means at step (sym g ∙ m.0) in
         let o : _ ≡ out = m.1.1.0 ∙ ap (λ (x : Step). overwritten at (bytes_of x) out) z ∙ overwritten_nil at out in
@@ -198,15 +200,13 @@ module _ {k : Keeping} {text out₀ table out : List ℕ} {keeper : Keeper} {fro
               λ more. prints_here more
               ∙ ap (λ (x : Step). take at out ++ printing x (others more)) z
               ∙ ap (λ (x : List ℕ). take at x ++ []) (sym o);
-          whole = λ f. absurd (false≢true (sym f));
-          within = s.inside;
+          left = tt;
           place = omega (arith, run_room, ap length o);
           stay = o ∙ s.stay ∙ ap (λ (x : List ℕ). overwritten 0 (take at x) out₀) (sym o);
-          kept = λ f. absurd (false≢true (sym f));
         }
 
-    module _ {made : Answer} {next : Keeper} {place : ℕ} {table' out' : List ℕ}
-        (told : made ≡ answer.Next next place) (m : Told step at keeper.count table out made table' out') where
+    module _ {made : Option (Keeper × ℕ)} {next : Keeper} {place : ℕ} {table' out' : List ℕ}
+        (told : made ≡ Some (next, place)) (m : Told step at keeper.count table out made table' out') where
       means : (step ≡ goes (next_of step) (bytes_of step)) × ((next ≡ keeper_of (next_of step)) × (place ≡ at + length (bytes_of step)))
       means = next_means at next place step (sym told ∙ m.0)
 
@@ -279,15 +279,15 @@ last_none k [] at out h = (sym (overwritten_nil at out), omega arith)
 last_none k (b ∷ bs) at out h = absurd (lt_irrefl 0 (omega arith))
 
 module _ (k : Keeping) (text : List ℕ) (one : next_line text ≡ text) (h : 0 < length text) (at count : ℕ) (table out : List ℕ) where
-  abbrev answer_is : Answer → List ℕ → List ℕ → Type 0
+  abbrev answer_is : Option (Keeper × ℕ) → List ℕ → List ℕ → Type 0
   answer_is made table' out' = Told (answered k (line_of text)) at count table out made table' out'
 
-  pub last_ended : {made : Answer} (table' out' : List ℕ) → made ≡ answer.Ended → answer_is made table' out' → LastPrinted k text at out out' at
+  pub last_ended : {made : Option (Keeper × ℕ)} (table' out' : List ℕ) → made ≡ None → answer_is made table' out' → LastPrinted k text at out out' at
   last_ended table' out' g m =
       let none : bytes_of (answered k (line_of text)) ≡ [] = ap bytes_of (ended_means at (answered k (line_of text)) (sym g ∙ m.0)) in
       rw (last_prints k text h one) (m.1.1.0, rw none (omega arith))
 
-  pub last_next : {made : Answer} {next : Keeper} {place : ℕ} (table' out' : List ℕ) → made ≡ answer.Next next place → answer_is made table' out'
+  pub last_next : {made : Option (Keeper × ℕ)} {next : Keeper} {place : ℕ} (table' out' : List ℕ) → made ≡ Some (next, place) → answer_is made table' out'
       → LastPrinted k text at out out' place
   last_next {next = next} {place = place} table' out' g m =
       rw (last_prints k text h one) (m.1.1.0, (next_means at next place (answered k (line_of text)) (sym g ∙ m.0)).1.1)
@@ -326,46 +326,42 @@ module _ {text out : List ℕ} {r : Progress} {table out₁ : List ℕ} (a : Rea
   abbrev done : List ℕ
   done = take r.written out₁
 
-  -- what the text left will print
-  abbrev then_prints : List ℕ → List ℕ
-  then_prints left = printed_from (keeping_in r.keeper table) (lines_of left)
-
-  so_far : printed text ≡ done ++ cond r.ended [] (then_prints (drop r.used text))
+  so_far : printed text ≡ done ++ rest_prints table text r.rest []
   unfolding printed
-  so_far =
-      ap (λ (t : List ℕ). printed_from at_first (lines_of t)) (sym (append-nil text))
-      ∙ p.prints []
-      ∙ ap (λ (t : List ℕ). done ++ cond r.ended [] (then_prints t)) (append-nil (drop r.used text))
+  so_far = ap (λ (t : List ℕ). printed_from at_first (lines_of t)) (sym (append-nil text)) ∙ p.prints []
 
   written_long : length done ≡ r.written
   written_long = length-take-le r.written out₁ (omega (arith, p.place))
 
-  pub all_stopped : r.ended ≡ true → AllPrinted text out out₁ r.written
+  pub all_stopped : r.rest ≡ None → AllPrinted text out out₁ r.written
   all_stopped e =
-      let w : printed text ≡ done = so_far ∙ ap (λ (b : Bool). done ++ cond b [] (then_prints (drop r.used text))) e ∙ append-nil done in
+      let w : printed text ≡ done = so_far ∙ ap (λ (left : Option Rest). done ++ rest_prints table text left []) e ∙ append-nil done in
       (p.stay ∙ ap (λ (x : List ℕ). overwritten 0 x out) (sym w), (sym written_long ∙ ap length (sym w), omega (arith, p.place)))
 
-  module _ (e : r.ended ≡ false) where
+  module _ (rest : Rest) (e : r.rest ≡ Some rest) where
+    pub leaves : Leaves table text rest
+    leaves = rw e at p.left
+
     -- the rest of the text, as it is lent
     abbrev left : List ℕ
-    left = take (length text - r.used) (drop r.used text)
+    left = take (length text - rest.used) (drop rest.used text)
 
-    left_is : left ≡ drop r.used text
+    left_is : left ≡ drop rest.used text
     left_is =
-        let l : length (drop r.used text) ≡ length text - r.used = length-drop r.used text in
-        take_all (length text - r.used) (drop r.used text) (omega arith)
+        let l : length (drop rest.used text) ≡ length text - rest.used = length-drop rest.used text in
+        take_all (length text - rest.used) (drop rest.used text) (omega arith)
 
     pub left_whole : next_line left ≡ left
-    left_whole = rw left_is (p.whole e)
+    left_whole = rw left_is leaves.whole
 
-    pub all_printed : (out₂ : List ℕ) (end : ℕ) → LastPrinted (keeping_in r.keeper table) left r.written out₁ out₂ end
+    pub all_printed : (out₂ : List ℕ) (end : ℕ) → LastPrinted (keeping_in rest.keeper table) left r.written out₁ out₂ end
         → AllPrinted text out out₂ end
     all_printed out₂ end m =
-        let new : List ℕ = then_prints left in
-        let few : length new ≤ 126 = last_few (keeping_in r.keeper table) left left_whole in
+        let new : List ℕ = printed_from (keeping_in rest.keeper table) (lines_of left) in
+        let few : length new ≤ 126 = last_few (keeping_in rest.keeper table) left left_whole in
         let w : printed text ≡ done ++ new =
-        so_far ∙ ap (λ (b : Bool). done ++ cond b [] (then_prints (drop r.used text))) e
-        ∙ ap (λ (x : List ℕ). done ++ then_prints x) (sym left_is) in
+        so_far ∙ ap (λ (some : Option Rest). done ++ rest_prints table text some []) e
+        ∙ ap (λ (x : List ℕ). done ++ printed_from (keeping_in rest.keeper table) (lines_of x)) (append-nil (drop rest.used text) ∙ sym left_is) in
         let l : length (printed text) ≡ r.written + length new =
         ap length w ∙ length-append done new ∙ ap (λ (n : ℕ). n + length new) written_long in
         let l₂ : length out₂ ≡ length out₁ = ap length m.0 ∙ length_overwritten r.written new out₁ (omega (arith, p.place)) in

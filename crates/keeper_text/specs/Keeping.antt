@@ -1,5 +1,5 @@
 -- Program `keeper`: what one line does (document 01, "Program `keeper` reads lines"; DECISIONS.md, U-8 and U-9).
-use Rattle.std.specs.Prelude.{ℕ, Bool, true, false, cond, ◌&&◌, List, [], ◌∷◌, length, replicate, leb}
+use Rattle.std.specs.Prelude.{ℕ, Bool, true, false, cond, ◌&&◌, List, [], ◌∷◌, length, replicate, leb, Option, Some, None}
 use Rattle.keeper_lines.specs.declared.lines.Line.{Line}
 use Rattle.keeper_lines.specs.declared.lines.Line.TheVariants as line
 use Rattle.keeper_lines.specs.Row.{row}
@@ -64,8 +64,8 @@ check_row k clock =
     row (clock ∷ judged_count k clock retried ∷ 0 ∷ judged_count k clock abandoned ∷ judged_count k clock forgotten ∷ length (check_timeouts k.settings clock k.pending) ∷ [])
 
 -- "a missing or second `t`, an earlier clock or any other line ends it"
-unfoldable pub answered : Keeping → Line → Step
-answered k (line.Settings timeout limit) = cond k.begun ended (goes (begun_with k timeout limit) [])
-answered k (line.Request clock peer type_id byte) = cond (in_order k clock) (goes (after_request k clock peer type_id byte) []) ended
-answered k (line.Check clock) = cond (in_order k clock) (goes (after_check k clock) (check_row k clock)) ended
-answered k line.Other = ended
+unfoldable pub answered : Keeping → Option Line → Step
+answered k (Some (line.Settings timeout limit)) = cond k.begun ended (goes (begun_with k timeout limit) [])
+answered k (Some (line.Request clock peer type_id byte)) = cond (in_order k clock) (goes (after_request k clock peer type_id byte) []) ended
+answered k (Some (line.Check clock)) = cond (in_order k clock) (goes (after_check k clock) (check_row k clock)) ended
+answered k None = ended

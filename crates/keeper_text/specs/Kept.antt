@@ -1,5 +1,5 @@
 -- What is kept, as a struct and a table of pending records.
-use Rattle.std.specs.Prelude.{ℕ, ◌+◌, ◌≤◌, ◌<◌, ◌^◌, ◌≡◌, true, false, List, [], length, get_or}
+use Rattle.std.specs.Prelude.{ℕ, ◌+◌, ◌≤◌, ◌<◌, ◌^◌, ◌≡◌, true, false, List, [], length, get_or, Option, Some, None}
 use Rattle.fields.specs.Facts.{All}
 use Rattle.fields.specs.Entries.{entries, rising}
 use Rattle.model.specs.Settings.{Settings, most_requests}
@@ -9,8 +9,6 @@ use Rattle.settings.specs.declared.Settings as code
 use Rattle.commands.specs.Pending.{requests_in, holding}
 use Rattle.keeper_text.specs.Keeping.{Keeping, Step, ended, goes, id_of}
 use Rattle.keeper_text.specs.declared.keeping.Keeper.{Keeper}
-use Rattle.keeper_text.specs.declared.keeping.Answer.{Answer}
-use Rattle.keeper_text.specs.declared.keeping.Answer.TheVariants as answer
 use Rattle.model.specs.Layout.{id_size, record_size, table_size}
 
 -- what a keeper and its table stand for
@@ -44,9 +42,9 @@ abbrev pub keeper_of : Keeping → Keeper
 keeper_of k = record { begun = k.begun; settings = values_of k.settings; clock = k.clock; count = length k.pending }
 
 -- the keeper then, and where its answer from `at` on ends
-abbrev pub answer_as : ℕ → Step → Answer
-answer_as at ended = answer.Ended
-answer_as at (goes k bytes) = answer.Next (keeper_of k) (at + length bytes)
+abbrev pub answer_as : ℕ → Step → Option (Keeper × ℕ)
+answer_as at ended = None
+answer_as at (goes k bytes) = Some (keeper_of k, at + length bytes)
 
 abbrev pub bytes_of : Step → List ℕ
 bytes_of ended = []

@@ -1,4 +1,4 @@
-// The fixed list of host/fixed, replayed by the proved core.
+// The fixed list of host/fixed, replayed by the proved core. The program `cases` is the same on another list.
 #![tactic(auto)]
 
 use std::io;

@@ -1,56 +1,37 @@
 // What the next call is lent, as lines before it say it.
-ghost use Rattle.std.specs.Prelude.{◌≤◌, length};
-
-use crate::replay::{FORM, Replay, differs};
+use crate::replay::{Fault, Replay};
+use replay_text::areas::{Areas, SETTINGS, USUAL, put_numbers};
 use replay_text::words::Words;
 
 // `put`: the stream's area is the image of this state.
-pub fn put(
-    memory: &mut [u8],
-    numbers: &[u64; 17],
-    bytes: &[u8],
-    words: Words,
-    replay: Replay,
-) -> Replay
-    requires in_bounds { (663552 ≤ length memory.old) × (words.e ≤ length bytes.now) }
-    requires b_le_c { (words.b ≤ words.c) × ((words.c ≤ words.d) × (words.d ≤ words.e)) }
-{
-    if !replay_text::areas::put_state(memory, numbers, 4, bytes, words) {
-        return differs(replay, FORM, 0);
-    }
-    let table = [16u8, 4, 20, 4, 24, 4, 28, 4];
-    replay_text::areas::put_numbers(memory, 131072, &table, numbers, 0, 4);
-    spans::moving::move_down(memory, 131072, 0, 65536);
-    replay
+pub fn put(areas: &mut Areas, words: &Words, replay: Replay) -> Result<Replay, Fault> {
+    areas
+        .put_state(&words.numbers[4..14], words)
+        .ok_or(Fault::Form)?;
+    put_numbers(&mut areas.lent, &SETTINGS, &words.numbers[..4]);
+    areas.keep();
+    Ok(replay)
 }
 
 // `poke`: over the state area of the next call. Behind a call it changes what is expected of it.
-pub fn poke(
-    memory: &mut [u8],
-    numbers: &[u64; 17],
-    bytes: &[u8],
-    words: Words,
-    replay: Replay,
-) -> Replay
-    requires { (663552 ≤ length memory.old) × ((words.d ≤ words.e) × (words.e ≤ length bytes.now)) }
-{
-    let d = words.d;
-    let e = words.e;
-    let at = numbers[0] as usize;
-    if 65536 < at {
-        return differs(replay, FORM, 0);
+pub fn poke(areas: &mut Areas, words: &Words, replay: Replay) -> Result<Replay, Fault> {
+    let [.., new] = words.lists();
+    let at = words.numbers[0] as usize;
+    if USUAL < at {
+        return Err(Fault::Form);
     }
-    if 65536 - at < e - d {
-        return differs(replay, FORM, 0);
+    if USUAL - at < new.len() {
+        return Err(Fault::Form);
     }
-    spans::moving::overwrite(memory, 131072 + at, &bytes[d..e]);
-    replay
+    areas.lent[at..at + new.len()].copy_from_slice(new);
+    Ok(replay)
 }
 
 // `areas`: the lengths of both.
-pub fn lengths(numbers: &[u64; 17], replay: Replay) -> Replay {
-    let mut next = replay;
-    next.long = numbers[0] as usize;
-    next.wide = numbers[1] as usize;
-    next
+pub fn lengths(words: &Words, replay: Replay) -> Replay {
+    Replay {
+        long: words.numbers[0] as usize,
+        wide: words.numbers[1] as usize,
+        ..replay
+    }
 }

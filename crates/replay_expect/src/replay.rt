@@ -1,23 +1,48 @@
-// Where a stream stands: what its next line has to be, the call that was made, and what differs.
-use replay_text::line_words::OPENING;
+// Where a stream stands: what its next line has to be, the call that was made, and what may differ.
+use replay_text::areas::USUAL;
+use replay_text::line_words::{AreaCall, Call};
+use std::fmt;
 
 // What the next line has to be.
-pub const AWAITS_CALL: u8 = 0;
+#[derive(Clone, Copy, PartialEq, Eq)]
+pub enum Awaits {
+    Call,
+    Answer,
+    State,
+    Pairs,
+    Map,
+}
 
-pub const AWAITS_ANSWER: u8 = 1;
+// What differs, and where.
+#[derive(Clone, Copy)]
+pub enum Fault {
+    Form,
+    Place,
+    Number(usize),
+    StateArea(usize),
+    CommandArea(usize),
+    MapArea(usize),
+}
 
-pub const AWAITS_STATE: u8 = 2;
-
-pub const AWAITS_PAIRS: u8 = 3;
-
-pub const AWAITS_MAP: u8 = 4;
+impl fmt::Display for Fault {
+    fn fmt<W: fmt::Write>(&self, f: &mut fmt::Formatter<W>) -> fmt::Result {
+        match *self {
+            Fault::Form => write!(f, "is not of the form"),
+            Fault::Place => write!(f, "is out of place"),
+            Fault::Number(place) => write!(f, "differs in number {place}"),
+            Fault::StateArea(place) => write!(f, "differs in the state area, byte {place}"),
+            Fault::CommandArea(place) => write!(f, "differs in the command area, byte {place}"),
+            Fault::MapArea(place) => write!(f, "differs in the map, byte {place}"),
+        }
+    }
+}
 
 // Where a stream stands.
 #[derive(Clone, Copy)]
 pub struct Replay {
-    pub awaits: u8,
-    // the call that was made, its numbers, and where its commands end so far
-    pub kind: u8,
+    pub awaits: Awaits,
+    // the call that was made, read only behind one, its numbers, and where its commands end so far
+    pub made: Call,
     pub answer: [u64; 9],
     pub end: usize,
     // lengths of the areas of the next call
@@ -26,43 +51,29 @@ pub struct Replay {
     // length of the stream's map
     pub map: usize,
     pub calls: u64,
-    // what differs, and where
-    pub fault: u8,
-    pub place: usize,
 }
 
-// What can differ.
-pub const FORM: u8 = 1;
+impl Replay {
+    // Before the first stream.
+    pub fn at_first() -> Replay {
+        Replay {
+            awaits: Awaits::Call,
+            made: Call::Area(AreaCall::Open),
+            answer: [0; 9],
+            end: 0,
+            long: USUAL,
+            wide: USUAL,
+            map: 512,
+            calls: 0,
+        }
+    }
 
-pub const PLACE: u8 = 2;
-
-pub const NUMBER: u8 = 3;
-
-pub const STATE_AREA: u8 = 4;
-
-pub const COMMAND_AREA: u8 = 5;
-
-pub const MAP_AREA: u8 = 6;
-
-// The stream with what differs noted.
-pub fn differs(mut replay: Replay, fault: u8, place: usize) -> Replay {
-    replay.fault = fault;
-    replay.place = place;
-    replay
-}
-
-// Before the first stream.
-pub fn at_first() -> Replay {
-    Replay {
-        awaits: AWAITS_CALL,
-        kind: OPENING,
-        answer: [0; 9],
-        end: 0,
-        long: 65536,
-        wide: 65536,
-        map: 512,
-        calls: 0,
-        fault: 0,
-        place: 0,
+    // Refuses a line that the stream does not await.
+    pub fn expects(self, line: Awaits) -> Result<(), Fault> {
+        if self.awaits == line {
+            Ok(())
+        } else {
+            Err(Fault::Place)
+        }
     }
 }

@@ -1,45 +1,39 @@
 // A list read from standard input and replayed, line after line.
-ghost use Rattle.std.specs.Prelude.{◌≡◌, ◌≤◌, length};
+ghost use Rattle.std.specs.Prelude.{◌≡◌, length};
 
 use replay_expect::listing::Listing;
-use replay_text::line_words::NO_CALL;
+use replay_text::areas::Areas;
+use replay_text::line_words::Head;
 use std::io;
 use std::io::{Read, Write};
 
 // One line of a list.
 fn take<W: Write>(
     out: &mut W,
-    memory: &mut [u8],
+    areas: &mut Areas,
     line: &[u8],
     listing: Listing,
-) -> io::Result<Listing>
-    requires { 663552 ≤ length memory.old }
-{
-    let next = replay_expect::listing::counted(listing);
-    let last = next.replay;
-    let head = replay_text::line_words::first_word(line);
-    let kind = replay_text::line_words::call_of(head);
-    if (kind == NO_CALL) | (last.fault != 0) {
-        return replay_expect::listing::take(out, memory, head, line, next);
+) -> io::Result<Listing> {
+    let next = listing.counted();
+    match Head::of(line) {
+        Some(Head::Call(call)) if next.fault.is_none() => {
+            let took = crate::stream::take_call(areas, call, line, next.replay);
+            Ok(next.held(took))
+        }
+        head => next.take(out, areas, head, line),
     }
-    Ok(replay_expect::listing::held(next, crate::stream::take_call(memory, kind, line, last)))
 }
 
 // All lines of a list.
-fn lines<W: Write>(out: &mut W, memory: &mut [u8], text: &[u8]) -> io::Result<Listing>
-    requires { 663552 ≤ length memory.old }
-{
-    let mut listing = replay_expect::listing::at_first();
-    let mut from = 0;
-    while from < text.len() {
-        let end = input::find(text, from, b'\n');
-        listing = take(out, memory, &text[from..end], listing)?;
-        from = end + 1;
+fn lines<W: Write>(out: &mut W, areas: &mut Areas, text: &[u8]) -> io::Result<Listing> {
+    let mut listing = Listing::at_first();
+    for line in text.split(|byte| *byte == b'\n') {
+        listing = take(out, areas, line, listing)?;
     }
-    replay_expect::listing::end_stream(out, listing)
+    listing.end_stream(out)
 }
 
-// Room for a list, or for what a replay holds.
+// Room for a list. It has a function of its own, so that its length is known without counting it out.
 fn room() -> [u8; 1048576]
     ensures { 1048576 ≡ length result }
 {
@@ -48,9 +42,9 @@ fn room() -> [u8; 1048576]
 
 // Replays a list of at most 1,048,576 bytes. A read or a write that fails ends it.
 pub fn replay<R: Read, W: Write>(input: &mut R, out: &mut W) -> io::Result<()> {
-    let mut memory = room();
+    let mut areas = Areas::empty();
     let mut text = room();
     let size = input::read_full(input, &mut text)?;
-    let listing = lines(out, &mut memory, &text[..size])?;
-    replay_expect::listing::print_total(out, listing)
+    let listing = lines(out, &mut areas, &text[..size])?;
+    listing.print_total(out)
 }

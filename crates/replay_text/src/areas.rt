@@ -1,107 +1,116 @@
-// What a replay holds, in one slice: five areas of 131,072 bytes, longer than any that a call is lent, and two of 4,096 for
-// maps.
+// What a replay holds: areas of 131,072 bytes, longer than any that a call is lent, and maps of 4,096.
 //
-// | from | what |
-// |---|---|
-// | 0 | the stream's state area |
-// | 131,072 | the state area that the next call is lent, and then the one that it has to leave |
-// | 262,144 | the state area that the call left |
-// | 393,216 | the command area that the call has to leave |
-// | 524,288 | the command area that the call left |
-// | 655,360 | the stream's map, and then the one that a call has to leave |
-// | 659,456 | the map that the call left |
-ghost use Rattle.std.specs.Prelude.{◌≡◌, ◌+◌, ◌*◌, ◌≤◌, ◌<◌, length};
+// Each table of numbers here is data, offsets and widths, and not what is to be done.
+ghost use Rattle.std.specs.Prelude.{◌≡◌, ◌≤◌, length};
 
 use crate::words::Words;
 
-// An area that nothing has been written to.
-pub fn blank() -> [u8; 131072]
-    ensures { 131072 ≡ length result }
-{
-    [165; 131072]
+// The usual length of both areas of a call.
+pub const USUAL: usize = 65536;
+
+// The byte that stands in an area to which nothing was written.
+pub const BLANK: u8 = 165;
+
+// Where the settings stand in a state area: offset and width of each.
+pub const SETTINGS: [(u8, u8); 4] = [(16, 4), (20, 4), (24, 4), (28, 4)];
+
+#[derive(Drop)]
+pub struct Areas {
+    // the stream's state area
+    state: [u8; 131072],
+    // the state area that the next call is lent, and then the one that it has to leave
+    pub lent: [u8; 131072],
+    // the state area that the call left
+    pub left: [u8; 131072],
+    // the command area that the call has to leave
+    pub commands: [u8; 131072],
+    // the command area that the call left
+    pub commands_left: [u8; 131072],
+    // the stream's map, and then the one that a call has to leave
+    pub map: [u8; 4096],
+    // the map that the call left
+    pub map_left: [u8; 4096],
 }
 
-// A byte as an index.
-fn size(x: u8) -> usize
-    ensures { result < 256 }
+// Numbers, each at its offset: the table has offset and width of each.
+pub fn put_numbers(area: &mut [u8], table: &[(u8, u8)], numbers: &[u64])
+    requires { 510 ≤ length area.old }
 {
-    x as usize
-}
-
-// `count` numbers from index `first` on, each at its offset from `base`: the table has offset and width of each.
-pub fn put_numbers(
-    memory: &mut [u8],
-    base: usize,
-    table: &[u8],
-    numbers: &[u64; 17],
-    first: usize,
-    count: usize,
-)
-    requires { (base + 510 ≤ length memory.old) × ((count * 2 ≤ length table.now) × (first + count ≤ 17)) }
-{
-    let mut i = 0;
-    while i < count {
-        let at = base + size(table[i * 2]);
-        fields::write(memory, at, size(table[i * 2 + 1]), numbers[first + i]);
-        i += 1;
+    for ((at, width), number) in table.iter().zip(numbers) {
+        fields::write(area, usize::from(*at), usize::from(*width), *number);
     }
 }
 
 // The stalled peers, the evicted ids and the pending records of a state, and how many they are.
-fn put_lists(memory: &mut [u8], bytes: &[u8], words: Words) -> bool
-    requires in_bounds { (663552 ≤ length memory.old) × (words.e ≤ length bytes.now) }
-    requires b_le_c { (words.b ≤ words.c) × ((words.c ≤ words.d) × (words.d ≤ words.e)) }
+fn put_lists(area: &mut [u8], stalled: &[u8], evicted: &[u8], pending: &[u8]) -> Option<()>
+    requires { 65536 ≡ length area.old }
 {
-    let b = words.b;
-    let c = words.c;
-    let d = words.d;
-    let e = words.e;
-    if 2048 < c - b {
-        return false;
+    if (2048 < stalled.len()) | (62976 < evicted.len()) {
+        return None;
     }
-    if 62976 < e - c {
-        return false;
+    if 62976 - evicted.len() < pending.len() {
+        return None;
     }
-    spans::moving::overwrite(memory, 131584, &bytes[b..c]);
-    spans::moving::overwrite(memory, 196608 - (d - c), &bytes[c..d]);
-    spans::moving::overwrite(memory, 133632, &bytes[d..e]);
-    fields::write(memory, 131140, 2, ((c - b) / 8) as u64);
-    fields::write(memory, 131142, 2, ((e - d) / 54) as u64);
-    fields::write(memory, 131144, 2, ((d - c) / 32) as u64);
-    true
+    area[512..512 + stalled.len()].copy_from_slice(stalled);
+    area[2560..2560 + pending.len()].copy_from_slice(pending);
+    area[65536 - evicted.len()..].copy_from_slice(evicted);
+    fields::write(area, 68, 2, (stalled.len() / 8) as u64);
+    fields::write(area, 70, 2, (pending.len() / 54) as u64);
+    fields::write(area, 72, 2, (evicted.len() / 32) as u64);
+    Some(())
 }
 
-// The state area of the words of `.`, whose numbers stand from index `first` on. The settings stay.
-pub fn put_state(
-    memory: &mut [u8],
-    numbers: &[u64; 17],
-    first: usize,
-    bytes: &[u8],
-    words: Words,
-) -> bool
-    requires in_bounds { (663552 ≤ length memory.old) × ((first ≤ 4) × (words.e ≤ length bytes.now)) }
-    requires b_le_c { (words.b ≤ words.c) × ((words.c ≤ words.d) × (words.d ≤ words.e)) }
-{
-    spans::moving::clear(memory, 131072, 16);
-    spans::moving::clear(memory, 131104, 65504);
-    spans::moving::overwrite(memory, 131072, b"EDT\x00\x01");
-    let table = [
-        5u8, 1, 48, 8, 8, 8, 32, 8, 40, 8, 56, 4, 60, 4, 64, 4, 6, 1, 7, 1,
-    ];
-    put_numbers(memory, 131072, &table, numbers, first, 10);
-    put_lists(memory, bytes, words)
-}
-
-// How many bytes are the same from `p` and from `q` on, up to `size`.
-pub fn same_bytes(s: &[u8], p: usize, q: usize, size: usize) -> usize
-    requires { (p + size ≤ length s.now) × (q + size ≤ length s.now) }
-{
-    let mut i = 0;
-    while i < size {
-        if s[p + i] != s[q + i] {
-            return i;
+impl Areas {
+    // Before the first stream.
+    pub fn empty() -> Areas {
+        Areas {
+            state: [0; 131072],
+            lent: [0; 131072],
+            left: [0; 131072],
+            commands: [0; 131072],
+            commands_left: [0; 131072],
+            map: [0; 4096],
+            map_left: [0; 4096],
         }
-        i += 1;
     }
-    i
+
+    // What a call left is the stream's state area.
+    pub fn keep(&mut self) {
+        self.state.copy_from_slice(&self.lent);
+    }
+
+    // The next call is lent the stream's state area.
+    pub fn restore(&mut self) {
+        self.lent.copy_from_slice(&self.state);
+    }
+
+    // The areas of a new stream: nothing of the one before is kept. The area of a longer state is filled up with zeros.
+    pub fn forget(&mut self) {
+        self.lent[..USUAL].fill(BLANK);
+        self.lent[USUAL..].fill(0);
+        self.keep();
+        self.map.fill(0);
+    }
+
+    // The state area of the words of `.`, whose ten numbers these are. The settings stay.
+    pub fn put_state(&mut self, numbers: &[u64], words: &Words) -> Option<()> {
+        let [.., stalled, evicted, pending] = words.lists();
+        let table = [
+            (5, 1),
+            (48, 8),
+            (8, 8),
+            (32, 8),
+            (40, 8),
+            (56, 4),
+            (60, 4),
+            (64, 4),
+            (6, 1),
+            (7, 1),
+        ];
+        self.lent[..16].fill(0);
+        self.lent[32..USUAL].fill(0);
+        self.lent[..5].copy_from_slice(b"EDT\x00\x01");
+        put_numbers(&mut self.lent, &table, numbers);
+        put_lists(&mut self.lent[..USUAL], stalled, evicted, pending)
+    }
 }

@@ -2,12 +2,10 @@
 // them.
 //
 // For test programs: proved to be safe and to end, no more. Of the core it takes leaves alone: what is compared must not
-// come from what it is compared with. Writes the memory that it is lent, and costs one pass over a line.
+// come from what it is compared with. Writes the areas that it is lent, and costs one pass over a line.
 #![tactic(auto)]
 
 pub mod areas;
-pub mod lent;
 pub mod line_words;
-pub mod maps;
 pub mod numbers;
 pub mod words;

@@ -1,185 +1,166 @@
-// The words of a line of host/fixed, by its first word.
+// The lines of host/fixed, by their first word, and the shapes of the words behind it.
+//
+// A shape is a text and no list of an enum's values: it stands as short as the line that it speaks of.
 ghost use Rattle.std.specs.Prelude.{◌≤◌, length};
 
-use crate::words::{Words, read_words};
-
-// Kinds of call, and that of a line that asks for none.
-pub const OPENING: u8 = 0;
-
-pub const STEPPING: u8 = 1;
-
-pub const ASKING: u8 = 2;
-
-pub const NO_CALL: u8 = 3;
-
-// Calls of the map.
-pub const FILLING: u8 = 4;
-
-pub const ARRIVING: u8 = 5;
-
-pub const PRUNING: u8 = 6;
-
-pub const SLIDING: u8 = 7;
-
-pub const PASSING: u8 = 8;
-
-// First words, as numbers of their bytes.
-pub const STREAM_WORD: u64 = 0x73747265616d;
-
-const OPEN_WORD: u64 = 0x6f70656e;
-
-pub const PUT_WORD: u64 = 0x707574;
-
-pub const AREAS_WORD: u64 = 0x6172656173;
-
-pub const POKE_WORD: u64 = 0x706f6b65;
-
-const STEP_WORD: u64 = 0x73746570;
-
-const ASK_WORD: u64 = 0x61736b;
-
-pub const MAP_WORD: u64 = 0x6d6170;
-
-const FILL_WORD: u64 = 0x66696c6c;
-
-const ARRIVED_WORD: u64 = 0x61727269766564;
-
-const PRUNED_WORD: u64 = 0x7072756e6564;
-
-const SLIDE_WORD: u64 = 0x736c696465;
-
-const PASSABLE_WORD: u64 = 0x7061737361626c65;
-
-pub const ANSWER_SIGN: u64 = 0x3d;
-
-pub const COMMAND_SIGN: u64 = 0x3e;
-
-pub const PAIRS_SIGN: u64 = 0x3f;
-
-pub const STATE_SIGN: u64 = 0x2e;
-
-pub const LEFT_MAP_SIGN: u64 = 0x25;
-
-// The first word of a line as the number of its bytes, or 0.
-pub fn first_word(line: &[u8]) -> u64 {
-    let end = input::find(line, 0, b' ');
-    if 8 < end {
-        return 0;
-    }
-    fields::read(line, 0, end)
+// The calls of the map.
+#[derive(Clone, Copy, PartialEq, Eq)]
+pub enum MapCall {
+    Fill,
+    Arrived,
+    Pruned,
+    Slide,
+    Passable,
 }
 
-// The call that a first word asks for.
-pub fn call_of(head: u64) -> u8 {
-    match head {
-        STEP_WORD => STEPPING,
-        OPEN_WORD => OPENING,
-        ASK_WORD => ASKING,
-        FILL_WORD => FILLING,
-        ARRIVED_WORD => ARRIVING,
-        PRUNED_WORD => PRUNING,
-        SLIDE_WORD => SLIDING,
-        PASSABLE_WORD => PASSING,
-        _ => NO_CALL,
+// The calls on a state area.
+#[derive(Clone, Copy, PartialEq, Eq)]
+pub enum AreaCall {
+    Open,
+    Step,
+    Ask,
+}
+
+// The calls that a line may ask for.
+#[derive(Clone, Copy, PartialEq, Eq)]
+pub enum Call {
+    Area(AreaCall),
+    Map(MapCall),
+}
+
+// What a line is, by its first word.
+#[derive(Clone, Copy, PartialEq, Eq)]
+pub enum Head {
+    Stream,
+    Call(Call),
+    // what the next call is lent
+    Put,
+    Poke,
+    Areas,
+    Map,
+    // what a call has to come to
+    Answer,
+    Command,
+    State,
+    Pairs,
+    LeftMap,
+}
+
+impl AreaCall {
+    // The call that a first word asks for.
+    fn named(word: &[u8]) -> Option<AreaCall> {
+        match word {
+            b"open" => Some(AreaCall::Open),
+            b"step" => Some(AreaCall::Step),
+            b"ask" => Some(AreaCall::Ask),
+            _ => None,
+        }
     }
 }
 
-// Whether a call is one of the map's.
-pub fn is_map_call(call: u8) -> bool {
-    FILLING <= call
+impl MapCall {
+    // The call that a first word asks for.
+    fn named(word: &[u8]) -> Option<MapCall> {
+        match word {
+            b"fill" => Some(MapCall::Fill),
+            b"arrived" => Some(MapCall::Arrived),
+            b"pruned" => Some(MapCall::Pruned),
+            b"slide" => Some(MapCall::Slide),
+            b"passable" => Some(MapCall::Passable),
+            _ => None,
+        }
+    }
 }
 
-// The words of a line that asks for a call of the map.
-fn map_call_words(call: u8, line: &[u8], numbers: &mut [u64; 17], bytes: &mut [u8]) -> Words
-    ensures { (result.a ≤ result.b) × ((result.b ≤ result.c) × ((result.c ≤ result.d) × ((result.d ≤ result.e) × (result.e ≤ length bytes.old)))) }
-{
-    if call == FILLING {
-        return read_words(line, 5, b"44x", numbers, bytes);
+impl Call {
+    // The call that a first word asks for.
+    fn named(word: &[u8]) -> Option<Call> {
+        match AreaCall::named(word) {
+            Some(call) => Some(Call::Area(call)),
+            None => {
+                let call = MapCall::named(word)?;
+                Some(Call::Map(call))
+            }
+        }
     }
-    if call == ARRIVING {
-        return read_words(line, 8, b"41", numbers, bytes);
+
+    // The shape of a line that asks for it.
+    pub fn shape(self) -> &'static [u8]
+        ensures { length result.now ≤ 17 }
+    {
+        match self {
+            Call::Area(AreaCall::Open) => b"844444",
+            Call::Area(AreaCall::Step) => b"1814xxx814114xxs",
+            Call::Area(AreaCall::Ask) => b"1",
+            Call::Map(MapCall::Fill) => b"44x",
+            Call::Map(MapCall::Arrived | MapCall::Pruned) => b"41",
+            Call::Map(MapCall::Slide) => b"4x",
+            Call::Map(MapCall::Passable) => b"",
+        }
     }
-    if call == PRUNING {
-        return read_words(line, 7, b"41", numbers, bytes);
+
+    // The shape of `=` behind it.
+    fn answer_shape(self) -> &'static [u8]
+        ensures { length result.now ≤ 17 }
+    {
+        match self {
+            Call::Area(AreaCall::Step) => b"444444444",
+            Call::Area(AreaCall::Ask) | Call::Map(MapCall::Passable) => b"44",
+            Call::Area(AreaCall::Open) | Call::Map(_) => b"4",
+        }
     }
-    if call == SLIDING {
-        return read_words(line, 6, b"4x", numbers, bytes);
-    }
-    read_words(line, 9, b"", numbers, bytes)
 }
 
-// The words of a line that asks for a call.
-pub fn call_words(call: u8, line: &[u8], numbers: &mut [u64; 17], bytes: &mut [u8]) -> Words
-    ensures { (result.a ≤ result.b) × ((result.b ≤ result.c) × ((result.c ≤ result.d) × ((result.d ≤ result.e) × (result.e ≤ length bytes.old)))) }
-{
-    if is_map_call(call) {
-        return map_call_words(call, line, numbers, bytes);
+impl Head {
+    // What a line is that says what a call has to come to.
+    fn expecting(word: &[u8]) -> Option<Head> {
+        match word {
+            b"=" => Some(Head::Answer),
+            b">" => Some(Head::Command),
+            b"." => Some(Head::State),
+            b"?" => Some(Head::Pairs),
+            b"%" => Some(Head::LeftMap),
+            _ => None,
+        }
     }
-    if call == OPENING {
-        return read_words(line, 5, b"844444", numbers, bytes);
-    }
-    if call == ASKING {
-        return read_words(line, 4, b"1", numbers, bytes);
-    }
-    read_words(line, 5, b"1814xxx814114xxs", numbers, bytes)
-}
 
-// The words of `=`, by the call that was made.
-fn answer_words(made: u8, line: &[u8], numbers: &mut [u64; 17], bytes: &mut [u8]) -> Words
-    ensures { (result.a ≤ result.b) × ((result.b ≤ result.c) × ((result.c ≤ result.d) × ((result.d ≤ result.e) × (result.e ≤ length bytes.old)))) }
-{
-    if made == STEPPING {
-        return read_words(line, 2, b"444444444", numbers, bytes);
+    // What a line is that stands before a call.
+    fn giving(word: &[u8]) -> Option<Head> {
+        match word {
+            // NUL bytes in front of it are read past.
+            b"stream" | b"\x00stream" | b"\x00\x00stream" => Some(Head::Stream),
+            b"put" => Some(Head::Put),
+            b"poke" => Some(Head::Poke),
+            b"areas" => Some(Head::Areas),
+            b"map" => Some(Head::Map),
+            _ => Head::expecting(word),
+        }
     }
-    if (made == ASKING) | (made == PASSING) {
-        return read_words(line, 2, b"44", numbers, bytes);
-    }
-    read_words(line, 2, b"4", numbers, bytes)
-}
 
-// The words of a line that says what a call has to come to.
-fn expected_words(
-    head: u64,
-    made: u8,
-    line: &[u8],
-    numbers: &mut [u64; 17],
-    bytes: &mut [u8],
-) -> Words
-    ensures { (result.a ≤ result.b) × ((result.b ≤ result.c) × ((result.c ≤ result.d) × ((result.d ≤ result.e) × (result.e ≤ length bytes.old)))) }
-{
-    if head == STATE_SIGN {
-        return read_words(line, 2, b"1p88844411xxx", numbers, bytes);
+    // What a line is; nothing where its first word is none of host/fixed.
+    pub fn of(line: &[u8]) -> Option<Head> {
+        let end = input::find(line, 0, b' ');
+        let word = &line[..end];
+        match Call::named(word) {
+            Some(call) => Some(Head::Call(call)),
+            None => Head::giving(word),
+        }
     }
-    if head == COMMAND_SIGN {
-        return read_words(line, 2, b"11284x", numbers, bytes);
-    }
-    if (head == PAIRS_SIGN) | (head == LEFT_MAP_SIGN) {
-        return read_words(line, 2, b"x", numbers, bytes);
-    }
-    answer_words(made, line, numbers, bytes)
-}
 
-// The words of any other line, by its first word; those of `=` by the call that was made.
-pub fn words_of(
-    head: u64,
-    made: u8,
-    line: &[u8],
-    numbers: &mut [u64; 17],
-    bytes: &mut [u8],
-) -> Words
-    ensures { (result.a ≤ result.b) × ((result.b ≤ result.c) × ((result.c ≤ result.d) × ((result.d ≤ result.e) × (result.e ≤ length bytes.old)))) }
-{
-    if head == PUT_WORD {
-        return read_words(line, 4, b"44441p88844411xxx", numbers, bytes);
+    // The shape of such a line; that of `=` goes by the call that was made.
+    pub fn shape(self, made: Call) -> &'static [u8]
+        ensures { length result.now ≤ 17 }
+    {
+        match self {
+            Head::Stream => b"s",
+            Head::Call(call) => call.shape(),
+            Head::Put => b"44441p88844411xxx",
+            Head::Poke => b"4x",
+            Head::Areas => b"44",
+            Head::Map | Head::Pairs | Head::LeftMap => b"x",
+            Head::Answer => made.answer_shape(),
+            Head::Command => b"11284x",
+            Head::State => b"1p88844411xxx",
+        }
     }
-    if head == POKE_WORD {
-        return read_words(line, 5, b"4x", numbers, bytes);
-    }
-    if head == AREAS_WORD {
-        return read_words(line, 6, b"44", numbers, bytes);
-    }
-    if head == MAP_WORD {
-        return read_words(line, 4, b"x", numbers, bytes);
-    }
-    expected_words(head, made, line, numbers, bytes)
 }

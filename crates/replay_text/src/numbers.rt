@@ -1,4 +1,5 @@
-// The numbers of a line, as wide as the exported entries take them.
+// The numbers of a line, as wide as the exported entries take them. The shape of a line has bounded them, so that each fits.
+// `of_step` and `of_opening` name the order of a line. A generic function in place of `byte` and `half` would be given the greatest number at each call.
 
 // The numbers of a step, in the order of its line.
 #[derive(Clone, Copy)]
@@ -26,14 +27,14 @@ pub struct Opening {
     pub stall: u32,
 }
 
-// The shape of a line has bounded these numbers.
+// A number as a byte.
 pub fn byte(n: u64) -> u8 {
-    (n % 256) as u8
+    u8::try_from(n).unwrap_or(u8::MAX)
 }
 
-// The same for a number of 32 bits.
+// A number of 32 bits.
 pub fn half(n: u64) -> u32 {
-    (n % 4294967296) as u32
+    u32::try_from(n).unwrap_or(u32::MAX)
 }
 
 // The numbers of a step's line.

@@ -1,51 +1,36 @@
 -- A letter and a space in front decide which fields follow (FieldLaws).
-use native.Mathlib.Omega.{arith}
-use Rattle.keeper_lines.proofs.FieldLaws.{too_short, no_letter, by_letter_lem}
-use Rattle.keeper_lines.specs.Line.{by_letter, line_of}
-use Rattle.keeper_lines.specs.Reading.{fields_behind}
+use Rattle.std.proofs.Common.{◌≡◌, get_or, sym, arith}
 use borrow.Author.Tests.{ne_eqb}
-use Prim.Native.Nat.{ℕ}
-use mathlib.Core.Path.{◌≡◌, sym}
-use mathlib.Core.List.{List}
-use lib.ListN.{get_or}
-use Rattle.keeper_lines.proofs.lines.parse.Goals.{Else-line-ne32}
+use Rattle.keeper_lines.proofs.FieldLaws.{too_short, no_letter, by_letter_lem}
+use Rattle.keeper_lines.specs.Line.{by_letter}
 use Rattle.keeper_lines.proofs.lines.parse.Goals as goal
 
--- a letter and a space in front
-module _ (c : Else-line-ne32) where
-  abbrev line : List ℕ
-  line = c.args.line.now
+pub returns-in_default : goal.returns-in_default
+returns-in_default c = sym (too_short c.args.line.now (omega arith))
 
-  lettered : line_of line ≡ by_letter (get_or line 0 0) (fields_behind 1 line)
-  lettered = by_letter_lem line (omega arith) c.if-line-ne32.false
+pub returns-in_default-2 : goal.returns-in_default-2
+returns-in_default-2 c = sym (no_letter c.args.line.now (omega arith) (λ e. omega arith))
 
-pub returns-then-line-lt2 : goal.returns-then-line-lt2
-returns-then-line-lt2 c = sym (too_short c.args.line.now c.if-line-lt2.true)
-
-pub returns-then-line-ne32 : goal.returns-then-line-ne32
-returns-then-line-ne32 c = sym (no_letter c.args.line.now (omega arith) c.if-line-ne32.true)
-
-pub returns-then-letter-eq116 : goal.returns-then-letter-eq116
+pub returns-in-116 : goal.returns-in-116
 unfolding by_letter
-returns-then-letter-eq116 c =
-    let past = (goal.at.returns-then-letter-eq116 c).Else-line-ne32 in
-    rw (lettered past, c.if-letter-eq116.true) c.settings.ensures
+returns-in-116 c =
+    let first : get_or c.args.line.now 0 0 ≡ 116 = omega arith in
+    rw (by_letter_lem c.args.line.now (omega arith) (omega arith), first) c.settings.ensures
 
-pub returns-then-letter-eq113 : goal.returns-then-letter-eq113
+pub returns-in-113 : goal.returns-in-113
 unfolding by_letter
-returns-then-letter-eq113 c =
-    let past = (goal.at.returns-then-letter-eq113 c).Else-line-ne32 in
-    rw (lettered past, c.if-letter-eq113.true) c.request.ensures
+returns-in-113 c =
+    let first : get_or c.args.line.now 0 0 ≡ 113 = omega arith in
+    rw (by_letter_lem c.args.line.now (omega arith) (omega arith), first) c.request.ensures
 
-pub returns-then-letter-eq99 : goal.returns-then-letter-eq99
+pub returns-in-99 : goal.returns-in-99
 unfolding by_letter
-returns-then-letter-eq99 c =
-    let past = (goal.at.returns-then-letter-eq99 c).Else-line-ne32 in
-    rw (lettered past, c.if-letter-eq99.true) c.check.ensures
+returns-in-99 c =
+    let first : get_or c.args.line.now 0 0 ≡ 99 = omega arith in
+    rw (by_letter_lem c.args.line.now (omega arith) (omega arith), first) c.check.ensures
 
-pub returns : goal.returns
+pub returns-in_default-letter : goal.returns-in_default-letter
 unfolding by_letter
-returns c =
-    let past = (goal.at.returns c).Else-line-ne32 in
-    let first = get_or (line past) 0 0 in
-    rw (lettered past, ne_eqb first 116 c.if-letter-eq116.false, ne_eqb first 113 c.if-letter-eq113.false, ne_eqb first 99 c.if-letter-eq99.false)
+returns-in_default-letter c =
+    let first = get_or c.args.line.now 0 0 in
+    rw (by_letter_lem c.args.line.now (omega arith) (omega arith), ne_eqb first 116 (λ e. omega arith), ne_eqb first 113 (λ e. omega arith), ne_eqb first 99 (λ e. omega arith))

@@ -1,64 +1,37 @@
--- The digits' own answers, put together by `hex_two`.
-use native.Mathlib.Omega.{arith}
-use Prim.Native.Nat.{ℕ}
-use mathlib.Core.Path.{◌≡◌}
-use mathlib.Core.List.{List}
-use mathlib.Core.Option.{Option, some}
-use lib.ListN.{get_or}
-use Rattle.keeper_lines.specs.Number.{hex_digit, number_of}
-use Rattle.keeper_lines.proofs.NumberLaws.{value_of, nothing_of, hex_two, hex_not_two, hex_below}
-use Rattle.keeper_lines.proofs.numerals.read_hex.Goals.{In-Value, In-Value-hex_digit}
+-- The two digits' answers, put together by `hex_two`.
+use Rattle.std.proofs.Common.{◌≡◌, length, None, Some, get_or, arith}
+use Rattle.keeper_lines.specs.Number.{hex_digit}
+use Rattle.keeper_lines.proofs.NumberLaws.{digit_read, no_digit, hex_two, hex_not_two}
 use Rattle.keeper_lines.proofs.numerals.read_hex.Goals as goal
 
--- ---- the two digits
-
-abbrev high : List ℕ → Option ℕ
-high s = hex_digit (get_or s 0 0)
-
-abbrev low : List ℕ → Option ℕ
-low s = hex_digit (get_or s 1 0)
-
-module _ (c : In-Value) where
-  high_read : high c.args.s.now ≡ some c.in-Value.high
-  high_read =
-      let first : c.hex_digit.result ≡ number_of (high c.args.s.now) = rw c.wide.ensures at c.hex_digit.ensures in
-      value_of (high c.args.s.now) first c.in-Value.is
-
-module _ (c : In-Value-hex_digit) where
-  low_read : low c.args.s.now ≡ some c.in-Value-hex_digit.low
-  low_read =
-      let second : c.hex_digit-2.result ≡ number_of (low c.args.s.now) = rw c.wide-2.ensures at c.hex_digit-2.ensures in
-      value_of (low c.args.s.now) second c.in-Value-hex_digit.is
-
--- ---- the goals
-
-pub returns-then-s-ne2 : goal.returns-then-s-ne2
-returns-then-s-ne2 c = rw (hex_not_two c.args.s.now c.if-s-ne2.true)
-
 pub returns-in_default : goal.returns-in_default
-returns-in_default c =
+returns-in_default c = rw (hex_not_two c.args.s.now (λ e. omega arith))
+
+pub returns-in_default-2 : goal.returns-in_default-2
+returns-in_default-2 c = rw (hex_not_two c.args.s.now (λ e. omega arith))
+
+pub returns-in_err-high : goal.returns-in_err-high
+returns-in_err-high c =
     let s = c.args.s.now in
-    let first : c.hex_digit.result ≡ number_of (high s) = rw c.wide.ensures at c.hex_digit.ensures in
-    rw (hex_two s c.if-s-ne2.false, nothing_of (high s) first c.in_default.is)
+    let two : length s ≡ 2 = omega arith in
+    let high : hex_digit (get_or s 0 0) ≡ None = rw c.from.ensures at (no_digit c.from.result c.in_err-high.ensures.value) in
+    rw (c.from_residual.ensures, hex_two s two, high)
 
-pub returns-in_default-hex_digit : goal.returns-in_default-hex_digit
-returns-in_default-hex_digit c =
+pub returns-in_err-low : goal.returns-in_err-low
+returns-in_err-low c =
     let s = c.args.s.now in
-    let past = (goal.at.returns-in_default-hex_digit c).In-Value in
-    let second : c.hex_digit-2.result ≡ number_of (low s) = rw c.wide-2.ensures at c.hex_digit-2.ensures in
-    rw (hex_two s c.if-s-ne2.false, high_read past, nothing_of (low s) second c.in_default-hex_digit.is)
-
-pub overflow_mul-result : goal.overflow_mul-result
-overflow_mul-result c = let past = (goal.at.overflow_mul-result c).In-Value in omega (arith, hex_below _ _ (high_read past))
-
-pub overflow_add-result : goal.overflow_add-result
-overflow_add-result c =
-    let past = (goal.at.overflow_add-result c).In-Value in
-    let last = (goal.at.overflow_add-result c).In-Value-hex_digit in
-    omega (arith, hex_below _ _ (high_read past), hex_below _ _ (low_read last))
+    let two : length s ≡ 2 = omega arith in
+    let high : hex_digit (get_or s 0 0) ≡ Some c.in_ok-high.high =
+    rw c.from.ensures at (digit_read _ _ (omega (arith, c.in_ok-high.ensures.value)) c.in_ok-high.ensures.cases) in
+    let low : hex_digit (get_or s 1 0) ≡ None = rw c.from-2.ensures at (no_digit c.from-2.result c.in_err-low.ensures.value) in
+    rw (c.from_residual-in_err-low.ensures, hex_two s two, high, low)
 
 pub returns : goal.returns
 returns c =
-    let past = (goal.at.returns c).In-Value in
-    let last = (goal.at.returns c).In-Value-hex_digit in
-    rw (hex_two c.args.s.now c.if-s-ne2.false, high_read past, low_read last)
+    let s = c.args.s.now in
+    let two : length s ≡ 2 = omega arith in
+    let high : hex_digit (get_or s 0 0) ≡ Some c.in_ok-high.high =
+    rw c.from.ensures at (digit_read _ _ (omega (arith, c.in_ok-high.ensures.value)) c.in_ok-high.ensures.cases) in
+    let low : hex_digit (get_or s 1 0) ≡ Some c.in_ok-low.low =
+    rw c.from-2.ensures at (digit_read _ _ (omega (arith, c.in_ok-low.ensures.value)) c.in_ok-low.ensures.cases) in
+    rw (hex_two s two, high, low)

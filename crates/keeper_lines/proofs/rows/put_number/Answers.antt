@@ -10,11 +10,5 @@ module _ (c : After-put_digits-end) where
       number_marked c.args.at c.args.mark c.args.out.now c.put_digits-end.new.out c.args.n _ c.requires
       c.put_digits-end.ensures
 
-pub bounds-out-end : goal.bounds-out-end
-bounds-out-end c = let digits = (goal.at.bounds-out-end c).After-put_digits-end in (marked digits).room
-
-pub overflow_add-result : goal.overflow_add-result
-overflow_add-result c = let digits = (goal.at.overflow_add-result c).After-put_digits-end in omega (arith, (marked digits).room)
-
 pub returns : goal.returns
 returns c = let digits = (goal.at.returns c).After-put_digits-end in (marked digits).put

@@ -6,7 +6,7 @@ use Rattle.model.specs.Settings.{Settings}
 use Rattle.model.specs.Delivery.{Request}
 use Rattle.settings.specs.Values.{settings_of}
 use Rattle.commands.specs.Pending.{requests_in}
-use Rattle.keeper_text.proofs.FitLaws.{fits_stamps, fits_checks}
+use Rattle.keeper_text.proofs.FitLaws.{fits_checks}
 use Rattle.keeper_text.proofs.KeptLaws.{kept_few}
 use Rattle.keeper_text.proofs.LineLaws.{refuses_check, InTime, fit_now, checks}
 use Rattle.keeper_text.proofs.keeping.check.Goals.{Else-not-in_order}
@@ -45,8 +45,7 @@ check_timeouts-made-requires c =
     record {
       count_le_tracked_limit = (omega (arith, few), (omega (arith, few, c.requires.0.room), omega (arith, few)));
       table_value = c.requires.0.order;
-      all = fits_stamps limits c.args.clock rs fit;
-      all_2 = fits_checks limits c.args.clock (omega (arith, c.well_formed)) rs fit;
+      countable = fits_checks limits c.args.clock (omega (arith, c.well_formed)) rs fit;
     }
 
 pub returns : goal.returns

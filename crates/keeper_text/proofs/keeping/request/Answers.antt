@@ -35,28 +35,31 @@ returns-then-not-in_order c =
       holds = whole.1.1;
     }
 
-pub request_announced-requires : goal.request_announced-requires
+-- no pairs are rising ones
+pub invariant_of-none-clause-fit : goal.invariant_of-none-clause-fit
 unfolding pairs_fit list_fits rising
+invariant_of-none-clause-fit c = refl
+
+pub request_announced-requires : goal.request_announced-requires
 request_announced-requires c =
     record {
-      id_size_len = (refl, (omega arith, (omega (arith, kept_few c.requires), (omega arith, omega (arith, c.requires.room)))));
+      ids_len_bound = (omega arith, (omega (arith, kept_few c.requires), (omega arith, omega (arith, c.requires.room))));
       table_value = c.requires.order;
-      stored_value = refl;
       ids_in_bounds = (omega arith, (omega arith, omega arith));
     }
 
-pub returns-in-Full : goal.returns-in-Full
+pub returns-in_default : goal.returns-in_default
 unfolding id_of
-returns-in-Full c =
-    let here = (goal.at.returns-in-Full c).Else-not-in_order in
-    absurd (never_full (asked here) _ _ refl refl c.in-Full.is c.request_announced.ensures.value)
+returns-in_default c =
+    let here = (goal.at.returns-in_default c).Else-not-in_order in
+    absurd (never_full (asked here) _ _ refl refl c.in_default.field-0 c.in_default.is c.request_announced.ensures.value)
 
-pub returns-in-Done : goal.returns-in-Done
+pub returns : goal.returns
 unfolding id_of
-returns-in-Done c =
-    let here = (goal.at.returns-in-Done c).Else-not-in_order in
+returns c =
+    let here = (goal.at.returns c).Else-not-in_order in
     let says = c.request_announced.ensures in
-    let whole = requests (asked here) _ _ refl refl here.args.at c.in-Done.is says.value says.table_after in
+    let whole = requests (asked here) _ _ refl refl here.args.at c.in-Ok.is says.value says.table_after in
     record {
       value = whole.0;
       table_after = whole.1.0;

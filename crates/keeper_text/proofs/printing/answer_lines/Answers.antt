@@ -1,38 +1,21 @@
 -- The lines before `from` are answered, and the rest will print what is left: `Running`.
-use native.Mathlib.Omega.{arith}
 use mathlib.Core.Path.{refl, ◌∙◌}
-use Rattle.keeper_text.proofs.TextLaws.{run_starts, run_room, run_ends, run_stops, run_turn}
+use Rattle.keeper_text.proofs.TextLaws.{run_starts, run_ends, run_stops, run_turn}
 use Rattle.keeper_text.proofs.printing.answer_lines.Goals as goal
 
 pub loop-end-init : goal.loop-end-init
 loop-end-init c =
     (run_starts c.args.text.now c.args.out.now c.args.keeper c.args.table.now _ c.requires.1 c.requires.0 c.line_end-end.ensures, refl)
 
-pub slice_bounds-answer_line-count : goal.slice_bounds-answer_line-count
-slice_bounds-answer_line-count c = omega (arith, c.loop-end.invariant.0.next)
-
-pub slice_bounds-answer_line-start : goal.slice_bounds-answer_line-start
-slice_bounds-answer_line-start c = omega (arith, c.loop-end.invariant.0.next)
-
-pub slice_bounds-answer_line-end : goal.slice_bounds-answer_line-end
-slice_bounds-answer_line-end c = omega (arith, c.loop-end-test.true)
-
-pub answer_line-requires : goal.answer_line-requires
-answer_line-requires c = (c.loop-end.invariant.0.kept, run_room c.loop-end.invariant.0)
-
 pub returns-in_default : goal.returns-in_default
 returns-in_default c =
     let says = c.answer_line.ensures in
     run_stops c.loop-end.invariant.0 c.loop-end-test.true c.in_default.is (says.value, (says.table_after, (says.out_after, says.holds)))
 
-pub loop-end-smaller : goal.loop-end-smaller
-loop-end-smaller c =
-    omega (arith, c.loop-end.invariant.0.next, c.loop-end-test.true)
-
 pub loop-end-preserved : goal.loop-end-preserved
 loop-end-preserved c =
     let says = c.answer_line.ensures in (
-      run_turn c.loop-end.invariant.0 c.loop-end-test.true c.in-Next.is (says.value, (says.table_after, (says.out_after, says.holds))) c.line_end-end-in-loop-end.ensures,
+      run_turn c.loop-end.invariant.0 c.loop-end-test.true c.in-Some.is (says.value, (says.table_after, (says.out_after, says.holds))) c.line_end-end-in-loop-end.ensures,
       c.answer_line.auto.table ∙ c.loop-end.invariant.1,
     )
 

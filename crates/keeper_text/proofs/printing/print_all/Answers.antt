@@ -1,6 +1,5 @@
 -- What was written and what the last line adds are all that is printed: `all_stopped`, `all_printed`.
-use native.Mathlib.Omega.{arith}
-use Rattle.keeper_text.proofs.TextLaws.{first_kept, Read, read_from_start, left_whole, all_stopped, all_printed}
+use Rattle.keeper_text.proofs.TextLaws.{first_kept, Read, read_from_start, all_stopped, all_printed}
 use Rattle.keeper_text.proofs.printing.print_all.Goals.{After-answer_lines-done}
 use Rattle.keeper_text.proofs.printing.print_all.Goals as goal
 
@@ -15,31 +14,19 @@ pub answer_lines-done-requires : goal.answer_lines-done-requires
 answer_lines-done-requires c =
     (first_kept c.at_first-keeper.result c.args.table.now c.at_first-keeper.ensures c.requires.0, c.requires.1)
 
-pub returns-then-done : goal.returns-then-done
-returns-then-done c =
-    let lines = (goal.at.returns-then-done c).After-answer_lines-done in
-    let whole = all_stopped (read lines) c.if-done.true in
+pub returns-in_default : goal.returns-in_default
+returns-in_default c =
+    let lines = (goal.at.returns-in_default c).After-answer_lines-done in
+    let whole = all_stopped (read lines) c.in_default.is in
     record {
       out_after = whole.0;
       value = whole.1;
     }
 
-pub slice_bounds-answer_last-count : goal.slice_bounds-answer_last-count
-slice_bounds-answer_last-count c = omega (arith, c.answer_lines-done.ensures.within)
-
-pub slice_bounds-answer_last-start : goal.slice_bounds-answer_last-start
-slice_bounds-answer_last-start c = omega (arith, c.answer_lines-done.ensures.within)
-
-pub answer_last-requires : goal.answer_last-requires
-answer_last-requires c =
-    let lines = (goal.at.answer_last-requires c).After-answer_lines-done in
-    let says = lines.answer_lines-done.ensures in
-    record { kept = (says.kept c.if-done.false, says.place); text_value = left_whole (read lines) c.if-done.false }
-
 pub returns : goal.returns
 returns c =
     let lines = (goal.at.returns c).After-answer_lines-done in
-    let whole = all_printed (read lines) c.if-done.false c.answer_last.new.out c.answer_last.result (c.answer_last.ensures.out_after, c.answer_last.ensures.value) in
+    let whole = all_printed (read lines) c.in-Some.rest c.in-Some.is c.answer_last.new.out c.answer_last.result (c.answer_last.ensures.out_after, c.answer_last.ensures.value) in
     record {
       out_after = whole.0;
       value = whole.1;

@@ -1,9 +1,0 @@
--- The index stays within the size.
-use Rattle.std.proofs.Common.{◌-◌, ◌≤◌}
-use Rattle.replay_text.proofs.areas.same_bytes.Given as goal
-
-abbrev pub invariant-loop-i : goal.invariant-loop-i
-invariant-loop-i l = l.i ≤ l.size
-
-abbrev pub decreases-loop-i : goal.decreases-loop-i
-decreases-loop-i l = l.size - l.i
