@@ -12,8 +12,10 @@ const CUTTING: [&str; 3] = [
     "crates/commands/src/writing.rt",
 ];
 
-/// What they call, all the way down: numbers as bytes, sizes, copies.
-const CALLED: [&str; 5] = [
+/// What they call, all the way down: kinds and places, numbers as bytes, sizes, copies.
+const CALLED: [&str; 7] = [
+    "crates/commands/src/kind.rt",
+    "crates/commands/src/place.rt",
     "crates/fields/src/lib.rt",
     "crates/model/src/layout.rt",
     "crates/model/src/lib.rt",
@@ -35,7 +37,9 @@ fn no_division_where_ids_are_cut() {
 #[test]
 fn the_files_searched_are_these() {
     let files = Vec::from_iter(searched().files);
-    assert_eq!(files, [&CUTTING[..], &CALLED].concat());
+    let mut these = [&CUTTING[..], &CALLED].concat();
+    these.sort_unstable();
+    assert_eq!(files, these);
 }
 
 const CUT: &str = "crates/cut/src/lib.rt";
@@ -142,5 +146,15 @@ fn a_path_that_leads_nowhere_is_told() {
         let searched = searched_in(&[(CUT, line), ("crates/sizes/src/lib.rt", "")]);
         let expected = format!("{CUT}:1: {path} leads to no file");
         assert_eq!(searched.faults, [expected]);
+    }
+}
+
+#[test]
+fn sums_of_the_library_and_calls_with_a_size_are_told_of_nothing() {
+    for line in [
+        "u32::from_be_bytes(s[at..at + 4].try_into().unwrap())",
+        "put::<32>(s, from + done, to + done);",
+    ] {
+        assert_eq!(searched_in(&[(CUT, line)]).faults, [""; 0], "{line}");
     }
 }

@@ -11,8 +11,9 @@ fn pages(root: &Path) -> Vec<PathBuf> {
     for folder in ["docs", "docs/changes"] {
         let entries = fs::read_dir(root.join(folder)).expect("there is such a folder");
         let listed = entries.map(|entry| entry.expect("a page").path());
-        // The page on the port lists names that are gone.
-        pages.extend(listed.filter(|path| path.is_file() && !path.ends_with("PORT.md")));
+        // The pages on the port and on the design pass list names that are gone.
+        let gone = |path: &Path| path.ends_with("PORT.md") || path.ends_with("DESIGN-PASS.md");
+        pages.extend(listed.filter(|path| path.is_file() && !gone(path)));
     }
     pages.extend(
         ["README.md", "host/README.md", "host/fixed/README.md"].map(|page| root.join(page)),
