@@ -12,7 +12,7 @@ use Rattle.fields.specs.Number.{from_be, to_be}
 use Rattle.fields.specs.Zero.{zeros}
 use Rattle.fields.specs.Overwrite.{overwritten}
 use Rattle.fields.proofs.NumberLaws.{bytes_take, bytes_drop, to_be_from_be}
-use Rattle.fields.proofs.OverwriteLaws.{overwritten_nil, overwritten_next, length_overwritten, take_before, drop_after, overwritten_same}
+use Rattle.fields.proofs.OverwriteLaws.{overwritten_nil, overwritten_next, overwritten_in_front, length_overwritten, part_before, take_before, drop_after, overwritten_same}
 use Rattle.fields.proofs.ZeroLaws.{length_zeros}
 use Rattle.spans.specs.Move.{moved}
 
@@ -52,6 +52,27 @@ moved_next from to m n s h k =
     let lb : length (take n (drop (from + m) s)) ≡ n = length_part (from + m) n s (omega arith) in
     rw (← part_add from m n s) (rw la at (overwritten_next to (take m (drop from s)) (take n (drop (from + m) s)) s (omega arith)))
 
+-- the first m bytes, read before the last n were written
+moved_front : (from to m n : ℕ) (s : List ℕ) → from + (m + n) ≤ length s → to + (m + n) ≤ length s
+    → overwritten to (take m (drop from s)) (moved (from + m) (to + m) n s) ≡ moved from to (m + n) s
+unfolding moved
+moved_front from to m n s h k =
+    let a : List ℕ = take m (drop from s) in
+    let b : List ℕ = take n (drop (from + m) s) in
+    let la : length a ≡ m = length_part from m s (omega arith) in
+    let lb : length b ≡ n = length_part (from + m) n s (omega arith) in
+    rw (← part_add from m n s) (rw la at (overwritten_in_front to a b s (omega arith)))
+
+-- up, the last n bytes before the first m
+moved_up : (from to m n : ℕ) (s : List ℕ) → from ≤ to → to + (m + n) ≤ length s
+    → moved from to m (moved (from + m) (to + m) n s) ≡ moved from to (m + n) s
+unfolding moved
+moved_up from to m n s o h =
+    let lb : length (take n (drop (from + m) s)) ≡ n = length_part (from + m) n s (omega arith) in
+    let p : take m (drop from (overwritten (to + m) (take n (drop (from + m) s)) s)) ≡ take m (drop from s) =
+    part_before (to + m) (take n (drop (from + m) s)) s (omega arith) from m (omega arith) in
+    rw p (moved_front from to m n s (omega arith) h)
+
 -- down, the first m bytes before the last n
 moved_down : (from to m n : ℕ) (s : List ℕ) → to ≤ from → from + (m + n) ≤ length s
     → moved (from + m) (to + m) n (moved from to m s) ≡ moved from to (m + n) s
@@ -63,6 +84,15 @@ moved_down from to m n s o h =
     rw d (moved_next from to m n s h (omega arith))
 
 -- a loop that moves `step` bytes a turn: s is what was, t the state, u the next one
+pub up_turn : (from to size : ℕ) (s t u : List ℕ) (left step : ℕ) → from ≤ to → to + size ≤ length s → step ≤ left → left ≤ size → t ≡ moved (from + left) (to + left) (size - left) s
+    → u ≡ moved (from + (left - step)) (to + (left - step)) step t → u ≡ moved (from + (left - step)) (to + (left - step)) (size - (left - step)) s
+up_turn from to size s t u left step o h a b e f =
+    let f₁ : from + left ≡ from + (left - step) + step = omega arith in
+    let t₁ : to + left ≡ to + (left - step) + step = omega arith in
+    let z : step + (size - left) ≡ size - (left - step) = omega arith in
+    let e' : t ≡ moved (from + (left - step) + step) (to + (left - step) + step) (size - left) s = rw (f₁, t₁) at e in
+    f ∙ rw e' (rw z at (moved_up (from + (left - step)) (to + (left - step)) step (size - left) s (omega arith) (omega arith)))
+
 pub down_turn : (from to size : ℕ) (s t u : List ℕ) (done step : ℕ) → to ≤ from → from + size ≤ length s → done + step ≤ size → t ≡ moved from to done s
     → u ≡ moved (from + done) (to + done) step t → u ≡ moved from to (done + step) s
 down_turn from to size s t u done step o h a e f = f ∙ rw e (moved_down from to done step s o (omega arith))
@@ -107,6 +137,29 @@ module _ (from to size : ℕ) (s : List ℕ) (inside : from + size ≤ length s)
       let again : to_be 8 word ≡ take 8 (drop (from + (size - 8)) s) = word_again (from + (size - 8)) 8 word s b (omega arith) w in
       let z : size - 8 + (done - (size - 8)) ≡ done = omega arith in
       q ∙ rw (again, e) (rw z at (over_last (size - 8) (done - (size - 8)) 8 (omega arith) (omega arith)))
+
+  -- the first n bytes, where all but m of them have moved
+  over_first : (m n : ℕ) → m ≤ n → n ≤ size → overwritten to (take n (drop from s)) (moved (from + m) (to + m) (size - m) s) ≡ moved from to size s
+  over_first m n h g =
+      let a : List ℕ = take (n - m) (drop (from + m) s) in
+      let b : List ℕ = take n (drop from s) in
+      let rest : List ℕ = moved (from + n) (to + n) (size - n) s in
+      let la : length a ≡ n - m = length_part (from + m) (n - m) s (omega arith) in
+      let lb : length b ≡ n = length_part from n s (omega arith) in
+      let l : length rest ≡ length s = length_moved (from + n) (to + n) (size - n) s (omega arith) (omega arith) in
+      let c : overwritten to b (overwritten (to + m) a rest) ≡ overwritten to b rest = covered to (to + m) a b rest (omega arith) (omega arith) (omega arith) in
+      let i : from + m + (n - m) ≡ from + n = omega arith in
+      let j : to + m + (n - m) ≡ to + n = omega arith in
+      let z : n - m + (size - n) ≡ size - m = omega arith in
+      let w : n + (size - n) ≡ size = omega arith in
+      let d : overwritten (to + m) a rest ≡ moved (from + m) (to + m) (size - m) s =
+      rw (i, j, z) at (moved_front (from + m) (to + m) (n - m) (size - n) s (omega arith) (omega arith)) in
+      rw (← d, c) (rw w at (moved_front from to n (size - n) s (omega arith) (omega arith)))
+
+  -- the same of the first word
+  pub first_word : (word left : ℕ) (t u : List ℕ) → Bytes s → 8 ≤ size → left ≤ 8 → word ≡ from_be (take 8 (drop from s))
+      → t ≡ moved (from + left) (to + left) (size - left) s → u ≡ overwritten to (to_be 8 word) t → u ≡ moved from to size s
+  first_word word left t u b h k w e q = q ∙ rw (word_again from 8 word s b (omega arith) w, e) (over_first left 8 k h)
 
 -- ---- a part that was lent
 

@@ -6,15 +6,6 @@ ghost use Rattle.fields.specs.Zero.{zeros};
 ghost use Rattle.fields.specs.Overwrite.{overwritten};
 ghost use Rattle.spans.specs.Move.{moved};
 
-// The `size` bytes from `from` on moved up to `to`.
-pub fn move_up(s: &mut [u8], from: usize, to: usize, size: usize)
-    requires { (from ≤ to) × (to + size ≤ length s.old) }
-    ensures { s.new ≡ moved from to size s.old }
-{
-    let end = from + size;
-    s.copy_within(from..end, to);
-}
-
 // N bytes moved. All are read before one is written, so the two places may overlap either way.
 fn move_part<const N: usize>(s: &mut [u8], from: usize, to: usize)
     requires { (from + N ≤ length s.old) × (to + N ≤ length s.old) }
@@ -22,6 +13,40 @@ fn move_part<const N: usize>(s: &mut [u8], from: usize, to: usize)
 {
     let part: [u8; N] = s[from..from + N].try_into().unwrap();
     s[to..to + N].copy_from_slice(&part);
+}
+
+// Words moved up, from the last on, while there are more bytes than one word. Answers how many are left. Counted by hand, as the
+// second loop goes on where the first one stopped.
+fn move_words_up(s: &mut [u8], from: usize, to: usize, size: usize) -> usize
+    requires { (from ≤ to) × (to + size ≤ length s.old) }
+    ensures upper_bound { (result ≤ size) × (result ≤ 8) }
+    ensures s_after { s.new ≡ moved (from + result) (to + result) (size - result) s.old }
+{
+    let mut left = size;
+    while 32 <= left {
+        left -= 32;
+        move_part::<32>(s, from + left, to + left);
+    }
+    while 8 < left {
+        left -= 8;
+        move_part::<8>(s, from + left, to + left);
+    }
+    left
+}
+
+// The `size` bytes from `from` on moved up to `to`, by words, the first word read before the others are written and written over
+// what they left. With `copy_within`, one id announced into 1,000 takes twice as long.
+pub fn move_up(s: &mut [u8], from: usize, to: usize, size: usize)
+    requires { (from ≤ to) × (to + size ≤ length s.old) }
+    ensures { s.new ≡ moved from to size s.old }
+{
+    if size < 8 {
+        s.copy_within(from..from + size, to);
+        return;
+    }
+    let first = fields::read_u64(s, from);
+    move_words_up(s, from, to, size);
+    fields::write_u64(s, to, first);
 }
 
 // Words moved down, from the first on, while there are more bytes than one word. Answers how many are done. Counted by hand, as
