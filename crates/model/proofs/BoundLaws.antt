@@ -11,7 +11,7 @@ use Rattle.fields.specs.Facts.{All}
 use Rattle.fields.proofs.AllLaws.{all_append, either}
 use Rattle.fields.proofs.FilterLaws.{length_kept}
 use Rattle.fields.proofs.TotalLaws.{total, total_append}
-use Rattle.model.specs.Protocol.{Id, header_type, is_announceable, is_transaction, tracked_limit, window_size}
+use Rattle.model.specs.Protocol.{Id, is_announceable, is_transaction, tracked_limit, window_size}
 use Rattle.model.specs.Settings as settings
 use Rattle.model.specs.Settings.{Settings, throttled}
 use Rattle.model.specs.Delivery as delivery
@@ -26,7 +26,7 @@ use Rattle.model.specs.Events.{Outcome, Continue, Synced, BehindPeer, SyncPeerGo
 use Rattle.model.specs.Events.{continuation}
 use Rattle.model.specs.Steps
 use Rattle.model.specs.Steps.{Step, Args, is_check, say_to, advance_from, sections_from, continues, leaves, advances, advances_and_requests, enters_syncing}
-use Rattle.model.specs.Steps.{picks, is_at_tip, answers, hears_sync_info, hears_announced, ask_orphans, loses, ticks_syncing, ticks_synced, progresses, checks}
+use Rattle.model.specs.Steps.{picks, is_at_tip, answers, hears_sync_info, tells_tip, hears_announced, ask_orphans, loses, ticks_syncing, ticks_synced, progresses, checks}
 use Rattle.model.specs.Steps.{evicts, plan_of, plan, remaining, retried, performed, after, commands}
 use Rattle.model.specs.Commands.{commands_in}
 use Rattle.model.specs.Calls.{Call, args_of, step_bytes, call_refusal}
@@ -118,7 +118,7 @@ module _ (st : State) (a : Args) (tracked : length st.pending + length st.sync.e
 
   hears_announced_weight : (peer type_id : ℕ) (ids : List Id) → length ids ≤ tracked_limit → total act_weight (hears_announced st a peer type_id ids).acts ≤ most_bytes
   unfolding hears_announced continues
-  hears_announced_weight peer type_id [] l = go (eqb type_id header_type)
+  hears_announced_weight peer type_id [] l = go (tells_tip st a peer type_id)
     where
       go : (t : Bool) → total act_weight (cond t (is_at_tip st a [] st.sync.known_tip) (continues st a [])).acts ≤ most_bytes
       go true = at_tip_weight [] st.sync.known_tip (omega arith)

@@ -10,7 +10,7 @@ use native.Mathlib.Omega.{arith}
 use borrow.Author.Tests.{ne_eqb}
 use Rattle.fields.specs.Overwrite.{overwritten}
 use Rattle.fields.proofs.OverwriteLaws.{read_back}
-use Rattle.model.specs.Protocol.{Id, header_type}
+use Rattle.model.specs.Protocol.{Id}
 use Rattle.model.specs.Settings as settings
 use Rattle.model.specs.Settings.{Settings}
 use Rattle.model.specs.State.{is_mode, syncing, seeking, SendClock, State}
@@ -19,7 +19,7 @@ use Rattle.model.specs.Requests.{Act}
 use Rattle.model.specs.Events.{Outcome, Continue, Synced, BehindPeer, SyncPeerGone, Stalled, EndOfStream, tip_outcome, raised_tip, continuation}
 use Rattle.model.specs.Steps
 use Rattle.model.specs.Steps.{Step, Args, Plan, unmarked, without_peer, sent, continues, leaves, advances, advances_and_requests, enters_syncing, picks}
-use Rattle.model.specs.Steps.{is_at_tip, answers, hears_sync_info, hears_announced, ask_orphans, loses, ticks_syncing, ticks_synced, progresses, checks, evicts}
+use Rattle.model.specs.Steps.{is_at_tip, answers, hears_sync_info, tells_tip, hears_announced, ask_orphans, loses, ticks_syncing, ticks_synced, progresses, checks, evicts}
 use Rattle.model.specs.Steps.{plan_of, plan, after, commands}
 use Rattle.model.specs.Image.{decode, encode}
 use Rattle.model.specs.Commands.{commands_in}
@@ -102,7 +102,7 @@ module _ (st : State) (a : Args) where
 
   goes_announced : {step : Step} (peer type_id : ℕ) (ids : List Id) → Goes step (hears_announced st a peer type_id ids)
   unfolding hears_announced is_at_tip continues unmarked
-  goes_announced peer type_id [] = go (eqb type_id header_type)
+  goes_announced peer type_id [] = go (tells_tip st a peer type_id)
     where
       go : {step : Step} (t : Bool) → Goes step (cond t (is_at_tip st a [] st.sync.known_tip) (continues st a []))
       go true = stays

@@ -13,7 +13,7 @@ use Rattle.fields.proofs.OrderLaws.{and_left}
 use Rattle.fields.specs.Number.{from_be}
 use Rattle.fields.specs.Entries.{entries}
 use Rattle.fields.specs.Filter.{kept}
-use Rattle.model.specs.Protocol.{Id, is_among, header_type}
+use Rattle.model.specs.Protocol.{Id, is_among}
 use Rattle.model.specs.Settings
 use Rattle.model.specs.Settings.{Settings}
 use Rattle.model.specs.Delivery as delivery
@@ -79,7 +79,7 @@ module _ (st : State) (a : Args) where
 
   announced_follow : (n peer type_id : ℕ) (ids : List Id) → Follows n (Steps.announced peer type_id ids) (Steps.hears_announced st a peer type_id ids)
   unfolding Steps.hears_announced Steps.is_at_tip Steps.continues
-  announced_follow n peer type_id [] = go (eqb type_id header_type)
+  announced_follow n peer type_id [] = go (Steps.tells_tip st a peer type_id)
     where
       go : (t : Bool) → Follows n (Steps.announced peer type_id []) (cond t (Steps.is_at_tip st a [] st.sync.known_tip) (Steps.continues st a []))
       go true = refl

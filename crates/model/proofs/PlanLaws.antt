@@ -9,7 +9,7 @@ use lib.Dec.{eqb, ltb}
 use native.Mathlib.Omega.{arith}
 use Rattle.fields.specs.Facts.{All}
 use Rattle.fields.proofs.AllLaws.{all_append, all_map, all_kept, either}
-use Rattle.model.specs.Protocol.{Id, header_type, is_announceable, is_transaction, stalled_limit}
+use Rattle.model.specs.Protocol.{Id, is_announceable, is_transaction, stalled_limit}
 use Rattle.model.specs.Settings as settings
 use Rattle.model.specs.Settings.{throttled}
 use Rattle.model.specs.Delivery.{Request, orphans_of, evicted_after_eviction}
@@ -23,7 +23,7 @@ use Rattle.model.specs.Events.{Outcome, Continue, Synced, BehindPeer, SyncPeerGo
 use Rattle.model.specs.Events.{continuation}
 use Rattle.model.specs.Steps
 use Rattle.model.specs.Steps.{Step, Args, Plan, of_mode, unmarked, without_peer, sent, say_to, advance_from, sections_from, continues, leaves, advances}
-use Rattle.model.specs.Steps.{advances_and_requests, enters_syncing, picks, is_at_tip, answers, hears_sync_info, hears_announced, ask_orphans, loses}
+use Rattle.model.specs.Steps.{advances_and_requests, enters_syncing, picks, is_at_tip, answers, hears_sync_info, tells_tip, hears_announced, ask_orphans, loses}
 use Rattle.model.specs.Steps.{ticks_syncing, ticks_synced, progresses, checks, evicts, plan_of, plan}
 use Rattle.model.proofs.Well.{WellId, WellRequest, WellSync}
 use Rattle.model.proofs.Widths.{IfSome, WellPeer, WellHeight, WellItem, WellList, WellBatch, WellAct, WellStep, WellArgs}
@@ -163,7 +163,8 @@ module _ (st : State) (a : Args) (old : WellSync st.mode st.last_clock st.sync) 
   hears_announced_well : (peer type_id : ℕ) (ids : List Id) → WellList type_id peer ids → WellPlan a.clock (hears_announced st a peer type_id ids)
   unfolding hears_announced
   hears_announced_well peer type_id [] w =
-      either (WellPlan a.clock) (eqb type_id header_type) (is_at_tip st a [] st.sync.known_tip) (continues st a []) (at_tip_well [] st.sync.known_tip tt old.known_tip) (continues_well [] tt)
+      either (WellPlan a.clock) (tells_tip st a peer type_id) (is_at_tip st a [] st.sync.known_tip) (continues st a [])
+      (at_tip_well [] st.sync.known_tip tt old.known_tip) (continues_well [] tt)
   hears_announced_well peer type_id (id ∷ ids) w =
       let acts = ask type_id peer a.stored (id ∷ ids) ∷ [] in
       continues_well (cond (is_announceable type_id) acts []) (either (All WellAct) (is_announceable type_id) acts [] (w, tt) tt)

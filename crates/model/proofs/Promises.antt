@@ -14,6 +14,7 @@ pub mod AskedLaws
 pub mod SparedLaws
 -- outcomes, marks, sync infos, heights
 pub mod OutcomesKept
+pub mod PassedOverKept
 pub mod MarksKept
 pub mod SyncInfosKept
 pub mod HeightsKept

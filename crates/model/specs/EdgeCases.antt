@@ -499,8 +499,9 @@ view_readers =
     -- in syncing
     ∷ (refused_as syncing_core (blind (needed_modifier 102 (ids (5 ∷ [])))) gives number 0)
     ∷ (refused_as syncing_core (blind (reorg 0)) gives number 9)
-    ∷ (refused_as syncing_core (blind (announced 8 101 [])) gives number 9)
-    ∷ (refused_as syncing_core (blind (announced 8 102 [])) gives number 0)
+    ∷ (refused_as syncing_core (blind (announced 7 101 [])) gives number 9)
+    ∷ (refused_as syncing_core (blind (announced 8 101 [])) gives number 0)
+    ∷ (refused_as syncing_core (blind (announced 7 102 [])) gives number 0)
     ∷ (refused_as syncing_core (blind (announced 8 101 (ids (5 ∷ [])))) gives number 0)
     ∷ (refused_as syncing_core (blind (sync_info 7 true (some 1) [])) gives number 9)
     ∷ (refused_as syncing_core (blind (sync_info 7 true (some 2) [])) gives number 0)
@@ -514,7 +515,7 @@ view_readers =
     ∷ (refused_as syncing_core (blind scheduled_tick) gives number 0)
     ∷ (refused_as syncing_core (blind end_of_stream) gives number 0)
     -- in synced
-    ∷ (refused_as synced_core (blind (announced 8 101 [])) gives number 0)
+    ∷ (refused_as synced_core (blind (announced 7 101 [])) gives number 0)
     ∷ (refused_as synced_core (blind (sync_info 7 true (some 1) [])) gives number 0)
     ∷ (refused_as synced_core (blind (received [])) gives number 9)
     ∷ (refused_as synced_core (blind progress) gives number 9)
@@ -663,14 +664,20 @@ messages =
     ∷ (sends synced_core (at 50 (announced 8 108 (ids (5 ∷ [])))) gives (0 ∷ 3 ∷ []) ∷ requests 0 108 8 (5 ∷ []) ∷ pending 5 108 8 50 0 ∷ [])
     ∷ (sends synced_core (at 50 (announced 8 103 (ids (5 ∷ [])))) gives (0 ∷ 3 ∷ []) ∷ [])
     ∷ (sends synced_core (at 50 (announced 8 0 (ids (5 ∷ [])))) gives (0 ∷ 3 ∷ []) ∷ [])
-    -- empty lists: headers from another peer, in syncing with rule 4 and both marks cleared, in synced without; other types
-    ∷ (sends syncing_core (args_at 200 1 (5 ∷ []) (announced 8 101 [])) gives
+    -- empty lists: headers from the sync peer, in syncing with rule 4 and both marks cleared, in synced without; other types
+    ∷ (sends syncing_core (args_at 200 1 (5 ∷ []) (announced 7 101 [])) gives
     (1 ∷ 3 ∷ []) ∷ requests 0 102 5 (1 ∷ []) ∷ pending 1 102 5 200 0 ∷ [])
-    ∷ (leaves marked_core (at 200 (announced 8 101 [])) gives
+    ∷ (leaves marked_core (at 200 (announced 7 101 [])) gives
     (1 ∷ 3 ∷ []) ∷ (7 ∷ 0 ∷ 0 ∷ []) ∷ (200 ∷ 0 ∷ 0 ∷ 0 ∷ []) ∷ (0 ∷ 0 ∷ []) ∷ [] ∷ [] ∷ [])
-    ∷ (sends synced_core (args_at 200 1 (5 ∷ []) (announced 8 101 [])) gives (1 ∷ 3 ∷ []) ∷ [])
-    ∷ (sends syncing_core (args_at 200 1 (5 ∷ []) (announced 8 102 [])) gives (0 ∷ 2 ∷ []) ∷ [])
-    ∷ (sends syncing_core (args_at 200 1 (5 ∷ []) (announced 8 103 [])) gives (0 ∷ 2 ∷ []) ∷ [])
+    ∷ (sends synced_core (args_at 200 1 (5 ∷ []) (announced 7 101 [])) gives (1 ∷ 3 ∷ []) ∷ [])
+    ∷ (sends syncing_core (args_at 200 1 (5 ∷ []) (announced 7 102 [])) gives (0 ∷ 2 ∷ []) ∷ [])
+    ∷ (sends syncing_core (args_at 200 1 (5 ∷ []) (announced 7 103 [])) gives (0 ∷ 2 ∷ []) ∷ [])
+    -- F-5: headers from another peer, be it listed, below or above the sync peer: nothing, in syncing and in synced; only the entry mark goes
+    ∷ (sends syncing_core (args_at 200 1 (5 ∷ []) (announced 8 101 [])) gives (0 ∷ 2 ∷ []) ∷ [])
+    ∷ (sends syncing_core (args_at 200 1 (5 ∷ []) (announced 5 101 [])) gives (0 ∷ 2 ∷ []) ∷ [])
+    ∷ (leaves marked_core (at 200 (announced 8 101 [])) gives
+    (0 ∷ 2 ∷ []) ∷ (7 ∷ 0 ∷ 0 ∷ []) ∷ (200 ∷ 0 ∷ 0 ∷ 0 ∷ []) ∷ (1 ∷ 0 ∷ []) ∷ [] ∷ [] ∷ [])
+    ∷ (sends synced_core (args_at 200 1 (5 ∷ []) (announced 8 101 [])) gives (0 ∷ 3 ∷ []) ∷ [])
     -- the sync peer's tip 50, ours 50: no reply; in synced the mode stays
     ∷ (sends syncing_core (hearing 200 50 7 (some 50) []) gives (1 ∷ 3 ∷ []) ∷ [])
     ∷ (leaves synced_core (hearing 200 50 7 (some 50) []) gives

@@ -18,6 +18,7 @@ pub mod Maps
 -- All promises of a finished call.
 pub record Promises (s : Words.Seen) : Type 0 where
   pub outcomes : Outcomes.Outcomes s
+  pub passed_over : Outcomes.OthersHaveNone s → Outcomes.PassedOver s
   pub modes : Outcomes.Modes s
   pub sync_peer : Marks.SyncPeer s
   pub stalled_set : Marks.StalledSet s

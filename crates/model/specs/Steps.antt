@@ -181,9 +181,13 @@ module _ (st : State) (a : Args) where
       answers peer (continuation parsed a.chain_height known peer ids) (raised_tip st.sync.known_tip known)
       (tip_outcome (eqb peer st.sync.sync_peer) a.chain_height known)
 
-  -- "An empty header list gives Synced, from any peer."
+  -- F-5: an empty list of this type from this peer is "an empty header list from the sync peer".
+  abbrev pub tells_tip : ℕ → ℕ → Bool
+  tells_tip peer type_id = eqb type_id header_type && eqb peer st.sync.sync_peer
+
+  -- F-5: "an empty header list from the sync peer gives Synced; from any other peer it gives Continue, with no reply."
   unfoldable pub hears_announced : ℕ → ℕ → List Id → Plan
-  hears_announced peer type_id [] = cond (eqb type_id header_type) (is_at_tip [] st.sync.known_tip) (continues [])
+  hears_announced peer type_id [] = cond (tells_tip peer type_id) (is_at_tip [] st.sync.known_tip) (continues [])
   hears_announced peer type_id (id ∷ ids) = continues (cond (is_announceable type_id) (ask type_id peer a.stored (id ∷ ids) ∷ []) [])
 
   -- the lost peer's non-transactions by type, for the first listed peer

@@ -5,12 +5,12 @@ use mathlib.Core.Bool.{Bool, true, false, cond}
 use mathlib.Core.List.{List, [], ◌∷◌}
 use mathlib.Core.Option.{Option, none, some}
 use lib.Dec.{eqb}
-use Rattle.model.specs.Protocol.{Id, header_type}
+use Rattle.model.specs.Protocol.{Id}
 use Rattle.model.specs.State.{State}
 use Rattle.model.specs.Requests.{Act}
 use Rattle.model.specs.Events as events
 use Rattle.model.specs.Events.{Outcome}
-use Rattle.model.specs.Steps.{Args, Plan, continues, leaves, is_at_tip, enters_syncing, picks, answers, hears_sync_info, hears_announced, loses}
+use Rattle.model.specs.Steps.{Args, Plan, continues, leaves, is_at_tip, enters_syncing, picks, answers, hears_sync_info, tells_tip, hears_announced, loses}
 use Rattle.model.specs.Steps.{ticks_syncing, ticks_synced, progresses, unmarked, without_peer}
 
 module _ (st : State) (a : Args) where
@@ -41,7 +41,7 @@ module _ (st : State) (a : Args) where
 
   pub announced_kept : (peer type_id : ℕ) (ids : List Id) → Kept (hears_announced st a peer type_id ids)
   unfolding hears_announced is_at_tip continues unmarked
-  announced_kept peer type_id [] = kept_if (eqb type_id header_type) (is_at_tip st a [] st.sync.known_tip) (continues st a []) refl refl
+  announced_kept peer type_id [] = kept_if (tells_tip st a peer type_id) (is_at_tip st a [] st.sync.known_tip) (continues st a []) refl refl
   announced_kept peer type_id (id ∷ ids) = refl
 
   pub loses_kept : (peer : ℕ) → Kept (loses st a peer)

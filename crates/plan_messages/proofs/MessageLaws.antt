@@ -1,5 +1,4 @@
 -- What a message's bytes and flags say, in the model's words.
-use Prim.{⊥}
 use Prim.Native.Nat.{ℕ, ◌/◌, ◌≤◌, ◌<◌}
 use mathlib.Core.Path.{◌≡◌, refl, sym, ap, ◌∙◌}
 use mathlib.Core.Bool.{Bool, true, false, cond, ◌&&◌}
@@ -26,12 +25,15 @@ use Rattle.plan.specs.declared.Plan.{Plan}
 use Rattle.plan.specs.declared.Work.TheVariants.{Nothing}
 use Rattle.plan.specs.Plans.{announce_to, is_quiet, sections_work, sketch_in, sketch_of}
 use Rattle.plan.proofs.HeightLaws.{quiet_sections}
-use borrow.Author.Tests.{eq-eqb, ne_eqb}
 use Rattle.model.specs.Layout.{id_size}
 
 length_ids : (bytes : List ℕ) → length (ids_in bytes) ≡ length bytes / id_size
 unfolding ids_in
 length_ids bytes = length_entries id_size (length bytes / id_size) bytes
+
+-- what an empty list comes to, by whether it tells the tip
+abbrev of_none : State → Args → Bool → steps.Plan
+of_none st a t = cond t (steps.is_at_tip st a [] st.sync.known_tip) (steps.continues st a [])
 
 module _ (st : State) (a : Args) (peer type_id : ℕ) where
   heard_some : (ids : List Id) → 0 < length ids
@@ -40,8 +42,7 @@ module _ (st : State) (a : Args) (peer type_id : ℕ) where
   heard_some [] l = absurd (lt_irrefl 0 l)
   heard_some (id ∷ ids) l = refl
 
-  heard_none : (ids : List Id) → length ids ≡ 0
-      → steps.hears_announced st a peer type_id ids ≡ cond (eqb type_id header_type) (steps.is_at_tip st a [] st.sync.known_tip) (steps.continues st a [])
+  heard_none : (ids : List Id) → length ids ≡ 0 → steps.hears_announced st a peer type_id ids ≡ of_none st a (steps.tells_tip st a peer type_id)
   unfolding steps.hears_announced
   heard_none [] l = refl
   heard_none (id ∷ ids) l = absurd (lt_irrefl 0 (omega arith))
@@ -53,8 +54,8 @@ module _ (st : State) (a : Args) (peer type_id : ℕ) where
       let n : 0 < length bytes / id_size = omega arith in
       heard_some (ids_in bytes) (rw (length_ids bytes) n)
 
-  pub none_announced : (bytes : List ℕ) → length bytes < id_size
-      → steps.hears_announced st a peer type_id (ids_in bytes) ≡ cond (eqb type_id header_type) (steps.is_at_tip st a [] st.sync.known_tip) (steps.continues st a [])
+  none_announced : (bytes : List ℕ) → length bytes < id_size
+      → steps.hears_announced st a peer type_id (ids_in bytes) ≡ of_none st a (steps.tells_tip st a peer type_id)
   none_announced bytes l =
       let n : length bytes / id_size ≡ 0 = omega arith in
       heard_none (ids_in bytes) (length_ids bytes ∙ n)
@@ -108,18 +109,22 @@ module _ (st : State) (c : Call) {bytes : List ℕ} {typeid : ℕ} (ids : c.ids 
         ∙ ap (λ (t : Bool). steps.continues st (args_of c) (cond t (ask c.typeid c.peer (pairs_in c.stored) (ids_in c.ids) ∷ []) [])) unserved)
 
   module _ (l : length bytes < id_size) where
-    empty : (t : Bool) → eqb c.typeid header_type ≡ t
-        → cond t (steps.is_at_tip st (args_of c) [] st.sync.known_tip) (steps.continues st (args_of c) []) ≡ heard
-    empty t e =
-        sym
-        (none_announced st (args_of c) c.peer c.typeid c.ids (rw ids l)
-        ∙ ap (λ (t : Bool). cond t (steps.is_at_tip st (args_of c) [] st.sync.known_tip) (steps.continues st (args_of c) [])) e)
+    empty : (t : Bool) → steps.tells_tip st (args_of c) c.peer c.typeid ≡ t → of_none st (args_of c) t ≡ heard
+    empty t e = sym (none_announced st (args_of c) c.peer c.typeid c.ids (rw ids l) ∙ ap (of_none st (args_of c)) e)
 
-    pub heard_no_headers : {tip : ℕ} → tip ≡ st.sync.known_tip → typeid ≡ 101 → steps.is_at_tip st (args_of c) [] tip ≡ heard
-    heard_no_headers e i = ap (λ (x : ℕ). steps.is_at_tip st (args_of c) [] x) e ∙ empty true (eq-eqb _ _ (types ∙ i))
+    module _ {peer sync_peer : ℕ} (sender : c.peer ≡ peer) (mine : st.sync.sync_peer ≡ sync_peer) where
+      told_alike : steps.tells_tip st (args_of c) c.peer c.typeid ≡ (eqb typeid 101 && eqb peer sync_peer)
+      told_alike =
+          ap (λ (x : ℕ). eqb x header_type && eqb c.peer st.sync.sync_peer) types
+          ∙ ap (λ (x : ℕ). eqb typeid header_type && eqb x st.sync.sync_peer) sender
+          ∙ ap (λ (x : ℕ). eqb typeid header_type && eqb peer x) mine
 
-    pub heard_nothing : (typeid ≡ 101 → ⊥) → steps.continues st (args_of c) [] ≡ heard
-    heard_nothing i = empty false (ne_eqb _ _ (λ x. i (sym types ∙ x)))
+      pub heard_no_headers : {tip : ℕ} → tip ≡ st.sync.known_tip → (eqb typeid 101 && eqb peer sync_peer) ≡ true
+          → steps.is_at_tip st (args_of c) [] tip ≡ heard
+      heard_no_headers e i = ap (λ (x : ℕ). steps.is_at_tip st (args_of c) [] x) e ∙ empty true (told_alike ∙ i)
+
+      pub heard_nothing : (eqb typeid 101 && eqb peer sync_peer) ≡ false → steps.continues st (args_of c) [] ≡ heard
+      heard_nothing i = empty false (told_alike ∙ i)
 
 pub answered_alike : (st : State) (c : Call) (p : Plan) (before : List Act) (tip : ℕ) {peer peer' : ℕ} {o o' : Outcome}
     → sketch_in st c p ≡ sketch_of st c (steps.answers st (args_of c) peer before tip o) → peer' ≡ peer → o' ≡ o

@@ -23,7 +23,8 @@ use plan::outcome::BEHIND_PEER;
 use plan::shown::Shown;
 use plan::{Call, Plan, Stalling, Work};
 
-// Headers, sections and transactions use rule 3, to the sender. An empty header list gives Synced, from any peer.
+// Headers, sections and transactions use rule 3, to the sender. An empty header list from the sync peer gives Synced, from any
+// other peer nothing (F-5).
 pub fn hears_announced(head: Head, call: Call, ids: &[u8], shown: Shown) -> Plan
     ensures work_value { is_quiet result.work ≡ true }
     ensures result_value { (st : State) (c : calls.Call) → head_of st ≡ head → numbers_of c ≡ call → c.ids ≡ ids.now → Shows c shown.entry → sketch_in st c result ≡ sketch_of st c (steps.hears_announced st (args_of c) c.peer c.typeid (ids_in c.ids)) }
@@ -35,8 +36,8 @@ pub fn hears_announced(head: Head, call: Call, ids: &[u8], shown: Shown) -> Plan
         }
         return plan::continuing::continues(head, call.clock, Work::Nothing);
     }
-    let headers = call.typeid == HEADER_TYPE_ID;
-    if headers {
+    let tells_tip = (call.typeid == HEADER_TYPE_ID) & (call.peer == head.peer);
+    if tells_tip {
         return plan::next_sections::is_at_tip(head, call.clock, head.tip, None, shown);
     }
     plan::continuing::continues(head, call.clock, Work::Nothing)

@@ -5,7 +5,7 @@ use keeper_reference::{image, Reference, PLAIN};
 use keeper_streams::build::{missing, syncing, Build, CASES};
 use keeper_streams::{directed, Opening, Script};
 use keeper_values::numbers::{kinds, outcomes};
-use keeper_values::{Answer, Call, Keeper, State};
+use keeper_values::{Answer, Call, Keeper, Mode, State};
 use keeper_values::{COMMAND_BYTES, STATE_BYTES};
 use keeper_variants::AS_PUBLISHED;
 
@@ -31,8 +31,8 @@ fn played(keeper: &dyn Keeper, script: &Script) -> Result<(Answer, State), Strin
     Ok((answer, state))
 }
 
-/// Runs a stream on the Rust; the last verdict.
-fn judged(script: &Script, more: &[Call]) -> Result<(Verdict, State), String> {
+/// The Rust as the stream opens it.
+fn opened(script: &Script) -> Result<Oracle, String> {
     let oracle = match &script.opening {
         Opening::Open {
             settings,
@@ -41,7 +41,12 @@ fn judged(script: &Script, more: &[Call]) -> Result<(Verdict, State), String> {
         } => Oracle::open(*settings, *clock, *height),
         Opening::Put(state) => Oracle::put(state),
     };
-    let mut oracle = oracle.ok_or("no oracle")?;
+    oracle.ok_or("no oracle".to_string())
+}
+
+/// Runs a stream on the Rust; the last verdict.
+fn judged(script: &Script, more: &[Call]) -> Result<(Verdict, State), String> {
+    let mut oracle = opened(script)?;
     let mut verdict = Err("no steps".to_string());
     for call in script.calls.iter().chain(more) {
         verdict = Ok(oracle.step(call));
@@ -96,6 +101,31 @@ fn d2(keeper: &dyn Keeper) -> Result<(), String> {
     let rules = AS_PUBLISHED;
     let (_, state) = played(&Reference { rules }, &script)?;
     holds("D-2, the published rule asks 4", asked(&state) == [4])
+}
+
+/// D-3: an empty header list from another peer than the sync peer (F-5). The Rust takes itself for synced.
+fn d3(keeper: &dyn Keeper) -> Result<(), String> {
+    let script = directed::d3();
+    let (answer, state) = played(keeper, &script)?;
+    let told = (answer.number, answer.outcome, answer.length);
+    let nothing = told == (0, outcomes::CONTINUE, 0);
+    holds("D-3, Continue and no reply", nothing)?;
+    let stays = state.mode == Mode::Syncing;
+    holds("D-3, the keeper stays in syncing", stays)?;
+    let (verdict, _) = judged(&script, &[])?;
+    let outside = Verdict::OutOfDomain(Reason::EmptyHeaders);
+    holds("D-3, outside the domain", verdict == outside)?;
+    // What the Rust does with it.
+    let mut oracle = opened(&script)?;
+    let mut rust = None;
+    for call in &script.calls {
+        rust = Some(oracle.run(call));
+    }
+    let Some(Verdict::Finished(rust)) = rust else {
+        return Err("D-3, the Rust does not finish it".to_string());
+    };
+    let synced = (rust.outcome, rust.state.mode) == (outcomes::SYNCED, Mode::Synced);
+    holds("D-3, the Rust is synced", synced)
 }
 
 /// A sum that is exact here and overflows in the Rust: the step's outcome, and its length in bytes.
@@ -153,6 +183,7 @@ fn sends_counted(keeper: &dyn Keeper) -> Result<(), String> {
 pub fn shown(keeper: &dyn Keeper) -> Result<(), String> {
     d1(keeper)?;
     d2(keeper)?;
+    d3(keeper)?;
     our_sum(keeper)?;
     window_sum(keeper)?;
     sends_counted(keeper)

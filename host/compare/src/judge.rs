@@ -87,6 +87,22 @@ fn refused_before_the_rust(state: &State, call: &Call) -> Option<u32> {
     }
 }
 
+/// F-5, in the Rust's place: what an empty header list of another peer than the sync peer leaves. Nothing is asked or sent, and
+/// only the last clock and the entry mark are those behind any step.
+fn passed_over(before: &State, call: &Call) -> (Answer, State) {
+    let answer = Answer {
+        pending: before.pending.len() as u32,
+        evicted: before.evicted.len() as u32,
+        ..Answer::default()
+    };
+    let state = State {
+        last_clock: call.clock,
+        entry_mark: false,
+        ..before.clone()
+    };
+    (answer, state)
+}
+
 /// Whether one of the Rust's sums overflows in this step (docs/DIFFERENCES.md). Where the keeper refuses the step, the
 /// height that rule 4 started from is not known.
 fn overflows(before: &State, after: &State, call: &Call, refused: bool) -> bool {
@@ -160,6 +176,12 @@ impl<'k> Trial<'k> {
                     && !overflows(&before, &self.state, call, answer.number != 0)
                 {
                     return Err("the Rust panics, and no sum overflows".to_string());
+                }
+                if reason == Reason::EmptyHeaders {
+                    let left = (answer, self.state.clone());
+                    if passed_over(&before, call) != left {
+                        return Err(format!("F-5: headers of another peer\n  keeper {left:?}"));
+                    }
                 }
                 report.out_of_domain(reason);
                 match Oracle::put(&self.state) {

@@ -5,7 +5,7 @@ use crate::fates::Facts;
 use crate::scenario::{Info, Names, Wake};
 use crate::sending::{SendFate, Sending, Sent};
 use crate::text::{grouped, mode_word};
-use request_keeper::{Mode, Outcome, Peer, Settings};
+use request_keeper::{Mode, ModifierType, Outcome, Peer, Settings};
 
 /// A label and a sentence.
 type Reason = (&'static str, String);
@@ -20,7 +20,9 @@ pub fn reasons(facts: &Facts<'_>, settings: Settings, names: &Names) -> Vec<Reas
     let own = match facts.wake {
         Wake::Pick => telling.pick(),
         Wake::SyncInfo(from, info) => telling.sync_info(*from, info.as_ref()),
-        Wake::Announced(_, _, ids) if ids.is_empty() => telling.empty_announcement(),
+        Wake::Announced(from, modifier_type, ids) if ids.is_empty() => {
+            telling.empty_announcement(*from, *modifier_type)
+        }
         Wake::Lost(peer) => telling.lost(*peer),
         Wake::ScheduledTick => telling.tick(),
         Wake::Message => Some("no step of the keeper depends on it".to_string()),
@@ -96,10 +98,17 @@ impl Telling<'_> {
         })
     }
 
-    fn empty_announcement(&self) -> Option<String> {
-        let synced = self.facts.answer.outcome == Outcome::Synced;
-        synced.then(|| {
-            "an empty list of headers says that there are no more, from whichever peer".to_string()
+    fn empty_announcement(&self, from: Peer, modifier_type: ModifierType) -> Option<String> {
+        if modifier_type != ModifierType::HEADER {
+            return None;
+        }
+        let name = self.peer(from);
+        Some(if self.facts.before.sync_peer == Some(from) {
+            format!(
+                "{name} is the sync peer: its empty list of headers says that there are no more"
+            )
+        } else {
+            format!("{name} has no headers for us, but {name} is not the sync peer: it may have no chain yet")
         })
     }
 

@@ -1,7 +1,7 @@
 //! The scenarios that come with the player, by name.
 
 /// Name and text of each.
-pub const SCENARIOS: [(&str, &str); 10] = [
+pub const SCENARIOS: [(&str, &str); 11] = [
     ("a-day", include_str!("../scenarios/a-day.drill")),
     (
         "reorg-eviction-lost-peer",
@@ -19,6 +19,10 @@ pub const SCENARIOS: [(&str, &str); 10] = [
     (
         "a-stalled-peer-passed-over",
         include_str!("../scenarios/a-stalled-peer-passed-over.drill"),
+    ),
+    (
+        "a-peer-without-a-chain",
+        include_str!("../scenarios/a-peer-without-a-chain.drill"),
     ),
     (
         "one-block-ahead",

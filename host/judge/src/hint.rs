@@ -95,6 +95,16 @@ fn sync_info(field: Field) -> Option<&'static str> {
     })
 }
 
+fn announced(field: Field) -> Option<&'static str> {
+    Some(match field {
+        Field::Outcome | Field::Mode => {
+            "document 02, F-5: \"an empty header list from the sync peer gives Synced; from any \
+             other peer it gives Continue, with no reply\""
+        }
+        _ => return None,
+    })
+}
+
 fn tick(field: Field) -> Option<&'static str> {
     Some(match field {
         Field::Outcome | Field::Mode | Field::Stalled | Field::SyncPeer => {
@@ -125,6 +135,7 @@ fn by_kind(kind: u8, field: Field, part: Option<&str>) -> Option<&'static str> {
     match kind {
         kinds::CHECK => check(field, part),
         kinds::REORG => reorg(field),
+        kinds::ANNOUNCED => announced(field),
         kinds::SYNC_INFO => sync_info(field),
         kinds::SCHEDULED_TICK => tick(field),
         kinds::PROGRESS => progress(field),
@@ -144,10 +155,10 @@ fn of_kind(kind: u8) -> Option<&'static str> {
         kinds::NEEDED => "rule 8: \"a needed modifier goes through rule 3 to the sync peer\"",
         kinds::REORG => "rule 8, and rules 5 and 4",
         kinds::ANNOUNCED => {
-            "rule 7: \"Announced headers, sections and transactions use rule 3, to the sender. An \
-             empty header list gives Synced, from any peer\"; rule 3: \"gate shut, nothing. Drop \
-             ids pending before the call, then stored ones. Mark the rest, then send\"; entry to \
-             synced runs rule 4"
+            "rule 7: \"Announced headers, sections and transactions use rule 3, to the sender\"; \
+             document 02, F-5, for an empty header list; rule 3: \"gate shut, nothing. Drop ids \
+             pending before the call, then stored ones. Mark the rest, then send\"; entry to synced \
+             runs rule 4"
         }
         kinds::SYNC_INFO => "rule 7, sync info",
         kinds::OTHER_MESSAGE => "rule 7: \"Other messages do nothing\"",

@@ -91,6 +91,17 @@ fn retrying_with_a_stalled_peer() {
 }
 
 #[test]
+fn taking_any_peer_for_the_sync_peer() {
+    caught(
+        "synced-by-any-peer",
+        &[
+            "outcome: yours 1 Synced, the core's 0 Continue",
+            "document 02, F-5: \"an empty header list from the sync peer gives Synced",
+        ],
+    );
+}
+
+#[test]
 fn the_right_ones_pass() {
     for right in ["none", "core"] {
         let (verdict, report) = judged(&shipped(right), &few_streams());

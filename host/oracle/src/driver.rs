@@ -114,7 +114,7 @@ impl Oracle {
             clock: u64::MAX,
             ..Call::default()
         };
-        let peers = vec![state.sync_peer.unwrap_or(0)];
+        let peer = state.sync_peer.unwrap_or(0);
         let mut way = Vec::new();
         if state.mode != Mode::New {
             way.push(at(kinds::START));
@@ -124,7 +124,7 @@ impl Oracle {
             Mode::Seeking => way.push(at(kinds::PICK)),
             Mode::Ended => way.extend([at(kinds::PICK), at(kinds::END_OF_STREAM)]),
             Mode::Syncing | Mode::Synced => way.push(Call {
-                peers,
+                peers: vec![peer],
                 ..at(kinds::PICK)
             }),
         }
@@ -135,6 +135,7 @@ impl Oracle {
         }
         if state.mode == Mode::Synced {
             way.push(Call {
+                peer,
                 type_id: types::HEADER,
                 ..at(kinds::ANNOUNCED)
             });
@@ -159,11 +160,27 @@ impl Oracle {
         &self.state
     }
 
+    /// Why the Rust has no say in this step, where that is known beforehand.
+    fn outside(&self, call: &Call) -> Option<Reason> {
+        if call.kind == kinds::END_OF_STREAM && self.stop == Some(Stop::Pick) {
+            return Some(Reason::EndWithoutPick);
+        }
+        let no_headers =
+            call.kind == kinds::ANNOUNCED && call.type_id == types::HEADER && call.ids.is_empty();
+        let from_another = self.state.sync_peer != Some(call.peer);
+        (no_headers && from_another).then_some(Reason::EmptyHeaders)
+    }
+
     /// Runs one step. A refused one leaves the machine as it was; after a step out of the domain it has to be put anew.
     pub fn step(&mut self, call: &Call) -> Verdict {
-        if call.kind == kinds::END_OF_STREAM && self.stop == Some(Stop::Pick) {
-            return Verdict::OutOfDomain(Reason::EndWithoutPick);
+        match self.outside(call) {
+            Some(reason) => Verdict::OutOfDomain(reason),
+            None => self.run(call),
         }
+    }
+
+    /// What the Rust does, also where it has no say.
+    pub fn run(&mut self, call: &Call) -> Verdict {
         let before = self.state.clone();
         self.lay_out(call);
         let counts = self.check_counts(call.kind);

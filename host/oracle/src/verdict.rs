@@ -41,4 +41,6 @@ pub enum Reason {
     Panic,
     /// Both marks at once: the Rust has no such place.
     NoSuchPlace,
+    /// D-3 (F-5): an empty header list from another peer than the sync peer.
+    EmptyHeaders,
 }

@@ -116,6 +116,7 @@ rules! {
         needed_modifier: Step,
         reorg: Step,
         announced: Step,
+        empty_headers: Step,
         judge_tip: fn(bool, u32, u32) -> u32,
         announces: fn(Option<u32>, u32) -> bool,
         sync_info: Step,

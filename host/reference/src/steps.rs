@@ -120,10 +120,19 @@ pub fn reorg(run: &mut Run) -> Outcome {
     Ok(outcomes::CONTINUE)
 }
 
-/// Rule 7, announced ids: rule 3, "to the sender". "An empty header list gives Synced, from any peer."
+/// F-5: "an empty header list from the sync peer gives Synced; from any other peer it gives Continue, with no reply".
+pub fn empty_headers(run: &mut Run) -> Outcome {
+    if is_sync_peer(run) {
+        (run.rules.reach_synced)(run)
+    } else {
+        Ok(outcomes::CONTINUE)
+    }
+}
+
+/// Rule 7, announced ids: rule 3, "to the sender"; an empty header list is F-5's.
 pub fn announced(run: &mut Run) -> Outcome {
     match run.inputs.type_id {
-        types::HEADER if run.inputs.ids.is_empty() => (run.rules.reach_synced)(run),
+        types::HEADER if run.inputs.ids.is_empty() => (run.rules.empty_headers)(run),
         types::TRANSACTION
         | types::HEADER
         | types::BLOCK_TRANSACTIONS

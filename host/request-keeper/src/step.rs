@@ -18,7 +18,8 @@ pub enum Step<'a> {
     },
     /// The chain has changed its branch. Reads gate, chain height, peers and view.
     Reorg { fork_point: u32 },
-    /// A peer announces ids of a type. Reads all.
+    /// A peer announces ids of a type. From the sync peer an empty list of headers says that there are no more, from any
+    /// other peer it says nothing. Reads all.
     Announced {
         from: Peer,
         modifier_type: ModifierType,

@@ -38,12 +38,16 @@ fn many(count: usize) -> Vec<Id> {
     (0..count).map(id).collect()
 }
 
-fn headers(ids: &[Id]) -> Step<'_> {
+fn headers_of(from: Peer, ids: &[Id]) -> Step<'_> {
     Step::Announced {
-        from: Peer(9),
+        from,
         modifier_type: ModifierType::HEADER,
         ids,
     }
+}
+
+fn headers(ids: &[Id]) -> Step<'_> {
+    headers_of(Peer(9), ids)
 }
 
 #[test]
@@ -272,7 +276,7 @@ fn a_view_reaches_as_far_as_the_rules_read() {
 fn synced() -> RequestKeeper {
     let mut keeper = syncing();
     let answer = keeper
-        .step(headers(&[]), &now(1_000))
+        .step(headers_of(Peer(4), &[]), &now(1_000))
         .map(|step| step.answer);
     assert_eq!(answer.map(|answer| answer.outcome), Ok(Outcome::Synced));
     keeper
@@ -302,6 +306,21 @@ fn a_step_that_looks_at_no_window_reads_to_the_first_height_that_is_not_complete
             assert_eq!(refusal, (rows > 0).then_some(Refusal::HeightOutsideView));
         }
     }
+}
+
+#[test]
+fn an_empty_list_of_headers_reads_a_view_only_if_the_sync_peer_sent_it() {
+    let heard_from = |peer| {
+        let surroundings = Surroundings {
+            chain_height: 50,
+            ..now(2_000)
+        };
+        let mut keeper = syncing();
+        let finished = keeper.step(headers_of(peer, &[]), &surroundings);
+        finished.map(|finished| (finished.answer.outcome, finished.commands().count()))
+    };
+    assert_eq!(heard_from(Peer(4)), Err(Refusal::HeightOutsideView));
+    assert_eq!(heard_from(Peer(9)), Ok((Outcome::Continue, 0)));
 }
 
 #[test]

@@ -42,7 +42,10 @@ pub fn missing(first: u32, rows: u32) -> View {
     }
 }
 
-/// A state to put in: syncing from peer 4, nothing pending.
+/// Of the states to put in.
+pub const SYNC_PEER: u64 = 4;
+
+/// A state to put in: syncing from `SYNC_PEER`, nothing pending.
 pub fn syncing(settings: Settings, clock: u64) -> State {
     State {
         mode: Mode::Syncing,
@@ -52,7 +55,7 @@ pub fn syncing(settings: Settings, clock: u64) -> State {
         settings,
         last_progress: clock,
         last_send: clock,
-        sync_peer: Some(4),
+        sync_peer: Some(SYNC_PEER),
         sends_counted: 1,
         downloaded: 0,
         known_tip: 0,
@@ -113,7 +116,7 @@ impl Build {
 
     /// Synced with this peer.
     pub fn synced(name: &str, settings: Settings, peer: u64) -> Self {
-        Self::begun(name, settings, peer).call(kinds::ANNOUNCED, |c| c.type_id = 101)
+        Self::begun(name, settings, peer).announce(peer, 101, vec![])
     }
 
     pub fn at(mut self, clock: u64) -> Self {

@@ -4,6 +4,7 @@
 use crate::Script;
 
 mod delivery;
+mod headers;
 mod heights;
 mod limits;
 mod messages;
@@ -12,6 +13,7 @@ mod runs;
 mod shapes;
 
 pub use delivery::d2;
+pub use headers::d3;
 pub use peers::d1;
 
 /// All directed streams.
@@ -19,6 +21,7 @@ pub fn scripts() -> Vec<Script> {
     let mut scripts = delivery::scripts();
     scripts.extend(runs::scripts());
     scripts.extend(messages::scripts());
+    scripts.extend(headers::scripts());
     scripts.extend(peers::scripts());
     scripts.extend(heights::scripts());
     scripts.extend(limits::scripts());

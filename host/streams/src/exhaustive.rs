@@ -55,6 +55,10 @@ pub fn alphabet() -> Vec<Call> {
             c.ids = vec![id(2), id(2)];
         }),
         letter(kinds::ANNOUNCED, 0, |c| c.type_id = 101),
+        letter(kinds::ANNOUNCED, 0, |c| {
+            c.type_id = 101;
+            c.peer = 5;
+        }),
         letter(kinds::SYNC_INFO, 1, |c| {
             c.parsed = true;
             c.has_tip = true;

@@ -6,6 +6,7 @@ mod checks;
 mod control;
 mod delivery;
 mod forecasts;
+mod headers;
 mod heights;
 mod losses;
 mod maps;
@@ -30,6 +31,9 @@ pub const FORECAST: &str = "F-3";
 
 /// The place of those that count a list of ids off into requests.
 pub const RUNS: &str = "F-4";
+
+/// The place of those that take an empty header list wrongly.
+pub const HEADERS: &str = "F-5";
 
 /// A keeper with one fault.
 #[derive(Clone, Copy)]
@@ -67,6 +71,7 @@ pub fn all() -> Vec<Variant> {
         targets::variants(),
         forecasts::variants(),
         runs::variants(),
+        headers::variants(),
     ]
     .concat()
 }

@@ -1,7 +1,7 @@
 //! Faults in rule 7.
 
 use crate::{variant, Variant};
-use keeper_reference::steps::{self, is_sync_peer, sync_peer};
+use keeper_reference::steps::{self, sync_peer};
 use keeper_reference::sync::{self, Stored};
 use keeper_reference::{Rules, Run, PLAIN};
 use keeper_values::numbers::{outcomes, types};
@@ -28,23 +28,11 @@ pub fn variants() -> Vec<Variant> {
             },
         ),
         fault(
-            "an empty header list is Synced from the sync peer only",
-            Rules {
-                announced: |run| {
-                    if run.inputs.ids.is_empty() && !is_sync_peer(run) {
-                        return Ok(outcomes::CONTINUE);
-                    }
-                    steps::announced(run)
-                },
-                ..PLAIN
-            },
-        ),
-        fault(
-            "an empty list of any type is Synced",
+            "an empty list of any type is one of headers",
             Rules {
                 announced: |run| {
                     if run.inputs.ids.is_empty() {
-                        return steps::reach_synced(run);
+                        return steps::empty_headers(run);
                     }
                     steps::announced(run)
                 },

@@ -1,7 +1,7 @@
 -- Who is asked for what, kept: nothing behind a shut gate, nothing by steps that may not ask, announced ids and needed modifiers.
 use Prim.Native.Nat.{ℕ, min}
 use mathlib.Core.Path.{◌≡◌, refl, sym, ap, ◌∙◌, subst}
-use mathlib.Core.Bool.{Bool, true, false, cond}
+use mathlib.Core.Bool.{Bool, true, false, cond, ◌&&◌}
 use mathlib.Core.List.{List, [], ◌∷◌, ◌++◌, map, cons≢nil}
 use mathlib.Core.Option.{Option, none, some}
 use native.Mathlib.Omega.{arith}
@@ -20,7 +20,7 @@ use Rattle.model.specs.Events.{Outcome, Continue, Synced, BehindPeer, SyncPeerGo
 use Rattle.model.specs.Events.{tip_outcome, raised_tip, continuation}
 use Rattle.model.specs.Steps
 use Rattle.model.specs.Steps.{Step, Args, is_check, unmarked, advance_from, say_to, sections_from, continues, leaves, advances, advances_and_requests}
-use Rattle.model.specs.Steps.{is_at_tip, answers, hears_sync_info, hears_announced, ask_orphans, loses, progresses, evicts}
+use Rattle.model.specs.Steps.{is_at_tip, answers, hears_sync_info, tells_tip, hears_announced, ask_orphans, loses, progresses, evicts}
 use Rattle.model.specs.Steps.{plan_of, plan, remaining, commands}
 use Rattle.model.specs.Lists.{ids_in, peers_in, pairs_in, view_of}
 use Rattle.model.specs.Calls.{Call, step_of, args_of, step_answer}
@@ -75,7 +75,7 @@ module _ (st : State) (call : Call) (f : Finished st call) where
       → outcome_number (hears_announced st a peer type_id ids).outcome ≡ 0
       → asked_by a.gate a.clock (hears_announced st a peer type_id ids).acts rs ≡ map (requested type_id peer) (wanted rs type_id a.stored ids)
   unfolding hears_announced continues is_at_tip wanted
-  heard_asks peer type_id [] rs open' known o = go (eqb type_id header_type) o
+  heard_asks peer type_id [] rs open' known o = go (tells_tip st a peer type_id) o
     where
       go : (t : Bool) → outcome_number (cond t (is_at_tip st a [] st.sync.known_tip) (continues st a [])).outcome ≡ 0
           → asked_by a.gate a.clock (cond t (is_at_tip st a [] st.sync.known_tip) (continues st a [])).acts rs ≡ []
@@ -143,11 +143,15 @@ module _ (st : State) (call : Call) (f : Finished st call) where
         → (outcome_number (hears_announced st a call.peer call.typeid ids).outcome ≡ 0 → (step_answer st (args_of call)).outcome ≡ 0)
         → All Says (hears_announced st a call.peer call.typeid ids).acts
     unfolding hears_announced continues
-    announced_says k [] e o = go (eqb call.typeid header_type) refl
+    announced_says k [] e o = go (eqb call.typeid header_type) (eqb call.peer st.sync.sync_peer) refl refl
       where
-        go : (t : Bool) → eqb call.typeid header_type ≡ t → All Says (cond t (is_at_tip st a [] st.sync.known_tip) (continues st a [])).acts
-        go true h = at_tip_says [] st.sync.known_tip tt (no_headers k (eqb-true call.typeid header_type h) e)
-        go false h = tt
+        go : (t p : Bool) → eqb call.typeid header_type ≡ t → eqb call.peer st.sync.sync_peer ≡ p
+            → All Says (cond (t && p) (is_at_tip st a [] st.sync.known_tip) (continues st a [])).acts
+        go true true h f =
+            at_tip_says [] st.sync.known_tip tt
+            (no_headers k (eqb-true call.typeid header_type h) e (eqb-true call.peer st.sync.sync_peer f))
+        go true false h f = tt
+        go false p h f = tt
     announced_says k (id ∷ ids) e o = go (is_announceable call.typeid) refl
       where
         go : (t : Bool) → is_announceable call.typeid ≡ t → All Says (cond t (ask call.typeid call.peer a.stored (id ∷ ids) ∷ []) [])

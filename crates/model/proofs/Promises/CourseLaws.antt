@@ -26,7 +26,7 @@ use Rattle.model.specs.Events.{Outcome, Continue, Synced, BehindPeer, SyncPeerGo
 use Rattle.model.specs.Events.{tip_outcome, raised_tip, not_above, announce, continuation}
 use Rattle.model.specs.Steps
 use Rattle.model.specs.Steps.{Step, Args, Plan, of_mode, is_check, unmarked, without_peer, say_to, advance_from, sections_from, continues, leaves, advances}
-use Rattle.model.specs.Steps.{advances_and_requests, enters_syncing, picks, is_at_tip, answers, hears_sync_info, hears_announced, ask_orphans, loses}
+use Rattle.model.specs.Steps.{advances_and_requests, enters_syncing, picks, is_at_tip, answers, hears_sync_info, tells_tip, hears_announced, ask_orphans, loses}
 use Rattle.model.specs.Steps.{ticks_syncing, ticks_synced, progresses, checks, evicts, plan_of, plan, remaining, retried, performed, after, commands}
 use Rattle.model.specs.Lists.{ids_in, peers_in}
 use Rattle.model.specs.Calls.{Call, Answer, args_of, step_of, step_answer}
@@ -500,7 +500,7 @@ module _ (st : State) (call : Call) where
   hears_announced_lem : (peer type_id : ℕ) (ids : List Id) → is_plain call.kind ≡ true → Course st call [] [] (hears_announced st (args_of call) peer type_id ids)
   unfolding hears_announced continues
   hears_announced_lem peer type_id [] k =
-      either (Course st call [] []) (eqb type_id header_type) (is_at_tip st (args_of call) [] st.sync.known_tip) (continues st (args_of call) [])
+      either (Course st call [] []) (tells_tip st (args_of call) peer type_id) (is_at_tip st (args_of call) [] st.sync.known_tip) (continues st (args_of call) [])
       (is_at_tip_lem st call [] st.sync.known_tip (plain_silent st call (is_at_tip st (args_of call) [] st.sync.known_tip) k))
       (goes_on_lem st call (continues st (args_of call) []) (plain_silent st call (continues st (args_of call) []) k) no_asks refl refl)
   hears_announced_lem peer type_id (id ∷ ids) k =

@@ -8,6 +8,7 @@ use Rattle.model.specs.Promises.Runs.{AnyRun}
 use Rattle.model.specs.Promises.Maps.{Maps}
 use Rattle.model.proofs.Promises.SeenLaws.{seen_as, Finished, promised}
 use Rattle.model.proofs.Promises.OutcomesKept.{outcomes_kept, modes_kept}
+use Rattle.model.proofs.Promises.PassedOverKept.{passed_over_kept}
 use Rattle.model.proofs.Promises.MarksKept.{sync_peer_kept, stalled_set_kept, marks_kept}
 use Rattle.model.proofs.Promises.SyncInfosKept.{sync_infos_kept, announcements_kept}
 use Rattle.model.proofs.Promises.HeightsKept.{downloaded_kept, known_tip_kept}
@@ -38,6 +39,7 @@ kept : (st : State) (call : Call) → Finished st call → Promises (seen_as st 
 kept st call f =
     record {
       outcomes = outcomes_kept st call f;
+      passed_over = passed_over_kept st call;
       modes = modes_kept st call f;
       sync_peer = sync_peer_kept st call f;
       stalled_set = stalled_set_kept st call f;

@@ -92,7 +92,7 @@ module _ (s : Seen) where
   look_kind (at_tick e m p) = ap may_look e
 
   ahead_kind : NothingAhead s → may_ask s.call.kind ≡ true
-  ahead_kind (no_headers e t i) = ap may_ask e
+  ahead_kind (no_headers e t i p) = ap may_ask e
   ahead_kind (tip_reached tip h p l) = ap may_ask h.kind
 
   ask_kind : NextSections s → may_ask s.call.kind ≡ true
@@ -130,13 +130,14 @@ module _ (s : Seen) where
   ask_on_entry kind k not (asked.at_section_tick e) = absurd (false≢true (sym not ∙ ap always_asks (sym k ∙ e)))
   ask_on_entry kind k not (asked.on_entry n m) = (n, m)
 
-  ahead_of_ids : s.call.kind ≡ numbers.announced_ids → NothingAhead s → (s.call.typeid ≡ numbers.a_header) × (ids s ≡ [])
-  ahead_of_ids k (no_headers e t i) = (t, i)
+  ahead_of_ids : s.call.kind ≡ numbers.announced_ids → NothingAhead s
+      → (s.call.typeid ≡ numbers.a_header) × (ids s ≡ []) × (s.call.peer ≡ s.before.sync.sync_peer)
+  ahead_of_ids k (no_headers e t i p) = (t, i, p)
   ahead_of_ids k (tip_reached tip h p l) = absurd (omega (arith, k, h.kind))
 
   ahead_of_info : s.call.kind ≡ numbers.sync_info → NothingAhead s
       → Heard s s.call.tip × (s.call.peer ≡ s.before.sync.sync_peer) × (s.call.tip ≤ s.call.height)
-  ahead_of_info k (no_headers e t i) = absurd (omega (arith, k, e))
+  ahead_of_info k (no_headers e t i p) = absurd (omega (arith, k, e))
   ahead_of_info k (tip_reached tip h p l) =
       (record { kind = k; parsed = h.parsed; named = h.named; names = refl }, p, let e = h.names in omega arith)
 
@@ -280,7 +281,7 @@ module _ (s : Seen) where
   ids_read_lem : s.call.kind ≡ numbers.announced_ids → (list : List Id) → ids s ≡ list
       → Reading s (hears_announced s.before (args s) s.call.peer s.call.typeid list)
   unfolding hears_announced
-  ids_read_lem k [] e = go (eqb s.call.typeid header_type) refl
+  ids_read_lem k [] e = go (eqb s.call.typeid header_type) (eqb s.call.peer s.before.sync.sync_peer) refl refl
     where
       st : State
       st = s.before
@@ -288,11 +289,16 @@ module _ (s : Seen) where
       a : Args
       a = args s
 
-      go : (t : Bool) → eqb s.call.typeid header_type ≡ t → Reading s (cond t (is_at_tip st a [] st.sync.known_tip) (continues st a []))
-      go true h =
+      go : (t p : Bool) → eqb s.call.typeid header_type ≡ t → eqb s.call.peer s.before.sync.sync_peer ≡ p
+          → Reading s (cond (t && p) (is_at_tip st a [] st.sync.known_tip) (continues st a []))
+      go true true h f =
           at_tip_reads [] st.sync.known_tip (no_look s numbers.announced_ids k refl) (λ n. (ask_on_entry s numbers.announced_ids k refl n).1)
-          (no_headers k (eqb-true s.call.typeid header_type h) e)
-      go false h =
+          (no_headers k (eqb-true s.call.typeid header_type h) e (eqb-true s.call.peer s.before.sync.sync_peer f))
+      go true false h f =
+          neither (no_look s numbers.announced_ids k refl)
+          (λ n. eqb-false s.call.peer s.before.sync.sync_peer f (ahead_of_ids s k (ask_on_entry s numbers.announced_ids k refl n).0).2)
+          (continues_still [])
+      go false p h f =
           neither (no_look s numbers.announced_ids k refl)
           (λ n. eqb-false s.call.typeid header_type h (ahead_of_ids s k (ask_on_entry s numbers.announced_ids k refl n).0).0) (continues_still [])
   ids_read_lem k (id ∷ others) e =

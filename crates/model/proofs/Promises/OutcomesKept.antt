@@ -18,7 +18,7 @@ use Rattle.model.specs.Events.{tip_outcome, raised_tip, continuation}
 use Rattle.model.specs.Steps
 use Rattle.model.specs.Steps.{Step, Args, Plan, of_mode, plan_of, plan, after}
 use Rattle.model.specs.Steps.{advances, picks, enters_syncing, continues, advances_and_requests, leaves, evicts, progresses, checks}
-use Rattle.model.specs.Steps.{hears_sync_info, answers, is_at_tip, hears_announced, loses, ticks_syncing, ticks_synced, ask_orphans}
+use Rattle.model.specs.Steps.{hears_sync_info, answers, is_at_tip, tells_tip, hears_announced, loses, ticks_syncing, ticks_synced, ask_orphans}
 use Rattle.model.specs.Calls.{Call, args_of, step_answer}
 use Rattle.model.specs.Promises.Numbers as numbers
 use Rattle.model.specs.Promises.Words.{Seen}
@@ -86,12 +86,13 @@ module _ (st : State) (call : Call) where
   why_announced : call.kind ≡ numbers.announced_ids → (ids : List Id) → ids_in call.ids ≡ ids
       → Why s (hears_announced st a call.peer call.typeid ids).outcome
   unfolding hears_announced is_at_tip continues
-  why_announced k [] e = go (eqb call.typeid header_type) refl
+  why_announced k [] e = go (eqb call.typeid header_type) from_sync_peer refl refl
     where
-      go : (t : Bool) → eqb call.typeid header_type ≡ t
-          → Why s (cond {A = Plan} t (is_at_tip st a [] st.sync.known_tip) (continues st a [])).outcome
-      go true h = no_headers k (eqb-true call.typeid header_type h) e
-      go false h = tt
+      go : (t p : Bool) → eqb call.typeid header_type ≡ t → from_sync_peer ≡ p
+          → Why s (cond {A = Plan} (t && p) (is_at_tip st a [] st.sync.known_tip) (continues st a [])).outcome
+      go true true h f = no_headers k (eqb-true call.typeid header_type h) e (eqb-true call.peer st.sync.sync_peer f)
+      go true false h f = tt
+      go false p h f = tt
   why_announced k (id ∷ ids) e = tt
 
   why_lost : call.kind ≡ numbers.lost_peer → Why s (loses st a call.peer).outcome
@@ -167,8 +168,8 @@ module _ (st : State) (call : Call) where
 
   gives_synced : NothingAhead s → (plan st a).outcome ≡ Synced
   unfolding plan_of hears_announced is_at_tip tip_outcome
-  gives_synced (no_headers k t e) =
-      outcome_of_lem (kinds.announced_ids k) Synced (rw (e, eq-eqb call.typeid header_type t))
+  gives_synced (no_headers k t e p) =
+      outcome_of_lem (kinds.announced_ids k) Synced (rw (e, eq-eqb call.typeid header_type t, eq-eqb call.peer st.sync.sync_peer p))
   gives_synced (tip_reached tip h p l) = hears tip h ∙ rw (eq-eqb call.peer st.sync.sync_peer p, le-leb tip call.height l)
 
   gives_behind : FarAhead s → (plan st a).outcome ≡ BehindPeer
@@ -259,7 +260,7 @@ module _ (st : State) (call : Call) where
 
   leads_announced : (peer type_id : ℕ) (ids : List Id) → Leads (hears_announced st arguments peer type_id ids)
   unfolding hears_announced is_at_tip continues
-  leads_announced peer type_id [] = go (eqb type_id header_type)
+  leads_announced peer type_id [] = go (tells_tip st arguments peer type_id)
     where
       go : (t : Bool) → Leads (cond t (is_at_tip st arguments [] st.sync.known_tip) (continues st arguments []))
       go true = refl

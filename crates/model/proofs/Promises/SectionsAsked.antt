@@ -235,10 +235,10 @@ module _ (st : State) (a : Args) where
       (tip_runs (continuation true a.chain_height (some tip) peer ids) (raised_tip st.sync.known_tip (some tip))
       (continuation_says true a.chain_height (some tip) peer ids) m)
 
-  -- "An empty header list"
-  told_runs : (peer : ℕ) → is_mode st.mode syncing ≡ true → RunsRule4 (hears_announced st a peer header_type [])
+  -- "an empty header list from the sync peer"
+  told_runs : (peer : ℕ) → peer ≡ st.sync.sync_peer → is_mode st.mode syncing ≡ true → RunsRule4 (hears_announced st a peer header_type [])
   unfolding hears_announced
-  told_runs peer m = tip_runs [] st.sync.known_tip tt m
+  told_runs peer p m = rw (eq-eqb peer st.sync.sync_peer p) (tip_runs [] st.sync.known_tip tt m)
 
 -- ---- the steps that run it
 
@@ -280,11 +280,12 @@ module _ (st : State) (call : Call) where
   tick_asks e =
       others_ask Steps.section_tick numbers.section_tick e (λ k. absurd (omega arith)) refl refl (advance_runs st (args_of call) st.sync.downloaded)
 
-  told_asks : call.kind ≡ numbers.announced_ids → st.mode ≡ syncing → AsksNext (Steps.announced call.peer header_type [])
+  told_asks : call.kind ≡ numbers.announced_ids → call.peer ≡ st.sync.sync_peer → st.mode ≡ syncing
+      → AsksNext (Steps.announced call.peer header_type [])
   unfolding plan_of remaining
-  told_asks e m =
+  told_asks e p m =
       others_ask (Steps.announced call.peer header_type []) numbers.announced_ids e (λ k. absurd (omega arith)) refl refl
-      (told_runs st (args_of call) call.peer (ap (λ (x : Mode). is_mode x syncing) m))
+      (told_runs st (args_of call) call.peer p (ap (λ (x : Mode). is_mode x syncing) m))
 
   heard_asks : call.kind ≡ numbers.sync_info → call.peer ≡ st.sync.sync_peer → call.tip ≤ call.height → st.mode ≡ syncing
       → AsksNext (Steps.sync_info call.peer true (some call.tip) (ids_in call.continuation))
@@ -313,7 +314,7 @@ module _ (st : State) (call : Call) where
   asks_next (in_reorg e) = subst AsksNext (sym (step_of_lem call (kinds.reorg e))) (reorg_asks e)
   asks_next (on_progress e) = subst AsksNext (sym (step_of_lem call (kinds.progress e))) (progress_asks e)
   asks_next (at_section_tick e) = subst AsksNext (sym (step_of_lem call (kinds.section_tick e))) (tick_asks e)
-  asks_next (on_entry (no_headers e t i) m) = subst AsksNext (sym (told_step e t i)) (told_asks e m)
+  asks_next (on_entry (no_headers e t i p) m) = subst AsksNext (sym (told_step e t i)) (told_asks e p m)
   asks_next (on_entry (tip_reached tip h p l) m) =
       subst AsksNext (sym (heard_step h.kind h.parsed h.named)) (heard_asks h.kind p (subst (λ (n : ℕ). n ≤ call.height) (sym h.names) l) m)
 

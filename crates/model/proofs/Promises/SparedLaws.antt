@@ -6,13 +6,13 @@ use mathlib.Core.List.{List, [], ◌∷◌}
 use mathlib.Core.Option.{Option, none, some}
 use lib.Dec.{eqb}
 use Rattle.fields.proofs.AllLaws.{either}
-use Rattle.model.specs.Protocol.{Id, header_type}
+use Rattle.model.specs.Protocol.{Id}
 use Rattle.model.specs.State.{State, syncing, seeking, is_mode}
 use Rattle.model.specs.Peers.{first_of}
 use Rattle.model.specs.Requests.{Act}
 use Rattle.model.specs.Events.{Outcome, Continue, Synced, BehindPeer, SyncPeerGone, Stalled, EndOfStream}
 use Rattle.model.specs.Steps.{Args, Plan, unmarked, without_peer, continues, leaves, enters_syncing, picks, is_at_tip, answers}
-use Rattle.model.specs.Steps.{hears_announced, ask_orphans, loses, ticks_syncing, ticks_synced, progresses}
+use Rattle.model.specs.Steps.{tells_tip, hears_announced, ask_orphans, loses, ticks_syncing, ticks_synced, progresses}
 
 module _ (st : State) (a : Args) where
   abbrev pub Spares : Plan → Type 0
@@ -26,7 +26,7 @@ module _ (st : State) (a : Args) where
   pub announced_spares : (peer type_id : ℕ) (ids : List Id) → Spares (hears_announced st a peer type_id ids)
   unfolding hears_announced is_at_tip continues unmarked
   announced_spares peer type_id [] =
-      either Spares (eqb type_id header_type) (is_at_tip st a [] st.sync.known_tip) (continues st a []) (refl, refl) (refl, refl)
+      either Spares (tells_tip st a peer type_id) (is_at_tip st a [] st.sync.known_tip) (continues st a []) (refl, refl) (refl, refl)
   announced_spares peer type_id (id ∷ ids) = (refl, refl)
 
   pub loses_spares : (peer : ℕ) → Spares (loses st a peer)

@@ -1,6 +1,6 @@
 -- Outcomes and modes: exactly when each outcome is given, which mode follows, which step is taken in which mode.
-use Rattle.std.specs.Prelude.{ℕ, ◌+◌, ◌≤◌, ◌<◌, ◌≡◌, ◌⊎◌, ◌↔◌, []}
-use Rattle.model.specs.State.{Mode, new, seeking, syncing, synced, ended}
+use Rattle.std.specs.Prelude.{ℕ, ◌+◌, ◌≤◌, ◌<◌, ◌≡◌, ◌⊎◌, ◌↔◌, false, []}
+use Rattle.model.specs.State.{Mode, new, seeking, syncing, synced, ended, with_sync_peer}
 use Rattle.model.specs.Promises.Numbers
 use Rattle.model.specs.Promises.Words.{Seen, ids, peers}
 
@@ -12,10 +12,33 @@ pub record Heard (s : Seen) (tip : ℕ) : Type 0 where
   pub names : s.call.tip ≡ tip
 
 pub data NothingAhead (s : Seen) : Type 0 where
-  -- "An empty header list gives Synced, from any peer."
-  no_headers : s.call.kind ≡ Numbers.announced_ids → s.call.typeid ≡ Numbers.a_header → ids s ≡ [] → NothingAhead s
+  -- F-5: "an empty header list from the sync peer gives Synced"
+  no_headers :
+      s.call.kind ≡ Numbers.announced_ids → s.call.typeid ≡ Numbers.a_header → ids s ≡ [] → s.call.peer ≡ s.before.sync.sync_peer
+      → NothingAhead s
   -- "sync peer with tip <= ours: Synced"
   tip_reached : (tip : ℕ) → Heard s tip → s.call.peer ≡ s.before.sync.sync_peer → tip ≤ s.call.height → NothingAhead s
+
+-- F-5: an empty header list "from any other peer"
+pub record OthersHaveNone (s : Seen) : Type 0 where
+  pub kind : s.call.kind ≡ Numbers.announced_ids
+  pub headers : s.call.typeid ≡ Numbers.a_header
+  pub none : ids s ≡ []
+  pub other : s.call.peer ≡ s.before.sync.sync_peer → ⊥
+
+-- "gives Continue, with no reply": nothing is sent, and only the clock and the entry mark move, as in any step.
+pub record PassedOver (s : Seen) : Type 0 where
+  pub continues : s.answer.outcome ≡ Numbers.says_continue
+  pub silent : s.sent ≡ []
+  pub state :
+      s.after
+      ≡ record {
+        settings = s.before.settings;
+        mode = s.before.mode;
+        last_clock = s.call.clock;
+        pending = s.before.pending;
+        sync = with_sync_peer s.before.sync s.before.sync.sync_peer s.before.sync.progress_used false;
+      }
 
 -- "tip > ours + 1: BehindPeer", of any peer
 pub data FarAhead (s : Seen) : Type 0 where

@@ -1,6 +1,6 @@
 //! Rules 4 and 5: windows, gaps, rows that a view lacks, the top of the range.
 
-use crate::build::{id, missing, place, syncing, Build, CASES};
+use crate::build::{id, missing, place, syncing, Build, CASES, SYNC_PEER};
 use crate::Script;
 use keeper_values::numbers::kinds;
 use keeper_values::{Mode, Place, Row, State, View};
@@ -48,6 +48,7 @@ fn windows(scripts: &mut Vec<Script>) {
                     scripts.push(
                         Build::put(&name, from(downloaded, mode_of(kind)))
                             .call(kind, |c| {
+                                c.peer = SYNC_PEER;
                                 c.type_id = 101;
                                 c.fork = u32::MAX;
                                 c.height = height;
@@ -70,6 +71,7 @@ fn windows(scripts: &mut Vec<Script>) {
             scripts.push(
                 Build::put(&name, from(5, mode_of(kind)))
                     .call(kind, |c| {
+                        c.peer = SYNC_PEER;
                         c.type_id = 101;
                         c.gate = gate;
                         c.fork = u32::MAX;
@@ -100,6 +102,7 @@ fn windows_of_one_type(scripts: &mut Vec<Script>) {
             scripts.push(
                 Build::put(&name, from(0, mode_of(kind)))
                     .call(kind, |c| {
+                        c.peer = SYNC_PEER;
                         c.type_id = 101;
                         c.height = view.rows.len() as u32;
                         c.peers = vec![6, 4];
@@ -127,6 +130,7 @@ fn window_edge(scripts: &mut Vec<Script>) {
                 from(0, mode_of(kind)),
             )
             .call(kind, |c| {
+                c.peer = SYNC_PEER;
                 c.type_id = 101;
                 c.fork = 7;
                 c.height = 300;

@@ -1,6 +1,6 @@
 //! Rules 2, 3, 7 and 8: messages, control events, the throttle.
 
-use crate::build::{id, ids, syncing, Build, CASES};
+use crate::build::{id, ids, syncing, Build, CASES, SYNC_PEER};
 use crate::Script;
 use keeper_values::numbers::kinds;
 use keeper_values::{Mode, Request, Row, Settings, State, View};
@@ -36,6 +36,7 @@ fn announcements(scripts: &mut Vec<Script>) {
                             c.peers = vec![7];
                         })
                         .announce(6, type_id, vec![])
+                        .announce(4, type_id, vec![])
                         .call(kinds::OTHER_MESSAGE, |c| {
                             c.peer = 6;
                             c.type_id = type_id;
@@ -248,6 +249,7 @@ fn disagreements(scripts: &mut Vec<Script>) {
                 .call(kind, |c| {
                     c.height = 5;
                     c.fork = 9;
+                    c.peer = SYNC_PEER;
                     c.type_id = 101;
                     c.peers = vec![5];
                     c.view = view.clone();

@@ -152,6 +152,7 @@ fn synced(scripts: &mut Vec<Script>) {
             Build::synced("synced ticks", CASES, 4)
                 .announce(6, 102, ids(1, 2))
                 .announce(7, 101, vec![])
+                .announce(4, 101, vec![])
                 .tip(4, 3, 3)
                 .tip(6, 3, 3)
                 .call(kinds::SCHEDULED_TICK, |c| {
