@@ -101,7 +101,7 @@ impl Check {
         if !self.settings.expired(self.clock, typeid, checks, stamp) {
             return Verdict::Waiting;
         }
-        if typeid == model::TRANSACTION {
+        if typeid == model::TRANSACTION_TYPE_ID {
             return Verdict::Forgotten;
         }
         if self.settings.given_up(checks + 1) {

@@ -14,7 +14,7 @@ use Rattle.model.specs.Layout.{command_header, id_size}
 
 -- where the next command stands
 abbrev pub behind : List ℕ → ℕ
-behind bytes = command_header + field 12 4 bytes * id_size
+behind bytes = command_header + field 13 4 bytes * id_size
 
 -- more than enough is enough
 within_alike : (n m : ℕ) (bytes : List ℕ) → length bytes ≤ n → length bytes ≤ m → commands_within n bytes ≡ commands_within m bytes
@@ -60,9 +60,9 @@ module _ {bytes : List ℕ} {count at : ℕ} (c : Counted bytes count at) where
     pub ends_short : length bytes - at < command_header → count + 1 ≡ length (commands_in bytes)
     ends_short h = omega (arith, c.rest, first, count_none (at + behind (drop at bytes)) bytes (omega arith))
 
-    pub goes_on_lem : {ids : ℕ} → ids ≡ from_be (take 4 (drop (at + 12) bytes)) → Counted bytes (count + 1) (at + command_header + ids * id_size)
+    pub goes_on_lem : {ids : ℕ} → ids ≡ from_be (take 4 (drop (at + 13) bytes)) → Counted bytes (count + 1) (at + command_header + ids * id_size)
     goes_on_lem {ids} e =
-        let same : at + behind (drop at bytes) ≡ at + command_header + ids * id_size = rw (e, drop-drop 12 at bytes) (omega arith) in
+        let same : at + behind (drop at bytes) ≡ at + command_header + ids * id_size = rw (e, drop-drop 13 at bytes) (omega arith) in
         let next = rw same at first in
         record { rest = omega (arith, c.rest, next); few = omega (arith, c.few) }
 

@@ -15,7 +15,7 @@ use Rattle.model.specs.Requests.{request, runs, runs_within, commands_of}
 use Rattle.model.specs.Lists.{ids_in}
 use Rattle.model.specs.Commands.{command_bytes, all_command_bytes}
 use Rattle.commands.proofs.WriteLaws.{counted_ids, command_for, length_command}
-use Rattle.model.specs.Layout.{id_size}
+use Rattle.model.specs.Layout.{command_header, id_size}
 
 -- ---- runs of ids
 
@@ -169,20 +169,20 @@ module _ {type_id batch peer at : ℕ} {bytes : List ℕ} {count : ℕ} {d : Lis
         this_first : requests_for type_id batch peer (drop done bytes) ≡ this ++ others
         this_first = requests_turn type_id batch peer (drop done bytes) left_whole some counted ∙ rw (← e)
 
-        long_run : length this ≡ 16 + length run
+        long_run : length this ≡ command_header + length run
         long_run = length_command 1 type_id batch peer run n run_whole
 
-        long_left : length (requests_for type_id batch peer (drop done bytes)) ≡ 16 + length run + length others
+        long_left : length (requests_for type_id batch peer (drop done bytes)) ≡ command_header + length run + length others
         long_left = ap length this_first ∙ length-append this others ∙ rw long_run
 
         -- what writing it asks
-        pub put_asks : (length run ≡ n * id_size) × ((n ≤ tracked_limit) × (place + 16 + length run ≤ length out))
+        pub put_asks : (length run ≡ n * id_size) × ((n ≤ tracked_limit) × (place + command_header + length run ≤ length out))
         put_asks = (run_whole, (next_few, omega (arith, s.to, s.long, long_left, all.room)))
 
         behind : drop (done + length run) bytes ≡ drop (n * id_size) (drop done bytes)
         behind = rw (run_whole, drop-drop)
 
-        pub put_turn : {o : List ℕ} {place' : ℕ} → (o ≡ overwritten place this out) × (place' ≡ place + 16 + length run)
+        pub put_turn : {o : List ℕ} {place' : ℕ} → (o ≡ overwritten place this out) × (place' ≡ place + command_header + length run)
             → Putting type_id batch peer at bytes d o place' (done + length run) (left - n)
         put_turn {o} {place'} w =
             let r : place + length this + length others ≤ length out = omega (arith, s.to, s.long, long_left, long_run, all.room) in

@@ -3,7 +3,7 @@ ghost use Rattle.std.specs.Prelude.{◌≡◌, length};
 ghost use Rattle.model.specs.Commands.{commands_in};
 ghost use Rattle.model.specs.Lists.{ids_in};
 
-use model::layout::ID_SIZE;
+use model::layout::{COMMAND_HEADER, ID_SIZE};
 
 // Any bytes are answered: what is left at the end, if it is too short for a header, counts as one.
 pub fn count_commands(bytes: &[u8]) -> usize
@@ -14,12 +14,12 @@ pub fn count_commands(bytes: &[u8]) -> usize
     // No `for`: each command's own header says how far it reaches.
     while at < bytes.len() {
         count += 1;
-        if bytes.len() - at < 16 {
+        if bytes.len() - at < COMMAND_HEADER {
             return count;
         }
         // No `From`: a `usize` may be shorter in Rust.
-        let ids = fields::read_u32(bytes, at + 12) as usize;
-        at = at + 16 + ids * ID_SIZE;
+        let ids = fields::read_u32(bytes, at + 13) as usize;
+        at = at + COMMAND_HEADER + ids * ID_SIZE;
     }
     count
 }

@@ -1,24 +1,26 @@
 // Commands written one behind another.
 //
 // Ids come with their count: nothing is divided here, so they are counted once, by the caller.
-ghost use Rattle.std.specs.Prelude.{◌≡◌, [], ◌∷◌, ◌+◌, ◌*◌, ◌≤◌, length};
+ghost use Rattle.std.specs.Prelude.{◌≡◌, ◌∷◌, ◌+◌, ◌*◌, ◌≤◌, length};
+ghost use Rattle.fields.specs.Number.{to_be};
 ghost use Rattle.fields.specs.Overwrite.{overwritten};
 ghost use Rattle.model.specs.Requests.{commands_of, request};
 ghost use Rattle.model.specs.Commands.{command_bytes, all_command_bytes};
 ghost use Rattle.model.specs.Lists.{ids_in};
-ghost use Rattle.model.specs.Layout.{id_size};
+ghost use Rattle.model.specs.Layout.{command_header, id_size, type_size};
 ghost use Rattle.model.specs.Protocol.{tracked_limit};
 
 use crate::kind::REQUEST;
 use crate::place::Place;
+use model::layout::COMMAND_HEADER;
 
-// The first two bytes of a command.
-fn put_kind(out: &mut [u8], at: usize, kind: u8, typeid: u8)
-    requires { at + 2 ≤ length out.old }
-    ensures { out.new ≡ overwritten at (kind ∷ typeid ∷ []) out.old }
+// Kind and type of a command.
+fn put_kind(out: &mut [u8], at: usize, kind: u8, typeid: u16)
+    requires { at + (1 + type_size) ≤ length out.old }
+    ensures { out.new ≡ overwritten at (kind ∷ to_be type_size typeid) out.old }
 {
     out[at] = kind;
-    out[at + 1] = typeid;
+    fields::write_u16(out, at + 1, typeid);
 }
 
 // One command at a place, with `count` ids. Answers where it ends. A struct of its fields would be taken apart at once.
@@ -26,29 +28,29 @@ pub fn put_command(
     out: &mut [u8],
     place: Place,
     kind: u8,
-    typeid: u8,
+    typeid: u16,
     peer: u64,
     ids: &[u8],
     count: usize,
 ) -> usize
-    requires { (length ids.now ≡ count * id_size) × ((count ≤ tracked_limit) × (place.at + 16 + length ids.now ≤ length out.old)) }
+    requires { (length ids.now ≡ count * id_size) × ((count ≤ tracked_limit) × (place.at + command_header + length ids.now ≤ length out.old)) }
     ensures out_after { out.new ≡ overwritten place.at (command_bytes (record { kind = kind; type_id = typeid; batch = place.batch; peer = peer; ids = ids_in ids.now })) out.old }
-    ensures value { result ≡ place.at + 16 + length ids.now }
+    ensures value { result ≡ place.at + command_header + length ids.now }
 {
     let at = place.at;
     put_kind(out, at, kind, typeid);
-    fields::write_u16(out, at + 2, place.batch);
-    fields::write_u64(out, at + 4, peer);
-    fields::write_u32(out, at + 12, count as u32);
-    spans::moving::overwrite(out, at + 16, ids);
-    at + 16 + ids.len()
+    fields::write_u16(out, at + 3, place.batch);
+    fields::write_u64(out, at + 5, peer);
+    fields::write_u32(out, at + 13, count as u32);
+    spans::moving::overwrite(out, at + COMMAND_HEADER, ids);
+    at + COMMAND_HEADER + ids.len()
 }
 
 // A list of `count` ids as one batch, in requests of at most 400. Answers where they end.
 pub fn put_requests(
     out: &mut [u8],
     place: Place,
-    typeid: u8,
+    typeid: u16,
     peer: u64,
     ids: &[u8],
     count: usize,

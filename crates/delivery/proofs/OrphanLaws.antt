@@ -3,33 +3,30 @@ use Prim.Native.Nat.{ℕ, zero, suc, ◌+◌, ◌*◌, ◌≤◌, ◌<◌}
 use mathlib.Core.Path.{◌≡◌, refl, sym, ap, ◌∙◌}
 use mathlib.Core.Bool.{Bool, true, false, not, ◌&&◌}
 use mathlib.Core.List.{List, [], ◌∷◌, map}
-use native.Mathlib.Nat.{not-suc-le-zero, le_of_suc-le-suc}
 use native.Mathlib.Numerals.{add-one}
 use native.Mathlib.Omega.{arith}
 use lib.Dec.{eqb}
-use lib.ListN.{length, take, drop, get_or, set, length-map, length-drop, drop_of_length-le}
-use lib.Seq.{drop-cons, get_or-take, get_or-drop, length-take-le}
-use borrow.Author.Tests.{eqb-true}
-use Rattle.fields.specs.Number.{from_be}
+use lib.ListN.{length, take, drop, length-map, length-drop, drop_of_length-le}
+use lib.Seq.{drop-cons, length-take-le}
+use Rattle.fields.specs.Number.{from_be, to_be}
 use Rattle.fields.specs.Overwrite.{overwritten}
 use Rattle.fields.specs.Entries.{entries, entry, joined}
 use Rattle.fields.specs.Filter.{cons_if, kept}
 use Rattle.fields.proofs.AllLaws.{all_kept, all_drop, all_map}
-use Rattle.fields.proofs.OrderLaws.{and_left, and_right}
 use Rattle.fields.proofs.FilterLaws.{length_kept}
 use Rattle.fields.proofs.MarkLaws.{kept_map}
-use Rattle.fields.proofs.OverwriteLaws.{overwritten_nil, overwritten_one, overwritten_next, length_overwritten}
+use Rattle.fields.proofs.OverwriteLaws.{overwritten_nil, overwritten_next, length_overwritten}
 use Rattle.fields.proofs.EntriesLaws.{Wide, length_entries, length_entry, entries_at, entries_wide, entry_front, length_joined}
 use Rattle.model.specs.Protocol.{is_transaction}
 use Rattle.model.specs.Delivery.{Request, orphans_of}
-use Rattle.model.specs.Image.{request_of, types_narrow}
+use Rattle.model.specs.Image.{request_of}
 use Rattle.model.specs.Calls.{pair_bytes}
-use Rattle.model.proofs.RecordLaws.{high_low}
+use Rattle.model.proofs.ListLaws.{length_pair}
 use Rattle.commands.specs.Pending.{requests_in}
 use Rattle.commands.proofs.RecordedLaws.{peer_read, type_read}
 use Rattle.delivery.proofs.HeldLaws.{length_filtered}
 use Rattle.delivery.specs.Orphans.{is_orphan, pair_in}
-use Rattle.model.specs.Layout.{id_size, pair_size, record_size}
+use Rattle.model.specs.Layout.{id_size, pair_size, record_size, type_size}
 
 map_map {ℓ κ ν} : {A : Type ℓ} {B : Type κ} {C : Type ν} (g : B → C) (f : A → B) (xs : List A) → map g (map f xs) ≡ map (λ (x : A). g (f x)) xs
 map_map g f [] = refl
@@ -42,10 +39,6 @@ module _ (i : ℕ) (table : List ℕ) where
   unfolding request_of
   id_at = entry_front record_size i 32 table (omega arith)
 
-  low_at : get_or (entry record_size i table) 41 0 ≡ get_or table (i * record_size + 41) 0
-  unfolding entry
-  low_at = get_or-take record_size (drop (i * record_size) table) 41 0 (omega arith) ∙ get_or-drop (i * record_size) table 41 0
-
   -- ---- whose it is
 
   pub orphan_test : (asked type_id peer : ℕ) → asked ≡ from_be (take 8 (drop (i * record_size + id_size) table))
@@ -54,43 +47,26 @@ module _ (i : ℕ) (table : List ℕ) where
   unfolding is_orphan is_transaction
   orphan_test asked type_id peer a b = rw (a ∙ peer_read i table, b ∙ type_read i table)
 
-  -- ---- its pair: the type's high byte is zero
+  -- ---- its pair
 
-  type_low : i * record_size + record_size ≤ length table → get_or (entry record_size i table) 40 0 ≡ 0
-      → (request_of (entry record_size i table)).type_id ≡ get_or table (i * record_size + 41) 0
-  type_low h z =
-      let l : length (entry record_size i table) ≡ record_size = length_entry record_size i table h in
-      let n : 0 * 256 + get_or table (i * record_size + 41) 0 ≡ get_or table (i * record_size + 41) 0 = omega arith in
-      high_low (entry record_size i table) l ∙ rw (z, low_at) n
-
-  pub pair_put : (to : ℕ) (pairs : List ℕ) {new : List ℕ} → i * record_size + record_size ≤ length table → to * pair_size + pair_size ≤ length pairs
-      → get_or (entry record_size i table) 40 0 ≡ 0
-      → new ≡ overwritten (to * pair_size + 1) (take id_size (drop (i * record_size) table)) (set pairs (to * pair_size) (get_or table (i * record_size + 41) 0))
+  pub pair_put : (to : ℕ) (pairs : List ℕ) {typeid : ℕ} {new typed : List ℕ} → i * record_size + record_size ≤ length table
+      → to * pair_size + pair_size ≤ length pairs
+      → typeid ≡ from_be (take 2 (drop (i * record_size + 40) table))
+      → typed ≡ overwritten (to * pair_size) (to_be type_size typeid) pairs
+      → new ≡ overwritten (to * pair_size + type_size) (take id_size (drop (i * record_size) table)) typed
       → new ≡ overwritten (to * pair_size) (pair_in (entry record_size i table)) pairs
   unfolding pair_in
-  pair_put to pairs h l z q =
-      let low : ℕ = get_or table (i * record_size + 41) 0 in
+  pair_put to pairs {typeid} h l e w q =
       let id : List ℕ = take id_size (drop (i * record_size) table) in
       let n : length id ≡ id_size = length-take-le 32 (drop (i * record_size) table) (rw (length-drop (i * record_size) table) (omega arith)) in
-      let e : set pairs (to * pair_size) low ≡ overwritten (to * pair_size) (low ∷ []) pairs = overwritten_one (to * pair_size) low pairs (omega arith) in
-      q ∙ rw (e, type_low h z, id_at) (overwritten_next (to * pair_size) (low ∷ []) id pairs (omega arith))
-
--- the high byte of each type is zero
-narrow_each : (es : List (List ℕ)) (i : ℕ) → types_narrow es ≡ true → i < length es → get_or (get_or es i []) 40 0 ≡ 0
-narrow_each [] i h l = absurd (not-suc-le-zero l)
-narrow_each (e ∷ es) zero h l = eqb-true (get_or e 40 0) 0 (and_left (eqb (get_or e 40 0) 0) (types_narrow es) h)
-narrow_each (e ∷ es) (suc i) h l = narrow_each es i (and_right (eqb (get_or e 40 0) 0) (types_narrow es) h) (le_of_suc-le-suc l)
-
-pub narrow_at : (count i : ℕ) (table : List ℕ) → types_narrow (entries record_size count table) ≡ true → i < count → get_or (entry record_size i table) 40 0 ≡ 0
-narrow_at count i table h l =
-    let inside : i < length (entries record_size count table) = rw (length_entries record_size count table) l in
-    rw (entries_at record_size count i table l) at (narrow_each (entries record_size count table) i h inside)
+      let t : typeid ≡ (request_of (entry record_size i table)).type_id = e ∙ type_read i table in
+      q ∙ rw (w, t, id_at) (overwritten_next (to * pair_size) (to_be type_size (request_of (entry record_size i table)).type_id) id pairs (omega arith))
 
 -- ---- orphans gathered
 
-length_pair : (e : List ℕ) → length e ≡ record_size → length (pair_in e) ≡ pair_size
+length_pair_in : (e : List ℕ) → length e ≡ record_size → length (pair_in e) ≡ pair_size
 unfolding pair_in request_of
-length_pair e l = ap suc (length-take-le 32 e (omega arith))
+length_pair_in e l = length_pair (request_of e).type_id (take id_size e) (length-take-le 32 e (omega arith))
 
 -- the peer's records from i on that are no transactions
 abbrev orphans_from : ℕ → ℕ → List ℕ → ℕ → List (List ℕ)
@@ -134,7 +110,7 @@ module _ {peer count : ℕ} {table pairs₀ pairs : List ℕ} {found i : ℕ} (s
         let behind = all_drop (λ (e : List ℕ). length e ≡ record_size) (i + 1) (entries record_size count table) wide-entries in
         let es : List (List ℕ) = drop (i + 1) (entries record_size count table) in
         let w : Wide record_size rest = all_kept (λ (e : List ℕ). length e ≡ record_size) (is_orphan peer) es behind in
-        let pairs_wide = all_map (λ (e : List ℕ). length e ≡ record_size) (λ (e : List ℕ). length e ≡ pair_size) pair_in length_pair rest w in
+        let pairs_wide = all_map (λ (e : List ℕ). length e ≡ record_size) (λ (e : List ℕ). length e ≡ pair_size) pair_in length_pair_in rest w in
         length_joined pair_size (map pair_in rest) pairs_wide ∙ rw (length-map rest pair_in)
 
     pub takes : {answer : Bool} → answer ≡ is_orphan peer one → answer ≡ true → {pairs' : List ℕ} {found' : ℕ}
@@ -142,7 +118,7 @@ module _ {peer count : ℕ} {table pairs₀ pairs : List ℕ} {found i : ℕ} (s
     takes a b e f =
         let yes : is_orphan peer one ≡ true = sym a ∙ b in
         let lo : length one ≡ record_size = length_entry record_size i table (omega arith) in
-        let lp : length (pair_in one) ≡ pair_size = length_pair one lo in
+        let lp : length (pair_in one) ≡ pair_size = length_pair_in one lo in
         let lr : length (joined (map pair_in rest)) ≡ length rest * pair_size = length_rest in
         let le : length pairs ≡ length pairs₀ = s.long in
         let nu : found + suc (length rest) ≡ length (orphans_from peer count table 0) = rw (next, yes) at s.number in

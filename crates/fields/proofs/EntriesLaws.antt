@@ -8,7 +8,7 @@ use borrow.Author.Tests.{leb-true, leb-false}
 use native.Mathlib.Nat.{add-mul, suc-mul, zero-mul, zero-add, suc-add, not-suc-le-zero, le_of_suc-le-suc, mul-le-mul_right}
 use native.Mathlib.Omega.{arith}
 use lib.ListN.{length, take, drop, get_or, set, length-append, length-drop, length-set, take-append-drop}
-use lib.Seq.{take-append-le, drop-append-le, take_at, drop_at, drop-drop, take-take, take-add, length-take-le, set_split, drop-append-add}
+use lib.Seq.{take-append-le, drop-append-le, take_at, drop_at, drop-drop, take-take, take-add, length-take-le, set_split, drop-append-add, get_or-take, get_or-drop}
 use Rattle.fields.specs.Zero.{zeros}
 use Rattle.fields.specs.Overwrite.{overwritten}
 use Rattle.fields.specs.Entries.{entries, entry, joined, inserted_at, replaced}
@@ -205,6 +205,10 @@ entries_behind width n k es s l h =
     rw (entries_cut width n k (take (n * width) s) (es ++ drop (n * width + length es) s) t, entries_take width n (n * width) s (omega arith) (omega arith), entries_front width k es (drop (n * width + length es) s) (omega arith))
 
 -- ---- a field, some bytes of an entry
+
+pub entry_byte : (width i k : ℕ) (bytes : List ℕ) → k < width → get_or (entry width i bytes) k 0 ≡ get_or bytes (i * width + k) 0
+unfolding entry
+entry_byte width i k bytes h = get_or-take width (drop (i * width) bytes) k 0 h ∙ get_or-drop (i * width) bytes k 0
 
 pub entry_field : (width i at size : ℕ) (bytes : List ℕ) → at + size ≤ width → take size (drop at (entry width i bytes)) ≡ take size (drop (i * width + at) bytes)
 unfolding entry

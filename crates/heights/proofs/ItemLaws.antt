@@ -10,36 +10,27 @@ use Rattle.fields.specs.Facts.{All, Bytes}
 use Rattle.fields.specs.Filter.{cons_if}
 use Rattle.fields.specs.Overwrite.{overwritten}
 use Rattle.fields.specs.Entries.{entries, joined}
-use Rattle.fields.proofs.AllLaws.{all_append, all_weaker, map_all}
-use Rattle.fields.proofs.NumberLaws.{bytes_tail}
+use Rattle.fields.proofs.AllLaws.{all_append}
 use Rattle.fields.proofs.EntriesLaws.{Wide, entries_joined}
 use Rattle.model.specs.Protocol.{window_size}
 use Rattle.model.specs.Sections.{Section, Header, absent, present, View, Item, Window, missing, widen, window_within}
 use Rattle.model.specs.Lists.{view_of, view_fits}
-use Rattle.model.proofs.Well.{WellId}
+use Rattle.model.proofs.Well.{WellId, WellType}
+use Rattle.model.proofs.SectionLaws.{window_all}
 use Rattle.model.proofs.ArgumentLaws.{view_well}
 use Rattle.heights.specs.Window.{item_pair}
-use Rattle.heights.proofs.MissingLaws.{WellPairBytes, window_pairs, pairs_well, pairs_wide, window_most}
+use Rattle.heights.proofs.MissingLaws.{window_pairs, pairs_wide, window_most}
 use Rattle.model.specs.Layout.{pair_size}
 
--- a type of one byte, an id of 32
+-- a type of two bytes, an id of 32
 pub record WellRequested (i : Item) : Type 0 where
-  pub type_id : i.type_id < 256
+  pub type_id : WellType i.type_id
   pub id : WellId i.id
-
-item_well : (i : Item) → WellPairBytes (item_pair i) → WellRequested i
-unfolding item_pair
-item_well i w =
-    let l : suc (length i.id) ≡ pair_size = w.0 in
-    record { type_id = w.1 0; id = record { long = omega arith; bytes = bytes_tail i.type_id i.id w.1 } }
 
 module _ (bytes : List ℕ) (b : Bytes bytes) (fits : view_fits bytes ≡ true) (peer : ℕ) where
   pub items_well : (n height : ℕ) → All WellRequested (window_within n (view_of bytes) peer height).items
   items_well n height =
-      let items : List Item = (window_within n (view_of bytes) peer height).items in
-      let w : All WellPairBytes (map item_pair items) =
-      rw (window_pairs n (view_of bytes) peer height) (pairs_well n (view_of bytes) height (view_well bytes b fits)) in
-      all_weaker (λ (i : Item). WellPairBytes (item_pair i)) WellRequested item_well items (map_all WellPairBytes item_pair items w)
+      window_all WellRequested peer (λ s w. record { type_id = w.type_id; id = w.id }) n (view_of bytes) height (view_well bytes b fits)
 
   pub items_most : (chain downloaded : ℕ) → length (window_within (min (downloaded + window_size) chain - downloaded) (view_of bytes) peer downloaded).items ≤ 576
   items_most chain downloaded = window_most (view_of bytes) chain downloaded peer (view_well bytes b fits)

@@ -12,7 +12,6 @@ use Rattle.fields.specs.Facts.{All, Bytes}
 use Rattle.fields.specs.Filter.{cons_if, kept}
 use Rattle.fields.specs.Overwrite.{overwritten}
 use Rattle.fields.specs.Entries.{entries, joined}
-use Rattle.fields.proofs.NumberLaws.{bytes_cons}
 use Rattle.fields.proofs.AllLaws.{all_append, all_weaker}
 use Rattle.fields.proofs.EntriesLaws.{Wide, length_entries}
 use Rattle.model.specs.Protocol.{window_size}
@@ -28,6 +27,7 @@ use Rattle.heights.proofs.RowLaws.{Turn, next_none, next_row, present_row}
 use Rattle.heights.proofs.PlaceLaws.{missing_all}
 use Rattle.heights.proofs.WritingLaws.{Writing, writing_room, writing_next, writing_ends}
 use Rattle.model.specs.Layout.{pair_size, place_size, window_pairs_size}
+use Rattle.model.proofs.ListLaws.{length_pair, pair_is_bytes}
 
 -- ---- the window's pairs, whoever is asked
 
@@ -77,12 +77,12 @@ window_pairs (suc n) view peer height =
 length_pairs : (n : ℕ) (view : View) (peer height : ℕ) → length (pairs_within n view height) ≡ length (window_within n view peer height).items
 length_pairs n view peer height = rw (← window_pairs n view peer height) (length-map (window_within n view peer height).items item_pair)
 
--- a pair is a type below 256 and 32 bytes of an id
+-- a pair is two bytes of a type and 32 of an id
 abbrev pub WellPairBytes : List ℕ → Type 0
 WellPairBytes pair = (length pair ≡ pair_size) × Bytes pair
 
 section_pair : (s : Section) → WellSection s → WellPairBytes (pair_bytes s.type_id s.id)
-section_pair s w = (ap suc w.id.long, bytes_cons s.type_id s.id w.type_id w.id.bytes)
+section_pair s w = (length_pair s.type_id s.id w.id.long, pair_is_bytes s.type_id s.id w.id.bytes)
 
 further_well : (header : Option Header) (rest : List (List ℕ)) → IfSome WellHeader header → All WellPairBytes rest
     → All WellPairBytes (further_pairs header rest)

@@ -5,24 +5,27 @@ use mathlib.Core.Bool.{Bool, true, false, not}
 use mathlib.Core.List.{List, [], ◌∷◌, ◌++◌, map, append-nil}
 use native.Mathlib.Numerals.{add-one}
 use native.Mathlib.Omega.{arith}
-use lib.ListN.{length, take, drop, get_or, length-map, length-drop, drop_of_length-le, get_or-map}
-use lib.Seq.{drop-cons, drop-drop, take-take, get_or-take, get_or-drop, length-take-le}
+use lib.ListN.{length, take, drop, get_or, length-map, length-take, length-drop, drop_of_length-le, get_or-map}
+use lib.Seq.{drop-cons, drop-drop, take-add, take-take, get_or-take, get_or-drop, length-take-le}
 use borrow.Author.Tests.{eq-eqb, ne_eqb}
-use Rattle.fields.specs.Facts.{All}
+use Rattle.fields.specs.Facts.{All, Bytes}
+use Rattle.fields.specs.Number.{from_be, to_be}
 use Rattle.fields.specs.Filter.{cons_if, kept}
 use Rattle.fields.specs.Overwrite.{overwritten}
 use Rattle.fields.specs.Entries.{entries, entry, joined}
+use Rattle.fields.proofs.NumberLaws.{bytes_take, bytes_drop, to_be_from_be}
 use Rattle.fields.proofs.OverwriteLaws.{overwritten_nil}
 use Rattle.fields.proofs.AllLaws.{all_kept, all_map, all_drop}
 use Rattle.fields.proofs.EntriesLaws.{Wide, length_entries, entries_at, entries_wide}
 use Rattle.model.specs.Sections.{Section}
 use Rattle.model.specs.Calls.{pair_bytes}
-use Rattle.model.specs.Lists.{section_of}
+use Rattle.model.specs.Lists.{type_in, section_of}
+use Rattle.model.proofs.ListLaws.{length_pair}
 use Rattle.heights.specs.Rows.{row_at, sections_of}
 use Rattle.heights.specs.Pairs.{missing_pairs, row_pairs, place_pairs}
 use Rattle.heights.proofs.RowLaws.{row_part, length_row}
 use Rattle.heights.proofs.WritingLaws.{Writing, writing_room, writing_next, writing_ends}
-use Rattle.model.specs.Layout.{id_size, pair_size, place_size, row_size}
+use Rattle.model.specs.Layout.{id_size, pair_size, place_size, row_size, type_size}
 
 -- ---- any sections
 
@@ -59,28 +62,34 @@ module _ (view : List ℕ) (at : ℕ) (h : at + place_size ≤ length view) wher
   flag_at = get_or-take place_size (drop at view) pair_size 0 (omega arith) ∙ get_or-drop at view pair_size 0
 
   -- type and id stand side by side
-  pair_at : pair_bytes (section_of (take place_size (drop at view))).type_id (section_of (take place_size (drop at view))).id ≡ take pair_size (drop at view)
+  pair_at : Bytes view → pair_bytes (section_of (take place_size (drop at view))).type_id (section_of (take place_size (drop at view))).id ≡ take pair_size (drop at view)
   unfolding section_of
-  pair_at = rw (drop-cons view at 0 (omega arith)) (rw (take-take id_size pair_size (drop (suc at) view) (omega arith)))
+  pair_at b =
+      let place : List ℕ = take place_size (drop at view) in
+      let typed : List ℕ = take type_size place in
+      let two : length typed ≡ type_size = length-take-le type_size place (simp (length-take, length-drop) (omega arith)) in
+      let back : to_be type_size (from_be typed) ≡ typed = rw two at (to_be_from_be typed (bytes_take type_size place (bytes_take place_size (drop at view) (bytes_drop at view b)))) in
+      ap (λ (x : List ℕ). x ++ take id_size (drop type_size place)) back ∙ sym (take-add type_size id_size place)
+      ∙ take-take pair_size place_size (drop at view) (omega arith)
 
   stored_at : get_or view (at + pair_size) 0 ≡ 1 → place_pairs at view ≡ []
   unfolding missing_pairs section_of
   stored_at s = rw (flag_at, eq-eqb (get_or view (at + pair_size) 0) 1 s)
 
-  missing_at : (get_or view (at + pair_size) 0 ≡ 1 → ⊥) → place_pairs at view ≡ take pair_size (drop at view) ∷ []
+  missing_at : Bytes view → (get_or view (at + pair_size) 0 ≡ 1 → ⊥) → place_pairs at view ≡ take pair_size (drop at view) ∷ []
   unfolding section_of
-  missing_at s =
-      missing_one (section_of (take place_size (drop at view))) (rw (flag_at, ne_eqb (get_or view (at + pair_size) 0) 1 s)) ∙ ap (λ pair. pair ∷ []) pair_at
+  missing_at b s =
+      missing_one (section_of (take place_size (drop at view))) (rw (flag_at, ne_eqb (get_or view (at + pair_size) 0) 1 s)) ∙ ap (λ pair. pair ∷ []) (pair_at b)
 
   pub place_stored : (to : ℕ) (pairs : List ℕ) → get_or view (at + pair_size) 0 ≡ 1
       → (to ≡ to + length (place_pairs at view)) × (pairs ≡ overwritten (to * pair_size) (joined (place_pairs at view)) pairs)
   place_stored to pairs s = rw (stored_at s) (omega arith, sym (overwritten_nil (to * pair_size) pairs))
 
-  module _ (to : ℕ) (pairs : List ℕ) (s : get_or view (at + pair_size) 0 ≡ 1 → ⊥) where
+  module _ (to : ℕ) (pairs : List ℕ) (b : Bytes view) (s : get_or view (at + pair_size) 0 ≡ 1 → ⊥) where
     pub place_room : (to + length (place_pairs at view)) * pair_size ≤ length pairs
         → to * pair_size + length (take (at + pair_size - at) (drop at view)) ≤ length pairs
     place_room r =
-        let r' : (to + 1) * pair_size ≤ length pairs = rw (missing_at s) at r in
+        let r' : (to + 1) * pair_size ≤ length pairs = rw (missing_at b s) at r in
         let e : at + pair_size - at ≡ pair_size = omega arith in
         let l : length (take pair_size (drop at view)) ≡ pair_size = length-take-le pair_size (drop at view) (simp length-drop (omega arith)) in
         rw (e, l) (omega arith)
@@ -89,17 +98,18 @@ module _ (view : List ℕ) (at : ℕ) (h : at + place_size ≤ length view) wher
         → (to + 1 ≡ to + length (place_pairs at view)) × (pairs' ≡ overwritten (to * pair_size) (joined (place_pairs at view)) pairs)
     place_written e =
         let k : at + pair_size - at ≡ pair_size = omega arith in
-        rw (missing_at s, append-nil) (refl, e ∙ rw k)
+        rw (missing_at b s, append-nil) (refl, e ∙ rw k)
 
 -- ---- a row
 
--- the pair of a section is 33 bytes
+-- the pair of a section has its width
 abbrev Long : Section → Type 0
 Long s = length (pair_bytes s.type_id s.id) ≡ pair_size
 
 long_place : (place : List ℕ) → length place ≡ place_size → Long (section_of place)
 unfolding section_of
-long_place place l = ap suc (length-take-le 32 (drop 1 place) (simp length-drop (omega arith)))
+long_place place l =
+    length_pair (type_in place) (take id_size (drop type_size place)) (length-take-le 32 (drop type_size place) (simp length-drop (omega arith)))
 
 -- row i stands in the view, and uses three places at most
 pub record Stands (i : ℕ) (view : List ℕ) : Type 0 where

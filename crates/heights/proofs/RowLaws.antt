@@ -81,14 +81,14 @@ module _ (row : List ℕ) where
   flag : (at : ℕ) → get_or (take place_size (drop at row)) pair_size 0 ≡ get_or row (at + pair_size) 0
   flag at = get_or-take place_size (drop at row) pair_size 0 (omega arith) ∙ get_or-drop at row pair_size 0
 
-  second_place : drop place_size (drop 1 row) ≡ drop 35 row
+  second_place : drop place_size (drop 1 row) ≡ drop 36 row
   second_place = drop-drop place_size 1 row
 
-  third_place : drop place_size (drop place_size (drop 1 row)) ≡ drop 69 row
-  third_place = rw second_place (drop-drop place_size 35 row)
+  third_place : drop place_size (drop place_size (drop 1 row)) ≡ drop 71 row
+  third_place = rw second_place (drop-drop place_size 36 row)
 
   fourth_place : length row ≡ row_size → drop place_size (drop place_size (drop place_size (drop 1 row))) ≡ []
-  fourth_place l = rw third_place (drop-drop place_size 69 row ∙ drop_of_length-le row {i = row_size} (omega arith))
+  fourth_place l = rw third_place (drop-drop place_size 71 row ∙ drop_of_length-le row {i = row_size} (omega arith))
 
 -- Three places at most are read: a fourth would stand behind the row, where nothing is stored.
 complete_by : (row : List ℕ) → length row ≡ row_size → (count : ℕ)
@@ -97,8 +97,8 @@ complete_by : (row : List ℕ) → length row ≡ row_size → (count : ℕ)
 unfolding section_of
 complete_by row l zero = refl
 complete_by row l (suc zero) = rw (flag row 1)
-complete_by row l (suc (suc zero)) = rw (second_place row, flag row 1, flag row 35)
-complete_by row l (suc (suc (suc zero))) = rw (third_place row, second_place row, flag row 1, flag row 35, flag row 69, ← and_end (eqb (get_or row (3 * place_size) 0) 1))
+complete_by row l (suc (suc zero)) = rw (second_place row, flag row 1, flag row 36)
+complete_by row l (suc (suc (suc zero))) = rw (third_place row, second_place row, flag row 1, flag row 36, flag row 71, ← and_end (eqb (get_or row (3 * place_size) 0) 1))
 complete_by row l (suc (suc (suc (suc n)))) =
     rw (le-ltb (suc (suc (suc (suc n)))) 4 (omega arith), fourth_place row l)
     (fourth_not_stored (eqb (suc (suc (suc (suc n)))) 255) (section_of (take place_size (drop 1 row))) (section_of (take place_size (drop place_size (drop 1 row))))

@@ -27,7 +27,7 @@ module _ (s : List ℕ) where
 
   -- the header's runs
   pub head_written : (h : Head) → 74 ≤ length s → {t₀ t₁ t₂ t₃ t₄ t₅ t₆ t₇ t₈ t₉ t₁₀ t₁₁ t₁₂ t₁₃ t₁₄ : List ℕ}
-      → t₀ ≡ overwritten 0 (69 ∷ 68 ∷ 84 ∷ 0 ∷ 1 ∷ h.mode ∷ bit h.used ∷ bit h.sent ∷ []) s
+      → t₀ ≡ overwritten 0 (69 ∷ 68 ∷ 84 ∷ 0 ∷ 2 ∷ h.mode ∷ bit h.used ∷ bit h.sent ∷ []) s
       → t₁ ≡ overwritten 8 (to_be 8 h.clock) t₀
       → t₂ ≡ overwritten 16 (to_be 4 h.settings.timeout) t₁
       → t₃ ≡ overwritten 20 (to_be 4 h.settings.checks) t₂

@@ -2,7 +2,7 @@
 use Rattle.std.specs.Prelude.{ℕ, List, [], ◌∷◌, ◌++◌, length, get_or, eqb}
 use Rattle.fields.specs.Number.{to_be}
 use Rattle.model.specs.State.{State, mode_number}
-use Rattle.model.specs.Image.{field, bit}
+use Rattle.model.specs.Image.{newest_version, field, bit}
 use Rattle.image.specs.declared.head.Head.{Head}
 
 -- what the header of an area says
@@ -28,7 +28,7 @@ head_in area =
 unfoldable pub head_bytes : Head → List ℕ
 head_bytes h =
     69 ∷ 68 ∷ 84 ∷ []
-    ++ (to_be 2 1
+    ++ (to_be 2 newest_version
     ++ (h.mode ∷ bit h.used ∷ bit h.sent ∷ []
     ++ (to_be 8 h.clock
     ++ (to_be 4 h.settings.timeout

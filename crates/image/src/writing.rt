@@ -9,17 +9,18 @@ ghost use Rattle.model.specs.Image.{bit};
 ghost use Rattle.image.specs.Heads.{head_bytes};
 
 use crate::head::Head;
+use model::layout::NEWEST_VERSION;
 
 // Mark, version, mode and the two marks, byte by byte: the compiler makes one store of them.
 fn write_start(area: &mut [u8], mode: u8, used: bool, sent: bool)
     requires { 8 ≤ length area.old }
-    ensures { area.new ≡ overwritten 0 (69 ∷ 68 ∷ 84 ∷ 0 ∷ 1 ∷ mode ∷ bit used ∷ bit sent ∷ []) area.old }
+    ensures { area.new ≡ overwritten 0 (69 ∷ 68 ∷ 84 ∷ 0 ∷ 2 ∷ mode ∷ bit used ∷ bit sent ∷ []) area.old }
 {
     area[0] = 69;
     area[1] = 68;
     area[2] = 84;
     area[3] = 0;
-    area[4] = 1;
+    area[4] = NEWEST_VERSION as u8;
     area[5] = mode;
     area[6] = u8::from(used);
     area[7] = u8::from(sent);

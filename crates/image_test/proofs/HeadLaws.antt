@@ -11,7 +11,7 @@ use borrow.Author.Tests.{leb-true, ne_eqb}
 use Rattle.fields.specs.Order.{same}
 use Rattle.fields.proofs.OrderLaws.{and_left, and_right}
 use Rattle.model.specs.State.{syncing, is_mode, has_sync_peer}
-use Rattle.model.specs.Image.{field, mode_of, mode_byte, marks_fit, counts_fit, clocks_fit, pending_count, stalled_count, evicted_count}
+use Rattle.model.specs.Image.{field, mode_of, mode_byte, version_fits, marks_fit, counts_fit, clocks_fit, pending_count, stalled_count, evicted_count}
 use Rattle.image_test.specs.Head.{head_fits}
 use Rattle.model.specs.Protocol.{tracked_limit}
 
@@ -61,7 +61,7 @@ together true true true marks rest = refl
 
 module _ (area : List ℕ) where
   pub parts_fit : {starts marks counts clocks peer : Bool}
-      → starts ≡ same (take 3 area) (69 ∷ 68 ∷ 84 ∷ []) && (eqb (field 3 2 area) 1 && leb (mode_byte area) 4)
+      → starts ≡ same (take 3 area) (69 ∷ 68 ∷ 84 ∷ []) && (version_fits area && leb (mode_byte area) 4)
       → marks ≡ marks_fit area
       → counts ≡ counts_fit area
       → clocks ≡ clocks_fit area
@@ -69,7 +69,7 @@ module _ (area : List ℕ) where
       → (starts && marks) && (counts && (clocks && peer)) ≡ head_fits area
   unfolding head_fits
   parts_fit e₁ e₂ e₃ e₄ e₅ =
-      rw (e₁, e₂, e₃, e₄, e₅) (together (same (take 3 area) (69 ∷ 68 ∷ 84 ∷ [])) (eqb (field 3 2 area) 1) (leb (mode_byte area) 4) (marks_fit area)
+      rw (e₁, e₂, e₃, e₄, e₅) (together (same (take 3 area) (69 ∷ 68 ∷ 84 ∷ [])) (version_fits area) (leb (mode_byte area) 4) (marks_fit area)
       (counts_fit area && (clocks_fit area && (has_sync_peer (mode_of (mode_byte area)) || eqb (field 48 8 area) 0))))
 
   counts_few : counts_fit area ≡ true → (stalled_count area ≤ 256) × (pending_count area + evicted_count area ≤ tracked_limit)
@@ -86,8 +86,8 @@ module _ (area : List ℕ) where
   head_few h =
       let last : Bool = clocks_fit area && (has_sync_peer (mode_of (mode_byte area)) || eqb (field 48 8 area) 0) in
       let later : Bool = marks_fit area && (counts_fit area && last) in
-      let h₁ : eqb (field 3 2 area) 1 && (leb (mode_byte area) 4 && later) ≡ true = and_right (same (take 3 area) (69 ∷ 68 ∷ 84 ∷ [])) _ h in
-      let h₂ : leb (mode_byte area) 4 && later ≡ true = and_right (eqb (field 3 2 area) 1) _ h₁ in
+      let h₁ : version_fits area && (leb (mode_byte area) 4 && later) ≡ true = and_right (same (take 3 area) (69 ∷ 68 ∷ 84 ∷ [])) _ h in
+      let h₂ : leb (mode_byte area) 4 && later ≡ true = and_right (version_fits area) _ h₁ in
       let h₃ : later ≡ true = and_right (leb (mode_byte area) 4) _ h₂ in
       let h₄ : counts_fit area && last ≡ true = and_right (marks_fit area) _ h₃ in
       counts_few (and_left (counts_fit area) last h₄)

@@ -11,6 +11,7 @@ ghost use Rattle.model.specs.Image.{field, mode_of};
 ghost use Rattle.image_test.specs.Head.{head_fits};
 
 use image::mode::{ENDED, SYNCED, SYNCING};
+use model::layout::NEWEST_VERSION;
 
 // An area that holds a whole header.
 #[derive(Clone, Copy)]
@@ -20,14 +21,15 @@ struct Header<'a> {
 }
 
 impl Header<'_> {
-    // Mark, version and mode.
+    // Mark, version and mode. Version 1 is read too (F-6).
+    #[tactic(auto, unfolding(model::specs::Image::version_fits))]
     fn starts_well(self) -> bool
-        ensures { result ≡ same (take 3 self.entry.area.now) (69 ∷ 68 ∷ 84 ∷ []) && (eqb (field 3 2 self.entry.area.now) 1 && leb (image.mode_byte self.entry.area.now) 4) }
+        ensures { result ≡ same (take 3 self.entry.area.now) (69 ∷ 68 ∷ 84 ∷ []) && (image.version_fits self.entry.area.now && leb (image.mode_byte self.entry.area.now) 4) }
     {
         let area = self.area;
         let version = fields::read_u16(area, 3);
         ((area[0] == 69) & ((area[1] == 68) & (area[2] == 84)))
-            & ((version == 1) & (area[5] <= ENDED))
+            & (((version == NEWEST_VERSION) | (version == 1)) & (area[5] <= ENDED))
     }
 
     // Whether both marks are 0 or 1, and 0 outside syncing.

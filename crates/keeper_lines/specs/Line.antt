@@ -47,7 +47,7 @@ unfoldable pub request_of : List (List ℕ) → Option Line
 request_of =
     field (decimal (2 ^ 64)) (λ clock.
     field (decimal (2 ^ 64)) (λ peer.
-    field (decimal (2 ^ 8)) (λ typeid.
+    field (decimal (2 ^ 16)) (λ typeid.
     field hex_byte (λ id. done (Request clock peer typeid id)))))
 
 -- `c CLOCK`

@@ -13,7 +13,7 @@ pub enum Line {
     // timeout, limit
     Settings(u32, u32),
     // clock, peer, type, the byte that the id repeats
-    Request(u64, u64, u8, u8),
+    Request(u64, u64, u16, u8),
     // clock
     Check(u64),
 }
@@ -36,12 +36,12 @@ fn request(line: &[u8]) -> Option<Line>
 {
     let (clock, a) = decimal_behind(line, 1, u64::MAX)?;
     let (peer, b) = decimal_behind(line, a, u64::MAX)?;
-    let (typeid, c) = decimal_behind(line, b, 255)?;
+    let (typeid, c) = decimal_behind(line, b, 65535)?;
     let (id, d) = hex_behind(line, c)?;
     if d < line.len() {
         return None;
     }
-    Some(Line::Request(clock, peer, typeid as u8, id))
+    Some(Line::Request(clock, peer, typeid as u16, id))
 }
 
 // `c CLOCK`

@@ -110,7 +110,7 @@ module _ (settings : Settings) (clock : ℕ) where
       go Delivery.abandoned e q = q
       go Delivery.forgotten e q = q
 
-  module _ (type_id peer : ℕ) (ht : type_id < 2 ^ 8) (hp : peer < 2 ^ 64) where
+  module _ (type_id peer : ℕ) (ht : type_id < 2 ^ 16) (hp : peer < 2 ^ 64) where
     fits_marked : (ids : List Id) (rs : List Request) → All OneByte ids → All (Fits settings clock) rs
         → All (Fits settings clock) (mark_requested clock type_id peer ids rs)
     fits_marked [] rs o h = h

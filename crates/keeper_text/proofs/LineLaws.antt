@@ -178,7 +178,7 @@ module _ {keeper : Keeper} {table : List ℕ} {clock : ℕ} (t : InTime keeper t
 pub record Asked (keeper : Keeper) (table : List ℕ) (clock peer type_id byte : ℕ) : Type 0 where
   pub in_time : InTime keeper table clock
   pub peer_fits : peer < 2 ^ 64
-  pub type_fits : type_id < 2 ^ 8
+  pub type_fits : type_id < 2 ^ 16
   pub byte_fits : byte < 256
 
 module _ {keeper : Keeper} {table : List ℕ} {clock peer type_id byte : ℕ} (q : Asked keeper table clock peer type_id byte) where

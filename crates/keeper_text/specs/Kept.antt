@@ -22,7 +22,7 @@ keeping_in keeper table =
 pub record Fits (settings : Settings) (clock : ℕ) (r : Request) : Type 0 where
   pub id : r.id ≡ id_of (get_or r.id 0 0)
   pub byte : get_or r.id 0 0 < 256
-  pub type_id : r.type_id < 2 ^ 8
+  pub type_id : r.type_id < 2 ^ 16
   pub peer : r.peer < 2 ^ 64
   pub stamp : r.stamp ≤ clock
   pub checks : r.checks < most_requests settings r.type_id

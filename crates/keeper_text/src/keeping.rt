@@ -14,7 +14,7 @@ ghost use Rattle.keeper_text.specs.Kept.{keeping_in, values_of, keeper_of, Kept,
 use commands::place::Place;
 use keeper_lines::lines::Line;
 use lists::pairs::Pairs;
-use model::layout::TRACKED_LIMIT;
+use model::layout::{COMMAND_SIZE, TRACKED_LIMIT};
 use peers::aim::Aim;
 use settings::Settings;
 
@@ -92,7 +92,7 @@ fn request(
     keeper: Keeper,
     clock: u64,
     peer: u64,
-    typeid: u8,
+    typeid: u16,
     byte: u8,
     at: usize,
 ) -> Option<(Keeper, usize)>
@@ -107,7 +107,7 @@ fn request(
     let count = keeper.count;
     let ids = [byte; 32];
     let mut rest = [0; 32];
-    let mut sent = [0; 48];
+    let mut sent = [0; COMMAND_SIZE];
     let none = Pairs { bytes: b"" };
     let place = Place { at: 0, batch: 0 };
     let Ok(written) = request_announced::request::request_announced(

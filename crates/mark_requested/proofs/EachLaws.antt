@@ -26,7 +26,7 @@ pub record Each (clock type_id peer count : ℕ) (ids : List Id) (d : List ℕ) 
   pub room : (count + length ids) * record_size ≤ length d
   pub rises : rising id_size (entries record_size count d) ≡ true
   pub clock_fits : clock < 2 ^ 64
-  pub type_fits : type_id < 2 ^ 8
+  pub type_fits : type_id < 2 ^ 16
   pub peer_fits : peer < 2 ^ 64
   pub wide : Wide id_size ids
   pub bytes_ids : All Bytes ids

@@ -34,7 +34,7 @@ module _ (clock type_id peer : ℕ) where
           let l = length_inserted id_before (new_request clock type_id peer id) rs in
           (omega arith, omega arith)
 
-  pub marked_recorded : clock < 2 ^ 64 → type_id < 2 ^ 8 → peer < 2 ^ 64 → (ids : List Id) (rs : List Request) → All WellId ids → All Recorded rs
+  pub marked_recorded : clock < 2 ^ 64 → type_id < 2 ^ 16 → peer < 2 ^ 64 → (ids : List Id) (rs : List Request) → All WellId ids → All Recorded rs
       → All Recorded (mark_requested clock type_id peer ids rs)
   marked_recorded hc ht hp [] rs w h = h
   marked_recorded hc ht hp (id ∷ ids) rs w h =

@@ -20,7 +20,7 @@ use model::layout::{CHECKS_AT, ID_SIZE, PEER_AT, RECORD_SIZE, STAMP_AT, TYPE_AT}
 #[derive(Clone, Copy)]
 pub struct Asking {
     pub clock: u64,
-    pub typeid: u8,
+    pub typeid: u16,
     pub peer: u64,
 }
 
@@ -31,7 +31,7 @@ fn put_record(out: &mut [u8], at: usize, asking: Asking, id: &[u8; ID_SIZE])
 {
     spans::moving::overwrite(out, at, id);
     fields::write_u64(out, at + PEER_AT, asking.peer);
-    fields::write_u16(out, at + TYPE_AT, u16::from(asking.typeid));
+    fields::write_u16(out, at + TYPE_AT, asking.typeid);
     fields::write_u64(out, at + STAMP_AT, asking.clock);
     fields::write_u32(out, at + CHECKS_AT, 0);
 }

@@ -85,7 +85,7 @@ pub fn mark_requested(
     count: usize,
     most: usize,
     clock: u64,
-    typeid: u8,
+    typeid: u16,
     peer: u64,
     ids: &[u8],
 ) -> Result<usize, TrackerError>

@@ -16,6 +16,7 @@ use Rattle.fields.proofs.NumberLaws.{bytes_take, bytes_drop, from_be_below}
 use Rattle.fields.proofs.EntriesLaws.{length_entries, entries_at, length_entry}
 use Rattle.fields.proofs.AllLaws.{all_map, all_at, all_weaker, all_both, either, entries_all}
 use Rattle.fields.proofs.OrderLaws.{and_left, and_right}
+use Rattle.fields.proofs.PartLaws.{part_below}
 use Rattle.model.specs.Sections.{absent, present}
 use Rattle.model.specs.Lists.{list_fits, ids_in, peers_in, pair_of, pairs_in, entries_of, ids_fit, continuation_fits, pairs_fit, view_fits, section_of, header_of, used_places, row_fits, rows_fit, first_height, row_count, view_of}
 use Rattle.model.specs.Calls.{Call, step_of, args_of, lists_fit}
@@ -23,7 +24,7 @@ use Rattle.model.specs.Demand3.{InWidth}
 use Rattle.model.proofs.Well.{WellId}
 use Rattle.model.proofs.ListLaws.{ids_wide, length_ids, ids_bytes}
 use Rattle.model.proofs.Widths.{IfSome, WellPeer, WellHeight, WellPair, WellSection, WellHeader, WellView, WellStep, WellArgs}
-use Rattle.model.specs.Layout.{id_size, pair_size, peer_size, place_size, row_size}
+use Rattle.model.specs.Layout.{id_size, pair_size, peer_size, place_size, row_size, type_size}
 use Rattle.model.specs.Protocol.{tracked_limit}
 
 -- ---- lists
@@ -52,7 +53,7 @@ pair_well : (e : List ℕ) → (length e ≡ pair_size) × Bytes e → WellPair 
 unfolding pair_of
 pair_well e p =
     let l : length e ≡ pair_size = p.0 in
-    record { type_id = p.1 0; id = record { long = simp length-drop (omega arith); bytes = bytes_drop 1 e p.1 } }
+    record { type_id = part_below 0 type_size e (omega arith) p.1; id = record { long = simp length-drop (omega arith); bytes = bytes_drop type_size e p.1 } }
 
 pub pairs_well : (bytes : List ℕ) → Bytes bytes → All WellPair (pairs_in bytes)
 unfolding pairs_in
@@ -67,8 +68,8 @@ unfolding section_of
 section_well place p =
     let l : length place ≡ place_size = p.0 in
     record {
-      type_id = p.1 0;
-      id = record { long = length-take-le id_size (drop 1 place) (simp length-drop (omega arith)); bytes = bytes_take id_size (drop 1 place) (bytes_drop 1 place p.1) };
+      type_id = part_below 0 type_size place (omega arith) p.1;
+      id = record { long = length-take-le id_size (drop type_size place) (simp length-drop (omega arith)); bytes = bytes_take id_size (drop type_size place) (bytes_drop type_size place p.1) };
     }
 
 pub header_well : (row : List ℕ) → length row ≡ row_size → Bytes row → row_fits row ≡ true → WellHeader (header_of row)

@@ -40,11 +40,13 @@ use Rattle.model.proofs.StepLaws.{retried_items_well, args_well, of_mode_lem}
 use Rattle.model.proofs.CommandLaws.{commands_read_back}
 use Rattle.model.proofs.SendingLaws.{weight, act_weight, performed_sends_well, retries_sent_well, commands_well, sendings_bytes, performed_weight}
 use Rattle.model.proofs.SendingLaws.{performed_count, batches_weight, retries_weight, retries_count}
-use Rattle.model.specs.Layout.{most_bytes}
+use Rattle.model.specs.Layout.{command_header, command_size, most_bytes}
 
 -- ---- the plans
 
-sections_weight : (view : View) (chain_height height : ℕ) (peer : Option ℕ) → WellView view → total act_weight (request_sections_from view chain_height height peer).acts ≤ 48 * (3 * window_size)
+sections_weight :
+    (view : View) (chain_height height : ℕ) (peer : Option ℕ) → WellView view
+    → total act_weight (request_sections_from view chain_height height peer).acts ≤ command_size * (3 * window_size)
 unfolding request_sections_from
 sections_weight view chain_height height none v = omega arith
 sections_weight view chain_height height (some peer) v =
@@ -52,36 +54,52 @@ sections_weight view chain_height height (some peer) v =
     let items = (window_within n view peer height).items in
     let few : length items ≤ 3 * n = window_few n view peer height v in
     let size : n ≤ window_size = omega arith in
-    let e : total act_weight (map (λ (b : Batch). ask b.type_id b.peer [] b.ids) (batches_of items)) ≡ 48 * length items = batches_weight (λ (b : Batch). ask b.type_id b.peer [] b.ids) (λ b. refl) items in
+    let asked : Batch → Act = λ (b : Batch). ask b.type_id b.peer [] b.ids in
+    let e : total act_weight (map asked (batches_of items)) ≡ command_size * length items = batches_weight asked (λ b. refl) items in
     omega arith
 
-say_weight : (settings : Settings) (clock : ℕ) (s : SendClock) (peer : ℕ) → total act_weight (sync_info_to settings clock s peer) ≤ 32
-unfolding sync_info_to
-say_weight settings clock s peer = either (λ (acts : List Act). total act_weight acts ≤ 32) (throttled settings clock s.last_send) [] (send (requests.sync_info peer) ∷ []) (omega arith) (omega arith)
+-- an announcement of 400 ids at most, with an act's header
+abbrev told_most : ℕ
+told_most = 2 * command_header + 400 * command_size
 
-announce_weight : (peer : ℕ) (ids : List Id) → length ids ≤ 400 → total act_weight (announce peer ids) ≤ 19232
+-- 192 heights of three sections
+abbrev sections_most : ℕ
+sections_most = 576 * command_size
+
+say_weight : (settings : Settings) (clock : ℕ) (s : SendClock) (peer : ℕ) → total act_weight (sync_info_to settings clock s peer) ≤ 2 * command_header
+unfolding sync_info_to
+say_weight settings clock s peer =
+    let light = λ (acts : List Act). total act_weight acts ≤ 2 * command_header in
+    either light (throttled settings clock s.last_send) [] (send (requests.sync_info peer) ∷ []) (omega arith) (omega arith)
+
+announce_weight : (peer : ℕ) (ids : List Id) → length ids ≤ 400 → total act_weight (announce peer ids) ≤ told_most
 announce_weight peer [] l = omega arith
 announce_weight peer (id ∷ ids) l = omega arith
 
-continuation_weight : (parsed : Bool) (ours : ℕ) (known : Option ℕ) (peer : ℕ) (ids : List Id) → length ids ≤ 400 → total act_weight (continuation parsed ours known peer ids) ≤ 19232
+continuation_weight :
+    (parsed : Bool) (ours : ℕ) (known : Option ℕ) (peer : ℕ) (ids : List Id) → length ids ≤ 400
+    → total act_weight (continuation parsed ours known peer ids) ≤ told_most
 unfolding continuation
 continuation_weight parsed ours known peer ids l =
-    either (λ (acts : List Act). total act_weight acts ≤ 19232) (parsed && (ltb 0 ours && not_above ours known)) (announce peer ids) [] (announce_weight peer ids l) (omega arith)
+    let light = λ (acts : List Act). total act_weight acts ≤ told_most in
+    either light (parsed && (ltb 0 ours && not_above ours known)) (announce peer ids) [] (announce_weight peer ids l) (omega arith)
 
-fresh_weight : (peer : Option ℕ) (pairs : List Pair) (ids : List Id) → total act_weight (ask_fresh peer pairs ids) ≤ 48 * length ids
+fresh_weight : (peer : Option ℕ) (pairs : List Pair) (ids : List Id) → total act_weight (ask_fresh peer pairs ids) ≤ command_size * length ids
 fresh_weight none pairs ids = omega arith
 fresh_weight (some peer) pairs ids = omega arith
 
 module _ (st : State) (a : Args) (tracked : length st.pending + length st.sync.evicted ≤ tracked_limit) (args : WellArgs a) where
-  window_weight : (height : ℕ) → total act_weight (sections_from st a height).acts ≤ 27648
+  window_weight : (height : ℕ) → total act_weight (sections_from st a height).acts ≤ sections_most
   unfolding sections_from request_next_sections
   window_weight height = sections_weight a.view a.chain_height height (first_of a.peers) args.view
 
-  say_to_weight : (peer : ℕ) → total act_weight (say_to st a peer) ≤ 32
+  say_to_weight : (peer : ℕ) → total act_weight (say_to st a peer) ≤ 2 * command_header
   unfolding say_to
   say_to_weight peer = say_weight st.settings a.clock st.sync.send_clock peer
 
-  enters_weight : (outcome : Outcome) (peer : ℕ) (acts : List Act) (sync : Sync) → total act_weight acts ≤ 19232 → total act_weight (enters_syncing st a outcome peer acts sync).acts ≤ most_bytes
+  enters_weight :
+      (outcome : Outcome) (peer : ℕ) (acts : List Act) (sync : Sync) → total act_weight acts ≤ told_most
+      → total act_weight (enters_syncing st a outcome peer acts sync).acts ≤ most_bytes
   unfolding enters_syncing
   enters_weight outcome peer acts sync h =
       let w = say_weight st.settings a.clock sync.send_clock peer in
@@ -92,7 +110,7 @@ module _ (st : State) (a : Args) (tracked : length st.pending + length st.sync.e
   picks_weight none = omega arith
   picks_weight (some peer) = enters_weight Continue peer [] _ (omega arith)
 
-  at_tip_weight : (acts : List Act) (tip : ℕ) → total act_weight acts ≤ 19232 → total act_weight (is_at_tip st a acts tip).acts ≤ most_bytes
+  at_tip_weight : (acts : List Act) (tip : ℕ) → total act_weight acts ≤ told_most → total act_weight (is_at_tip st a acts tip).acts ≤ most_bytes
   unfolding is_at_tip
   at_tip_weight acts tip h = go (is_mode st.mode syncing)
     where
@@ -100,7 +118,9 @@ module _ (st : State) (a : Args) (tracked : length st.pending + length st.sync.e
       go true = let w = window_weight st.sync.downloaded in rw (total_append act_weight acts (sections_from st a st.sync.downloaded).acts) (omega arith)
       go false = rw (total_append act_weight acts []) (omega arith)
 
-  answers_weight : (peer : ℕ) (acts : List Act) (tip : ℕ) (outcome : Outcome) → total act_weight acts ≤ 19232 → total act_weight (answers st a peer acts tip outcome).acts ≤ most_bytes
+  answers_weight :
+      (peer : ℕ) (acts : List Act) (tip : ℕ) (outcome : Outcome) → total act_weight acts ≤ told_most
+      → total act_weight (answers st a peer acts tip outcome).acts ≤ most_bytes
   unfolding answers continues
   answers_weight peer acts tip Continue h = let w = say_to_weight peer in rw (total_append act_weight acts (say_to st a peer)) (omega arith)
   answers_weight peer acts tip Synced h = at_tip_weight acts tip h
@@ -109,7 +129,9 @@ module _ (st : State) (a : Args) (tracked : length st.pending + length st.sync.e
   answers_weight peer acts tip Stalled h = omega arith
   answers_weight peer acts tip EndOfStream h = omega arith
 
-  hears_sync_info_weight : (peer : ℕ) (parsed : Bool) (tip : Option ℕ) (ids : List Id) → length ids ≤ 400 → total act_weight (hears_sync_info st a peer parsed tip ids).acts ≤ most_bytes
+  hears_sync_info_weight :
+      (peer : ℕ) (parsed : Bool) (tip : Option ℕ) (ids : List Id) → length ids ≤ 400
+      → total act_weight (hears_sync_info st a peer parsed tip ids).acts ≤ most_bytes
   unfolding hears_sync_info
   hears_sync_info_weight peer parsed tip ids l =
       let known = cond parsed tip none in
@@ -135,7 +157,7 @@ module _ (st : State) (a : Args) (tracked : length st.pending + length st.sync.e
       let orphans : List Request = orphans_of lost st.pending in
       let few : length orphans ≤ length st.pending = length_kept test st.pending in
       let same : length (map f orphans) ≡ length orphans = length-map orphans f in
-      let e : total act_weight (map (λ (b : Batch). ask b.type_id peer a.stored b.ids) (batches_of (map f orphans))) ≡ 48 * length (map f orphans) =
+      let e : total act_weight (map (λ (b : Batch). ask b.type_id peer a.stored b.ids) (batches_of (map f orphans))) ≡ command_size * length (map f orphans) =
       batches_weight (λ (b : Batch). ask b.type_id peer a.stored b.ids) (λ b. refl) (map f orphans) in
       omega arith
 
@@ -143,7 +165,9 @@ module _ (st : State) (a : Args) (tracked : length st.pending + length st.sync.e
   unfolding loses leaves continues
   loses_weight peer = go (eqb peer st.sync.sync_peer) (is_mode st.mode syncing)
     where
-      go : (t u : Bool) → total act_weight (cond t (leaves st a SyncPeerGone seeking (cond u (ask_orphans st a peer (first_of a.peers)) [])) (continues st a [])).acts ≤ most_bytes
+      go :
+          (t u : Bool)
+          → total act_weight (cond t (leaves st a SyncPeerGone seeking (cond u (ask_orphans st a peer (first_of a.peers)) [])) (continues st a [])).acts ≤ most_bytes
       go true true = orphans_weight peer (first_of a.peers)
       go true false = omega arith
       go false u = omega arith
@@ -185,12 +209,12 @@ module _ (st : State) (a : Args) (tracked : length st.pending + length st.sync.e
           omega arith
       go false = omega arith
 
-  checks_weight : (also : Bool) → total act_weight (checks st a also).acts ≤ 48 * length st.sync.evicted
+  checks_weight : (also : Bool) → total act_weight (checks st a also).acts ≤ command_size * length st.sync.evicted
   unfolding checks
   checks_weight also = fresh_weight (first_of a.peers) a.stored st.sync.evicted
 
   plan_of_weight : (step : Step) → WellStep step
-      → 48 * length (cond (is_check step) (retries a.gate st.settings a.clock (retry_target st.sync.stalled_peers a.peers) st.pending) [])
+      → command_size * length (cond (is_check step) (retries a.gate st.settings a.clock (retry_target st.sync.stalled_peers a.peers) st.pending) [])
       + total act_weight (plan_of st a step).acts
       ≤ most_bytes
   unfolding plan_of advances leaves continues evicts
@@ -198,7 +222,9 @@ module _ (st : State) (a : Args) (tracked : length st.pending + length st.sync.e
   plan_of_weight Steps.pick w = let l = picks_weight (select_peer st.sync.stalled_peers a.peers) in omega arith
   plan_of_weight Steps.progress w = let l = progresses_weight (is_mode st.mode syncing) in omega arith
   plan_of_weight Steps.check w = let r = retries_few in let c = checks_weight (is_mode st.mode syncing) in omega arith
-  plan_of_weight Steps.scheduled_tick w = let l = ticks_weight (is_mode st.mode syncing) (settings.stalled st.settings a.clock st.sync.last_progress) (first_of a.peers) in omega arith
+  plan_of_weight Steps.scheduled_tick w =
+      let l = ticks_weight (is_mode st.mode syncing) (settings.stalled st.settings a.clock st.sync.last_progress) (first_of a.peers) in
+      omega arith
   plan_of_weight Steps.section_tick w = let l = requests_weight st.sync.downloaded in omega arith
   plan_of_weight Steps.send_failure w = omega arith
   plan_of_weight Steps.end_of_stream w = omega arith
@@ -211,7 +237,7 @@ module _ (st : State) (a : Args) (tracked : length st.pending + length st.sync.e
   plan_of_weight (Steps.received ids) w = omega arith
   plan_of_weight (Steps.evicted ids) w = omega arith
 
-  pub plan_weight : 48 * length (retried st a) + total act_weight (plan st a).acts ≤ most_bytes
+  pub plan_weight : command_size * length (retried st a) + total act_weight (plan st a).acts ≤ most_bytes
   unfolding plan retried
   plan_weight = plan_of_weight a.step args.step
 
@@ -222,7 +248,7 @@ module _ (st : State) (a : Args) where
   sendings = retry_sendings (retried st a) ++ (performed st a).sendings
 
   module _ (tracked : length st.pending + length st.sync.evicted ≤ tracked_limit) (args : WellArgs a) where
-    sendings_few : 16 * length sendings ≤ most_bytes
+    sendings_few : command_header * length sendings ≤ most_bytes
     unfolding performed
     sendings_few =
         let p = plan_weight st a tracked args in

@@ -16,7 +16,7 @@ use Rattle.model.specs.Image.{field}
 use Rattle.model.specs.Commands.{command_bytes, all_command_bytes, command_of, commands_within, commands_in}
 use Rattle.model.proofs.Well.{WellId}
 use Rattle.model.proofs.Widths.{WellCommand}
-use Rattle.model.specs.Layout.{command_header, id_size}
+use Rattle.model.specs.Layout.{command_header, id_size, type_size}
 
 pub ids_wide : (ids : List Id) → All WellId ids → Wide id_size ids
 ids_wide [] h = tt
@@ -31,7 +31,7 @@ length_command c w = command_long c (ids_wide c.ids w)
 
 module _ (c : Command) (w : WellCommand c) where
   -- the number of ids, whatever follows
-  count_read : (rest : List ℕ) → field 12 4 (command_bytes c ++ rest) ≡ length c.ids
+  count_read : (rest : List ℕ) → field 13 4 (command_bytes c ++ rest) ≡ length c.ids
   unfolding command_bytes
   count_read rest = from_be_to_be 4 (length c.ids) w.count
 
@@ -39,11 +39,11 @@ module _ (c : Command) (w : WellCommand c) where
   unfolding command_bytes
   ids_read_lem rest = entries_joined id_size c.ids rest (ids_wide c.ids w.ids)
 
-  batch_read : (rest : List ℕ) → field 2 2 (command_bytes c ++ rest) ≡ c.batch
+  batch_read : (rest : List ℕ) → field 3 2 (command_bytes c ++ rest) ≡ c.batch
   unfolding command_bytes
   batch_read rest = from_be_to_be 2 c.batch w.batch
 
-  peer_read : (rest : List ℕ) → field 4 8 (command_bytes c ++ rest) ≡ c.peer
+  peer_read : (rest : List ℕ) → field 5 8 (command_bytes c ++ rest) ≡ c.peer
   unfolding command_bytes
   peer_read rest = from_be_to_be 8 c.peer w.peer
 
@@ -51,15 +51,15 @@ module _ (c : Command) (w : WellCommand c) where
   unfolding command_bytes
   kind_read rest = refl
 
-  type_read : (rest : List ℕ) → get_or (command_bytes c ++ rest) 1 0 ≡ c.type_id
+  type_read : (rest : List ℕ) → field 1 type_size (command_bytes c ++ rest) ≡ c.type_id
   unfolding command_bytes
-  type_read rest = refl
+  type_read rest = from_be_to_be type_size c.type_id w.type_id
 
   pub command_read : (rest : List ℕ) → command_of (command_bytes c ++ rest) ≡ c
   unfolding command_of
   command_read rest = rw (count_read rest, ids_read_lem rest, batch_read rest, peer_read rest, kind_read rest, type_read rest)
 
-  pub command_passed : (rest : List ℕ) → drop (command_header + field 12 4 (command_bytes c ++ rest) * id_size) (command_bytes c ++ rest) ≡ rest
+  pub command_passed : (rest : List ℕ) → drop (command_header + field 13 4 (command_bytes c ++ rest) * id_size) (command_bytes c ++ rest) ≡ rest
   command_passed rest = rw (count_read rest, drop_at (command_bytes c) rest (command_header + length c.ids * id_size) (length_command c w.ids))
 
   -- one command at the front of some bytes

@@ -13,7 +13,7 @@ use Rattle.fields.specs.Entries.{entries, rising}
 use Rattle.fields.proofs.OrderLaws.{and_left, and_right, same_eq, eq_same}
 use Rattle.model.specs.Protocol.{tracked_limit, stalled_limit}
 use Rattle.model.specs.State.{Mode, syncing, is_mode, has_sync_peer}
-use Rattle.model.specs.Image.{mode_of, bit, field, mode_byte, last_clock_of, stalled_count, pending_count, evicted_count, settings_of, stalled_of, pending_of, none_twice, all_fit, types_narrow, marks_fit, counts_fit, clocks_fit, unused_zero, well_formed}
+use Rattle.model.specs.Image.{mode_of, bit, field, mode_byte, last_clock_of, stalled_count, pending_count, evicted_count, settings_of, stalled_of, pending_of, none_twice, all_fit, version_fits, types_fit, marks_fit, counts_fit, clocks_fit, unused_zero, well_formed}
 use Rattle.model.proofs.HeaderLaws.{mark}
 use Rattle.model.specs.Layout.{area_size, id_size, peer_size, record_size, region_at, stalled_at}
 
@@ -59,7 +59,7 @@ module _ (area : List ℕ) where
 -- The image keeps every line of the layout's tables.
 pub record Formed (area : List ℕ) : Type 0 where
   pub start : take 3 area ≡ mark
-  pub version : field 3 2 area ≡ 1
+  pub version : version_fits area ≡ true
   pub mode : mode_byte area ≤ 4
   pub progress_used : get_or area 6 0 ≤ bit (is_mode (mode_in area) syncing)
   pub entry_sent : get_or area 7 0 ≤ bit (is_mode (mode_in area) syncing)
@@ -73,7 +73,7 @@ pub record Formed (area : List ℕ) : Type 0 where
   pub no_peer : has_sync_peer (mode_in area) ≡ false → field 48 8 area ≡ 0
   pub header_rest : all_zero (take (stalled_at - 74) (drop 74 area)) ≡ true
   pub stalled_rest : all_zero (take (stalled_free_in area) (drop (stalled_at + stalled_count area * peer_size) area)) ≡ true
-  pub narrow : types_narrow (records_in area) ≡ true
+  pub types : types_fit area ≡ true
   pub between : all_zero (take (region_free_in area) (drop (region_at + pending_count area * record_size) area)) ≡ true
 
 module _ (area : List ℕ) where
@@ -91,13 +91,13 @@ module _ (area : List ℕ) where
       (has_sync_peer (mode_in area) || eqb (field 48 8 area) 0)
       ∷ all_zero (take (stalled_at - 74) (drop 74 area))
       ∷ all_zero (take (stalled_free_in area) (drop (stalled_at + stalled_count area * peer_size) area))
-      ∷ types_narrow (records_in area)
+      ∷ types_fit area
       ∷ all_zero (take (region_free_in area) (drop (region_at + pending_count area * record_size) area))
       ∷ []
 
   abbrev tests : List Bool
   tests =
-      same (take 3 area) mark ∷ eqb (field 3 2 area) 1 ∷ leb (mode_byte area) 4 ∷ all_true marks ∷ all_true counts ∷ rising id_size (records_in area)
+      same (take 3 area) mark ∷ version_fits area ∷ leb (mode_byte area) 4 ∷ all_true marks ∷ all_true counts ∷ rising id_size (records_in area)
       ∷ none_twice (stalled_of area) ∷ all_true clocks ∷ all_fit (settings_of area) (last_clock_of area) (pending_of area) ∷ all_true unused ∷ []
 
   tests_are : well_formed area ≡ all_true tests
@@ -115,7 +115,7 @@ module _ (area : List ℕ) where
       let u : All (λ (b : Bool). b ≡ true) unused = each_true unused t₆.1.1.1.0 in
       record {
         start = same_eq (take 3 area) mark t.0;
-        version = eqb-true (field 3 2 area) 1 t.1.0;
+        version = t.1.0;
         mode = leb-true (mode_byte area) 4 t.1.1.0;
         progress_used = leb-true (get_or area 6 0) (bit (is_mode (mode_in area) syncing)) m.0;
         entry_sent = leb-true (get_or area 7 0) (bit (is_mode (mode_in area) syncing)) m.1.0;
@@ -129,7 +129,7 @@ module _ (area : List ℕ) where
         no_peer = λ e. eqb-true (field 48 8 area) 0 (or_right (has_sync_peer (mode_in area)) (eqb (field 48 8 area) 0) u.0 e);
         header_rest = u.1.0;
         stalled_rest = u.1.1.0;
-        narrow = u.1.1.1.0;
+        types = u.1.1.1.0;
         between = u.1.1.1.1.0;
       }
 
@@ -143,13 +143,12 @@ module _ (area : List ℕ) where
       in
       let c : All (λ (b : Bool). b ≡ true) clocks = (le-leb (field 32 8 area) (last_clock_of area) f.last_progress, (le-leb (field 40 8 area) (last_clock_of area) f.last_send, tt)) in
       let u : All (λ (b : Bool). b ≡ true) unused =
-      (right_or (has_sync_peer (mode_in area)) (eqb (field 48 8 area) 0) (λ e. eq-eqb (field 48 8 area) 0 (f.no_peer e)), (f.header_rest, (f.stalled_rest, (f.narrow, (f.between, tt)))))
+      (right_or (has_sync_peer (mode_in area)) (eqb (field 48 8 area) 0) (λ e. eq-eqb (field 48 8 area) 0 (f.no_peer e)), (f.header_rest, (f.stalled_rest, (f.types, (f.between, tt)))))
       in
       let s : same (take 3 area) mark ≡ true = eq_same (take 3 area) mark f.start in
-      let v : eqb (field 3 2 area) 1 ≡ true = eq-eqb (field 3 2 area) 1 f.version in
       let o : leb (mode_byte area) 4 ≡ true = le-leb (mode_byte area) 4 f.mode in
       let first : all_true marks ≡ true = true_each marks m in
       let second : all_true counts ≡ true = true_each counts n in
       let third : all_true clocks ≡ true = true_each clocks c in
       let last : all_true unused ≡ true = true_each unused u in
-      tests_are ∙ true_each tests (s, (v, (o, (first, (second, (f.ids_rise, (f.stalled_once, (third, (f.requests_fit, (last, tt))))))))))
+      tests_are ∙ true_each tests (s, (f.version, (o, (first, (second, (f.ids_rise, (f.stalled_once, (third, (f.requests_fit, (last, tt))))))))))

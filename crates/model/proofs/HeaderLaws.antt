@@ -9,7 +9,7 @@ use lib.Dec.{eqb}
 use lib.ListN.{length, drop}
 use Rattle.fields.proofs.PartLaws.{Cell, written, Fit, Holds}
 use Rattle.model.specs.State.{Mode, new, seeking, syncing, synced, ended, mode_number, State}
-use Rattle.model.specs.Image.{mode_of, bit, field, header_bytes}
+use Rattle.model.specs.Image.{newest_version, mode_of, bit, field, version, header_bytes}
 use Rattle.model.proofs.Well.{Well, WellSettings, WellSync}
 
 abbrev pub mark : List ℕ
@@ -18,7 +18,7 @@ mark = 69 ∷ 68 ∷ 84 ∷ []
 -- what follows the mark
 abbrev pub header_cells : State → List Cell
 header_cells st =
-    record { width = 2; number = 1 }
+    record { width = 2; number = newest_version }
     ∷ record { width = 1; number = mode_number st.mode }
     ∷ record { width = 1; number = bit st.sync.progress_used }
     ∷ record { width = 1; number = bit st.sync.entry_sent }
@@ -40,7 +40,7 @@ header_cells st =
 
 -- The area says the state's numbers.
 pub record Header (st : State) (area : List ℕ) : Type 0 where
-  pub version : field 3 2 area ≡ 1
+  pub version : version area ≡ newest_version
   pub mode : field 5 1 area ≡ mode_number st.mode
   pub progress_used : field 6 1 area ≡ bit st.sync.progress_used
   pub entry_sent : field 7 1 area ≡ bit st.sync.entry_sent

@@ -29,13 +29,13 @@ list_test = refl
 
 area_test : all_as_expected found area_tests ≡ true
 unfolding found before same rising protocol.is_transaction settings.most_requests image.request_of image.settings_of image.mode_of image.stalled_of
-    image.pending_of image.none_twice image.request_fits image.marks_fit image.counts_fit image.clocks_fit image.unused_zero image.well_formed
+    image.pending_of image.none_twice image.request_fits image.marks_fit image.counts_fit image.clocks_fit image.version_fits image.types_fit image.unused_zero image.well_formed
 area_test = refl
 
 whole_area_test : all_as_expected found whole_areas ≡ true
 unfolding found before same rising protocol.is_transaction settings.most_requests image.header_bytes image.request_bytes image.padded image.encode
     image.request_of image.settings_of image.mode_of image.stalled_of image.pending_of image.none_twice image.request_fits image.marks_fit image.counts_fit
-    image.clocks_fit image.unused_zero image.well_formed calls.step_refusal image.decode calls.call_refusal forecasts.forecast_refusal
+    image.clocks_fit image.version_fits image.types_fit image.unused_zero image.well_formed calls.step_refusal image.decode calls.call_refusal forecasts.forecast_refusal
     forecasts.forecast
 whole_area_test = refl
 

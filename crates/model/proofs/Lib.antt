@@ -43,5 +43,6 @@ pub mod StepKindLaws
 pub mod StepLaws
 pub mod SyncLaws
 pub mod Well
+pub mod VersionLaws
 pub mod Widths
 pub mod Promises

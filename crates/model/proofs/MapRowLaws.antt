@@ -24,7 +24,7 @@ use Rattle.model.specs.Sections.{Section}
 use Rattle.model.specs.Sections as sections
 use Rattle.model.specs.Lists.{section_of, header_of, flags_fit, used_places, row_fits, rows_fit, first_height, row_count, view_fits, view_of}
 use Rattle.model.specs.WindowMap.{Cell, absent, present, Map, is_complete, bits, cell_byte, mark, marks, encode_map, flags_in, cell_in}
-use Rattle.model.specs.MapBytes.{byte_complete, byte_mark, map_over, row_byte}
+use Rattle.model.specs.MapBytes.{byte_complete, byte_mark, map_over, row_flags, row_byte}
 use Rattle.model.proofs.HeaderLaws.{of_bit}
 use Rattle.model.proofs.ArgumentLaws.{row_fits_lem}
 use Rattle.model.proofs.MapLaws.{WellCell}
@@ -73,32 +73,32 @@ flags_from_lem (suc n) bytes h =
     let rest = and_right flag others h in
     rw (here, of_bit (get_or bytes pair_size 0) few, flags_from_lem n (drop place_size bytes) rest)
 
-stored_one : (row : List ℕ) → get_or (drop 1 row) pair_size 0 ≡ get_or row 34 0
+stored_one : (row : List ℕ) → get_or (drop 1 row) pair_size 0 ≡ get_or row place_size 0
 stored_one row = get_or-drop 1 row pair_size 0
 
-stored_two : (row : List ℕ) → get_or (drop place_size (drop 1 row)) pair_size 0 ≡ get_or row 68 0
-stored_two row = rw (drop-drop place_size 1 row) (get_or-drop 35 row pair_size 0)
+stored_two : (row : List ℕ) → get_or (drop place_size (drop 1 row)) pair_size 0 ≡ get_or row (2 * place_size) 0
+stored_two row = rw (drop-drop place_size 1 row) (get_or-drop (1 + place_size) row pair_size 0)
 
-stored_three : (row : List ℕ) → get_or (drop place_size (drop place_size (drop 1 row))) pair_size 0 ≡ get_or row 102 0
-stored_three row = rw (drop-drop place_size 1 row, drop-drop place_size 35 row) (get_or-drop 69 row pair_size 0)
+stored_three : (row : List ℕ) → get_or (drop place_size (drop place_size (drop 1 row))) pair_size 0 ≡ get_or row (3 * place_size) 0
+stored_three row = rw (drop-drop place_size 1 row, drop-drop place_size (1 + place_size) row) (get_or-drop (1 + 2 * place_size) row pair_size 0)
 
 -- the three stored bytes of a row, those of unused places zero
 stored_bytes : (n : ℕ) (row : List ℕ) → n ≤ 3 → all_zero (drop (1 + n * place_size) row) ≡ true
-    → flags_from n (drop 1 row) ≡ get_or row 34 0 + 2 * (get_or row 68 0 + 2 * get_or row 102 0)
+    → flags_from n (drop 1 row) ≡ row_flags row
 stored_bytes zero row h z =
-    let a = zero_behind 1 33 row z in
-    let b = zero_behind 1 67 row z in
-    let c = zero_behind 1 101 row z in
+    let a = zero_behind 1 34 row z in
+    let b = zero_behind 1 69 row z in
+    let c = zero_behind 1 104 row z in
     omega arith
 stored_bytes (suc zero) row h z =
     let a = stored_one row in
-    let b = zero_behind 35 33 row z in
-    let c = zero_behind 35 67 row z in
+    let b = zero_behind 36 34 row z in
+    let c = zero_behind 36 69 row z in
     omega arith
 stored_bytes (suc (suc zero)) row h z =
     let a = stored_one row in
     let b = stored_two row in
-    let c = zero_behind 69 33 row z in
+    let c = zero_behind 71 34 row z in
     omega arith
 stored_bytes (suc (suc (suc zero))) row h z =
     let a = stored_one row in
@@ -120,7 +120,7 @@ row_byte_lem row h = go (eqb count 255) h
 
     go : (t : Bool) → fits (cond t 0 count) ≡ true
         → cell_byte (cell_in (some (cond t sections.absent (sections.present (map section_of (entries place_size count (drop 1 row)))))))
-        ≡ cond t 128 (count * 16 + (get_or row 34 0 + 2 * (get_or row 68 0 + 2 * get_or row 102 0)))
+        ≡ cond t 128 (count * 16 + row_flags row)
     go true f = refl
     go false f =
         let places : List (List ℕ) = entries place_size count (drop 1 row) in

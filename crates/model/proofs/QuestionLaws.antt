@@ -22,6 +22,7 @@ use Rattle.model.specs.Lists.{list_fits, pairs_fit}
 use Rattle.model.specs.Calls.{pair_bytes, inserted_once, strictly_rising, question_pairs}
 use Rattle.model.proofs.Well.{Well, WellId, WellRequest, RisingIds}
 use Rattle.model.specs.Layout.{pair_size}
+use Rattle.model.proofs.ListLaws.{length_pair}
 
 -- ---- each pair once, in order
 
@@ -108,7 +109,7 @@ question_answerable st flag well =
     evicted_fit : Answerable evicted
     evicted_fit =
         let t = well.tracked in
-        record { long = all_map WellId PairLong (pair_bytes header_type) (λ id w. ap suc w.long) st.sync.evicted well.sync.evicted; few = rw (length-map st.sync.evicted (pair_bytes header_type)) (omega arith) }
+        record { long = all_map WellId PairLong (pair_bytes header_type) (λ id w. length_pair header_type id w.long) st.sync.evicted well.sync.evicted; few = rw (length-map st.sync.evicted (pair_bytes header_type)) (omega arith) }
 
     orphans_fit : Answerable orphans
     orphans_fit =
@@ -116,7 +117,7 @@ question_answerable st flag well =
         let k : length (orphans_of st.sync.sync_peer st.pending) ≤ length st.pending = length_kept test st.pending in
         let w = all_kept (WellRequest st.settings st.last_clock) test st.pending well.requests in
         record {
-          long = all_map (WellRequest st.settings st.last_clock) PairLong pair (λ r w. ap suc w.id.long) (orphans_of st.sync.sync_peer st.pending) w;
+          long = all_map (WellRequest st.settings st.last_clock) PairLong pair (λ r w. length_pair r.type_id r.id w.id.long) (orphans_of st.sync.sync_peer st.pending) w;
           few = rw (length-map (orphans_of st.sync.sync_peer st.pending) pair) (omega arith);
         }
 
@@ -132,7 +133,7 @@ wide : (pairs : List (List ℕ)) → All PairLong pairs → Wide pair_size pairs
 wide [] h = tt
 wide (e ∷ es) h = (h.0, wide es h.1)
 
--- They take at most 33,792 bytes.
+-- They take at most 34,816 bytes.
 pub question_bytes_most : (st : State) (flag : ℕ) → Well st → length (joined (question_pairs st flag)) ≤ tracked_limit * pair_size
 question_bytes_most st flag well =
     let w : Answerable (question_pairs st flag) = question_answerable st flag well in

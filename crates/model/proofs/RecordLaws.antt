@@ -67,20 +67,20 @@ bytes_of_request e l f =
     let h : take 22 (drop id_size e) ≡ written (request_cells (request_of e)) = holds_written (request_cells (request_of e)) id_size e f (omega arith) (refl, (refl, (refl, (refl, tt)))) in
     request_written (request_of e) ∙ sym (part_joined 0 id_size (take id_size e) (written (request_cells (request_of e))) e refl (sym (take_all 22 (drop id_size e) (rw (length-drop id_size e) (omega arith))) ∙ h))
 
--- the type's high byte is zero exactly where the type is one byte
-pub high_low : (e : List ℕ) → length e ≡ record_size → (request_of e).type_id ≡ get_or e 40 0 * 256 + get_or e 41 0
+-- where the type's high byte is zero, the type is one byte
+high_low : (e : List ℕ) → length e ≡ record_size → (request_of e).type_id ≡ get_or e 40 0 * 256 + get_or e 41 0
 unfolding request_of
 high_low e l =
     let a : 40 < length e = omega arith in
     let b : 41 < length e = omega arith in
     from_be_split 1 1 40 e (omega arith) ∙ rw (from_be_one 40 e a, from_be_one 41 e b)
 
-pub type_narrow : (e : List ℕ) → length e ≡ record_size → (request_of e).type_id < 2 ^ 8 → eqb (get_or e 40 0) 0 ≡ true
+type_narrow : (e : List ℕ) → length e ≡ record_size → (request_of e).type_id < 2 ^ 8 → eqb (get_or e 40 0) 0 ≡ true
 type_narrow e l h =
     let s : (request_of e).type_id ≡ get_or e 40 0 * 256 + get_or e 41 0 = high_low e l in
     eq-eqb (get_or e 40 0) 0 (omega arith)
 
-pub narrow_type : (e : List ℕ) → length e ≡ record_size → Bytes e → eqb (get_or e 40 0) 0 ≡ true → (request_of e).type_id < 2 ^ 8
+narrow_type : (e : List ℕ) → length e ≡ record_size → Bytes e → eqb (get_or e 40 0) 0 ≡ true → (request_of e).type_id < 2 ^ 8
 narrow_type e l f h =
     let s : (request_of e).type_id ≡ get_or e 40 0 * 256 + get_or e 41 0 = high_low e l in
     let z : get_or e 40 0 ≡ 0 = eqb-true (get_or e 40 0) 0 h in
@@ -99,7 +99,7 @@ most_narrow settings type_id h = go (is_transaction type_id)
 
 pub well_recorded : (settings : Settings) (last_clock : ℕ) → settings.max_checks < 2 ^ 32 → last_clock < 2 ^ 64 → (r : Request) → WellRequest settings last_clock r → Recorded r
 well_recorded settings last_clock m c r w =
-    let t : r.type_id < 2 ^ 8 = w.type_id in
+    let t : r.type_id < 2 ^ 16 = w.type_id in
     let k : r.checks < most_requests settings r.type_id = w.checks in
     let n : most_requests settings r.type_id < 2 ^ 32 = most_narrow settings r.type_id m in
     let s : r.stamp ≤ last_clock = w.stamp in
@@ -114,14 +114,14 @@ pub all_fit_lem : (settings : Settings) (last_clock : ℕ) (rs : List Request) �
 all_fit_lem settings last_clock [] w = refl
 all_fit_lem settings last_clock (r ∷ rs) w = rw (well_fits settings last_clock r w.0, all_fit_lem settings last_clock rs w.1)
 
-pub record_well : (settings : Settings) (last_clock : ℕ) (e : List ℕ) → length e ≡ record_size → Bytes e → eqb (get_or e 40 0) 0 ≡ true
+pub record_well : (settings : Settings) (last_clock : ℕ) (e : List ℕ) → length e ≡ record_size → Bytes e
     → request_fits settings last_clock (request_of e) ≡ true → WellRequest settings last_clock (request_of e)
 unfolding request_fits request_of
-record_well settings last_clock e l f z h =
+record_well settings last_clock e l f h =
     let r : Request = request_of e in
     record {
       id = record { long = length_part 0 id_size e (omega arith); bytes = bytes_take id_size e f };
-      type_id = narrow_type e l f z;
+      type_id = part_below 40 2 e (omega arith) f;
       peer = part_below 32 8 e (omega arith) f;
       stamp = leb-true r.stamp last_clock (and_left (leb r.stamp last_clock) (ltb r.checks (most_requests settings r.type_id)) h);
       checks = ltb-true r.checks (most_requests settings r.type_id) (and_right (leb r.stamp last_clock) (ltb r.checks (most_requests settings r.type_id)) h);
@@ -145,21 +145,28 @@ pub records_of_requests : (es : List (List ℕ)) → Wide record_size es → All
 records_of_requests [] l f = refl
 records_of_requests (e ∷ es) l f = rw (bytes_of_request e l.0 f.0, records_of_requests es l.1 f.1)
 
-pub types_narrow_lem : (settings : Settings) (last_clock : ℕ) (rs : List Request) → All Recorded rs → All (WellRequest settings last_clock) rs → types_narrow (map request_bytes rs) ≡ true
-types_narrow_lem settings last_clock [] v w = refl
-types_narrow_lem settings last_clock (r ∷ rs) v w =
-    let t : (request_of (request_bytes r)).type_id < 2 ^ 8 = rw (request_of_bytes r v.0.id.long v.0.cells) w.0.type_id in
-    rw (type_narrow (request_bytes r) (length_request r v.0.id.long) t, types_narrow_lem settings last_clock rs v.1 w.1)
+-- types of one byte, in records of version 1
+pub types_narrow_lem : (rs : List Request) → All Recorded rs → All (λ (r : Request). r.type_id < 2 ^ 8) rs → types_narrow (map request_bytes rs) ≡ true
+types_narrow_lem [] v w = refl
+types_narrow_lem (r ∷ rs) v w =
+    let t : (request_of (request_bytes r)).type_id < 2 ^ 8 = rw (request_of_bytes r v.0.id.long v.0.cells) w.0 in
+    rw (type_narrow (request_bytes r) (length_request r v.0.id.long) t, types_narrow_lem rs v.1 w.1)
 
-pub records_well : (settings : Settings) (last_clock : ℕ) (es : List (List ℕ)) → Wide record_size es → All Bytes es → types_narrow es ≡ true
-    → all_fit settings last_clock (map request_of es) ≡ true → All (WellRequest settings last_clock) (map request_of es)
-records_well settings last_clock [] l f t h = tt
-records_well settings last_clock (e ∷ es) l f t h = (
-  record_well settings last_clock e l.0 f.0 (and_left (eqb (get_or e 40 0) 0) (types_narrow es) t)
-      (and_left (request_fits settings last_clock (request_of e)) (all_fit settings last_clock (map request_of es)) h),
-  records_well settings last_clock es l.1 f.1 (and_right (eqb (get_or e 40 0) 0) (types_narrow es) t)
-      (and_right (request_fits settings last_clock (request_of e)) (all_fit settings last_clock (map request_of es)) h),
+pub types_low : (es : List (List ℕ)) → Wide record_size es → All Bytes es → types_narrow es ≡ true
+    → All (λ (r : Request). r.type_id < 2 ^ 8) (map request_of es)
+types_low [] l f t = tt
+types_low (e ∷ es) l f t = (
+  narrow_type e l.0 f.0 (and_left (eqb (get_or e 40 0) 0) (types_narrow es) t),
+  types_low es l.1 f.1 (and_right (eqb (get_or e 40 0) 0) (types_narrow es) t),
 )
+
+pub records_well : (settings : Settings) (last_clock : ℕ) (es : List (List ℕ)) → Wide record_size es → All Bytes es
+    → all_fit settings last_clock (map request_of es) ≡ true → All (WellRequest settings last_clock) (map request_of es)
+records_well settings last_clock [] l f h = tt
+records_well settings last_clock (e ∷ es) l f h =
+    let first = request_fits settings last_clock (request_of e) in
+    let others = all_fit settings last_clock (map request_of es) in
+    (record_well settings last_clock e l.0 f.0 (and_left first others h), records_well settings last_clock es l.1 f.1 (and_right first others h))
 
 -- ---- ids rise in the requests and in their records alike
 

@@ -20,9 +20,9 @@ use Rattle.fields.proofs.PartLaws.{part_below, zero_part, numbers_read, numbers_
 use Rattle.model.specs.Protocol.{Id, tracked_limit, stalled_limit}
 use Rattle.model.specs.Delivery.{ids_of}
 use Rattle.model.specs.State.{syncing, mode_number, is_mode, State}
-use Rattle.model.specs.Image.{bit, request_bytes, request_of, last_clock_of, stalled_count, pending_count, evicted_count, settings_of, stalled_of, pending_of, evicted_of, decode, encode, well_formed}
+use Rattle.model.specs.Image.{newest_version, version, version_fits, types_fit, bit, request_bytes, request_of, last_clock_of, stalled_count, pending_count, evicted_count, settings_of, stalled_of, pending_of, evicted_of, decode, encode, well_formed}
 use Rattle.model.proofs.Well.{Well, WellId, WellRequest, WellSettings, RisingIds}
-use Rattle.model.proofs.RecordLaws.{Recorded, requests_of_records, records_of_requests, all_fit_lem, types_narrow_lem, records_well, records_rise, ids_rise_lem}
+use Rattle.model.proofs.RecordLaws.{Recorded, requests_of_records, records_of_requests, all_fit_lem, records_well, records_rise, ids_rise_lem}
 use Rattle.model.proofs.HeaderLaws.{Header, mode_narrow, mode_of_number, number_of_mode, bit_of, of_bit}
 use Rattle.model.proofs.FormedLaws.{Formed, formed, well_formed_lem, mode_in, records_in, stalled_free_in, region_free_in}
 use Rattle.model.proofs.ImageLaws.{header_free, stalled_end, stalled_free, pending_end, region_free, Laid, well_sized, well_requests, laid_encode, well_laid, encode_length}
@@ -98,10 +98,11 @@ zeros_part : (n : ℕ) (part : List ℕ) → part ≡ zeros n → all_zero part 
 zeros_part n part e = rw e (all_zero_zeros n)
 
 pub laid_formed : (st : State) (area : List ℕ) → length area ≡ area_size → Laid st area → Well st → Formed area
+unfolding version_fits types_fit
 laid_formed st area l laid w =
     record {
       start = laid.start;
-      version = laid.header.version;
+      version = rw laid.header.version;
       mode = rw (mode_byte_lem st area l laid) (mode_narrow st.mode);
       progress_used = rw (progress_byte st area l laid, mode_is st area l laid) (mark_fits (is_mode st.mode syncing) st.sync.progress_used w.sync.progress_used);
       entry_sent = rw (entry_byte st area l laid, mode_is st area l laid) (mark_fits (is_mode st.mode syncing) st.sync.entry_sent w.sync.entry_sent);
@@ -116,7 +117,7 @@ laid_formed st area l laid w =
       no_peer = rw (mode_is st area l laid, laid.header.sync_peer) w.sync.no_peer;
       header_rest = zeros_part header_free (take header_free (drop 74 area)) laid.header_rest;
       stalled_rest = rw laid.header.stalled_count (zeros_part (stalled_free st) (take (stalled_free st) (drop (stalled_end st) area)) laid.stalled_rest);
-      narrow = rw (records_are st area l laid) (types_narrow_lem st.settings st.last_clock st.pending (well_requests st w) w.requests);
+      types = rw laid.header.version;
       between = rw (laid.header.pending_count, laid.header.evicted_count) (zeros_part (region_free st) (take (region_free st) (drop (pending_end st) area)) laid.between);
     }
 
@@ -168,11 +169,11 @@ module _ (area : List ℕ) (l : length area ≡ area_size) (f : Bytes area) (ok 
   mark_below n true h = omega arith
   mark_below n false h = omega arith
 
-  pub formed_header : Header (decode area) area
+  pub formed_header : version area ≡ newest_version → Header (decode area) area
   unfolding decode settings_of
-  formed_header =
+  formed_header v =
       record {
-        version = ok.version;
+        version = v;
         mode = from_be_one 5 area (omega arith) ∙ sym (number_of_mode (get_or area 5 0) ok.mode);
         progress_used = from_be_one 6 area (omega arith) ∙ sym (of_bit (get_or area 6 0) (mark_below (get_or area 6 0) (is_mode (mode_in area) syncing) ok.progress_used));
         entry_sent = from_be_one 7 area (omega arith) ∙ sym (of_bit (get_or area 7 0) (mark_below (get_or area 7 0) (is_mode (mode_in area) syncing) ok.entry_sent));
@@ -196,7 +197,9 @@ module _ (area : List ℕ) (l : length area ≡ area_size) (f : Bytes area) (ok 
   peers_back : entries peer_size (stalled_count area) (drop stalled_at area) ≡ map (to_be peer_size) (stalled_of area)
   unfolding stalled_of
   peers_back =
-      sym (numbers_back peer_size (entries peer_size (stalled_count area) (drop stalled_at area)) peers_wide (entries_bytes peer_size (stalled_count area) (drop stalled_at area) (bytes_drop stalled_at area f)))
+      let es = entries peer_size (stalled_count area) (drop stalled_at area) in
+      let bytes = entries_bytes peer_size (stalled_count area) (drop stalled_at area) (bytes_drop stalled_at area f) in
+      sym (numbers_back peer_size es peers_wide bytes)
 
   records_back : records_in area ≡ map request_bytes (pending_of area)
   unfolding pending_of
@@ -206,12 +209,12 @@ module _ (area : List ℕ) (l : length area ≡ area_size) (f : Bytes area) (ok 
   unfolding evicted_of
   ids_back = refl
 
-  pub formed_laid : Laid (decode area) area
+  pub formed_laid : version area ≡ newest_version → Laid (decode area) area
   unfolding decode
-  formed_laid =
+  formed_laid v =
       record {
         start = ok.start;
-        header = formed_header;
+        header = formed_header v;
         header_rest = zero_part 74 header_free area (omega arith) ok.header_rest;
         stalled = rw stalled_many peers_back;
         stalled_rest = rw stalled_many (zero_part (stalled_at + stalled_count area * peer_size) (stalled_free_in area) area (omega (arith, few)) ok.stalled_rest);
@@ -239,7 +242,7 @@ module _ (area : List ℕ) (l : length area ≡ area_size) (f : Bytes area) (ok 
 
   pending_well : All (WellRequest (settings_of area) (last_clock_of area)) (pending_of area)
   unfolding pending_of
-  pending_well = records_well (settings_of area) (last_clock_of area) (records_in area) records_wide records_bytes ok.narrow ok.requests_fit
+  pending_well = records_well (settings_of area) (last_clock_of area) (records_in area) records_wide records_bytes ok.requests_fit
 
   pending_rises : RisingIds (ids_of (pending_of area))
   unfolding pending_of
@@ -285,7 +288,8 @@ module _ (area : List ℕ) (l : length area ≡ area_size) (f : Bytes area) (ok 
 pub decode_well : (area : List ℕ) → length area ≡ area_size → Bytes area → well_formed area ≡ true → Well (decode area)
 decode_well area l f h = formed_well area l f (formed area h)
 
-pub encode_decode : (area : List ℕ) → length area ≡ area_size → Bytes area → well_formed area ≡ true → encode (decode area) ≡ area
-encode_decode area l f h =
+pub encode_decode : (area : List ℕ) → length area ≡ area_size → Bytes area → well_formed area ≡ true → version area ≡ newest_version
+    → encode (decode area) ≡ area
+encode_decode area l f h v =
     let w : Well (decode area) = decode_well area l f h in
-    sym (laid_encode (decode area) area (well_sized (decode area) w) l f (formed_laid area l f (formed area h)))
+    sym (laid_encode (decode area) area (well_sized (decode area) w) l f (formed_laid area l f (formed area h) v))

@@ -11,29 +11,35 @@ use Rattle.fields.proofs.AllLaws.{all_append, all_map}
 use Rattle.model.specs.Protocol.{window_size}
 use Rattle.model.specs.Peers.{first_of}
 use Rattle.model.specs.Requests.{ask}
-use Rattle.model.specs.Sections.{Section, Header, absent, present, View, all_stored, Advance, past, advance_within, advance_downloaded_height, Batch, batches_of, Window, missing, widen, window_within, request_sections_from, request_next_sections}
+use Rattle.model.specs.Sections.{Section, Header, absent, present, View, all_stored, Advance, past, advance_within, advance_downloaded_height, Item, Batch, batches_of, Window, missing, widen, window_within, request_sections_from, request_next_sections}
 use Rattle.model.proofs.Widths.{IfSome, WellPeer, WellHeight, WellItem, WellBatch, WellAct, WellSection, WellHeader, WellView}
 use Rattle.model.proofs.BatchLaws.{batches_well}
 use Rattle.model.proofs.PeerLaws.{first_well}
 
 -- ---- the window
 
-missing_well : (peer : ℕ) (sections : List Section) → WellPeer peer → All WellSection sections → All WellItem (missing peer sections)
-missing_well peer [] p w = tt
-missing_well peer (s ∷ sections) p w = go (not s.is_stored) (missing_well peer sections p w.1)
-  where
-    go : (t : Bool) → All WellItem (missing peer sections) → All WellItem (cons_if t (record { id = s.id; type_id = s.type_id; peer = peer }) (missing peer sections))
-    go true q = (record { id = w.0.id; type_id = w.0.type_id; peer = p }, q)
-    go false q = q
+-- what holds of each section's item, whoever it is asked of, holds of the window's
+module _ (P : Item → Type 0) (peer : ℕ) (each : (s : Section) → WellSection s → P (record { id = s.id; type_id = s.type_id; peer = peer })) where
+  missing_all : (sections : List Section) → All WellSection sections → All P (missing peer sections)
+  missing_all [] w = tt
+  missing_all (s ∷ sections) w = go (not s.is_stored) (missing_all sections w.1)
+    where
+      go : (t : Bool) → All P (missing peer sections) → All P (cons_if t (record { id = s.id; type_id = s.type_id; peer = peer }) (missing peer sections))
+      go true q = (each s w.0, q)
+      go false q = q
 
-widen_well : (header : Option Header) (peer : ℕ) (further : Window) → WellPeer peer → IfSome WellHeader header → All WellItem further.items → All WellItem (widen header peer further).items
-widen_well none peer further p w h = tt
-widen_well (some absent) peer further p w h = tt
-widen_well (some (present sections)) peer further p w h = all_append WellItem (missing peer sections) further.items (missing_well peer sections p w.0) h
+  widen_all : (header : Option Header) (further : Window) → IfSome WellHeader header → All P further.items → All P (widen header peer further).items
+  widen_all none further w h = tt
+  widen_all (some absent) further w h = tt
+  widen_all (some (present sections)) further w h = all_append P (missing peer sections) further.items (missing_all sections w.0) h
+
+  pub window_all : (n : ℕ) (view : View) (height : ℕ) → WellView view → All P (window_within n view peer height).items
+  window_all zero view height v = tt
+  window_all (suc n) view height v = widen_all (view (suc height)) (window_within n view peer (suc height)) (v (suc height)) (window_all n view (suc height) v)
 
 window_well : (n : ℕ) (view : View) (peer height : ℕ) → WellView view → WellPeer peer → All WellItem (window_within n view peer height).items
-window_well zero view peer height v p = tt
-window_well (suc n) view peer height v p = widen_well (view (suc height)) peer (window_within n view peer (suc height)) p (v (suc height)) (window_well n view peer (suc height) v p)
+window_well n view peer height v p =
+    window_all WellItem peer (λ s w. record { id = w.id; type_id = w.type_id; peer = p }) n view height v
 
 sections_from_well : (view : View) (chain_height height : ℕ) (peer : Option ℕ) → WellView view → IfSome WellPeer peer → All WellAct (request_sections_from view chain_height height peer).acts
 unfolding request_sections_from

@@ -22,7 +22,7 @@ use Rattle.model.proofs.Widths.{WellItem, WellList, WellBatch, WellSending, Well
 use Rattle.model.proofs.PendingLaws.{wanted_well}
 use Rattle.model.proofs.BatchLaws.{batches_well, id_count, batches_ids, batches_count}
 use Rattle.model.proofs.CommandLaws.{ids_wide, command_long, length_command}
-use Rattle.model.specs.Layout.{command_header, id_size}
+use Rattle.model.specs.Layout.{command_header, command_size, id_size}
 
 -- ---- sendings within their widths
 
@@ -56,11 +56,14 @@ runs_well (suc n) (id ∷ ids) w =
     let l = length-take request_size (id ∷ ids) in
     ((all_take WellId request_size (id ∷ ids) w, omega arith), runs_well n (drop request_size (id ∷ ids)) (all_drop WellId request_size (id ∷ ids) w))
 
+abbrev asked_of : ℕ → ℕ → ℕ → List Id → Command
+asked_of type_id batch peer run = record { kind = 1; type_id = type_id; batch = batch; peer = peer; ids = run }
+
 module _ (batch : ℕ) (low : batch < 2 ^ 16) where
   sending_commands_well : (s : Sending) → WellSending s → All WellCommand (commands_of batch s)
   unfolding runs
   sending_commands_well (request type_id peer ids) w =
-      all_map (λ (run : List Id). All WellId run × (length run ≤ request_size)) WellCommand (λ (run : List Id). record { kind = 1; type_id = type_id; batch = batch; peer = peer; ids = run })
+      all_map (λ (run : List Id). All WellId run × (length run ≤ request_size)) WellCommand (asked_of type_id batch peer)
       (λ run p. let l = p.1 in record { kind_low = omega arith; kind_high = omega arith; type_id = w.type_id; batch = low; peer = w.peer; count = omega arith; ids = p.0 })
       (runs_within (length ids) ids) (runs_well (length ids) ids w.ids)
   sending_commands_well (announcement peer ids) w =
@@ -78,29 +81,31 @@ commands_well batch (s ∷ ss) h w =
 
 pub bytes_append : (cs ds : List Command) → length (all_command_bytes (cs ++ ds)) ≡ length (all_command_bytes cs) + length (all_command_bytes ds)
 bytes_append [] ds = omega arith
-bytes_append (c ∷ cs) ds = rw (length-append (command_bytes c) (all_command_bytes (cs ++ ds)), length-append (command_bytes c) (all_command_bytes cs), bytes_append cs ds) (omega arith)
+bytes_append (c ∷ cs) ds =
+    let l = length-append (command_bytes c) (all_command_bytes cs) in
+    rw (length-append (command_bytes c) (all_command_bytes (cs ++ ds)), l, bytes_append cs ds) (omega arith)
 
 -- a run has an id at least, so that a request's header counts for half an id
 pub runs_bytes : (n type_id batch peer : ℕ) (ids : List Id) → Wide id_size ids
-    → length (all_command_bytes (map (λ (run : List Id). record { kind = 1; type_id = type_id; batch = batch; peer = peer; ids = run }) (runs_within n ids))) ≤ 48 * length ids
+    → length (all_command_bytes (map (asked_of type_id batch peer) (runs_within n ids))) ≤ command_size * length ids
 runs_bytes zero type_id batch peer ids w = omega arith
 runs_bytes (suc n) type_id batch peer [] w = omega arith
 runs_bytes (suc n) type_id batch peer (id ∷ ids) w =
-    let first : Command = record { kind = 1; type_id = type_id; batch = batch; peer = peer; ids = take request_size (id ∷ ids) } in
-    let others : List Command = map (λ (run : List Id). record { kind = 1; type_id = type_id; batch = batch; peer = peer; ids = run }) (runs_within n (drop request_size (id ∷ ids))) in
+    let first : Command = asked_of type_id batch peer (take request_size (id ∷ ids)) in
+    let others : List Command = map (asked_of type_id batch peer) (runs_within n (drop request_size (id ∷ ids))) in
     let t = length-take request_size (id ∷ ids) in
     let d = length-drop request_size (id ∷ ids) in
     let f : length (command_bytes first) ≡ command_header + length first.ids * id_size =
     command_long first (all_take (λ (e : Id). length e ≡ id_size) request_size (id ∷ ids) w) in
-    let r : length (all_command_bytes others) ≤ 48 * length (drop request_size (id ∷ ids)) =
+    let r : length (all_command_bytes others) ≤ command_size * length (drop request_size (id ∷ ids)) =
     runs_bytes n type_id batch peer (drop request_size (id ∷ ids)) (all_drop (λ (e : Id). length e ≡ id_size) request_size (id ∷ ids) w) in
     rw (length-append (command_bytes first) (all_command_bytes others)) (omega arith)
 
 -- the bytes of a sending, at most
 abbrev pub weight : Sending → ℕ
-weight (request type_id peer ids) = 48 * length ids
-weight (announcement peer ids) = 16 + 48 * length ids
-weight (sync_info peer) = 16
+weight (request type_id peer ids) = command_size * length ids
+weight (announcement peer ids) = command_header + command_size * length ids
+weight (sync_info peer) = command_header
 
 sending_bytes : (batch : ℕ) (s : Sending) → WellSending s → length (all_command_bytes (commands_of batch s)) ≤ weight s
 unfolding runs
@@ -124,10 +129,10 @@ sendings_bytes batch (s ∷ ss) w =
 -- ---- what acts come to
 
 abbrev pub act_weight : Act → ℕ
-act_weight (ask type_id peer pairs ids) = 48 * length ids
-act_weight (send s) = 16 + weight s
+act_weight (ask type_id peer pairs ids) = command_size * length ids
+act_weight (send s) = command_header + weight s
 
-request_weight : (type_id peer : ℕ) (ids : List Id) → total weight (request_of type_id peer ids) ≤ 48 * length ids
+request_weight : (type_id peer : ℕ) (ids : List Id) → total weight (request_of type_id peer ids) ≤ command_size * length ids
 request_weight type_id peer [] = omega arith
 request_weight type_id peer (id ∷ ids) = omega arith
 
@@ -151,7 +156,7 @@ act_weight_lem true clock (ask type_id peer pairs ids) rs =
 act_weight_lem false clock (ask type_id peer pairs ids) rs = omega arith
 act_weight_lem gate clock (send s) rs = omega arith
 
-act_count : (gate : Bool) (clock : ℕ) (act : Act) (rs : List Request) → 16 * length (perform gate clock act rs).sendings ≤ act_weight act
+act_count : (gate : Bool) (clock : ℕ) (act : Act) (rs : List Request) → command_header * length (perform gate clock act rs).sendings ≤ act_weight act
 act_count true clock (ask type_id peer pairs ids) rs =
     let a = request_count type_id peer (wanted rs type_id pairs ids) in
     let b = wanted_few rs type_id pairs ids in
@@ -166,7 +171,9 @@ performed_weight gate clock (act ∷ acts) rs =
     let b = performed_weight gate clock acts (perform gate clock act rs).pending in
     rw (total_append weight (perform gate clock act rs).sendings (perform_all gate clock acts (perform gate clock act rs).pending).sendings) (omega arith)
 
-pub performed_count : (gate : Bool) (clock : ℕ) (acts : List Act) (rs : List Request) → 16 * length (perform_all gate clock acts rs).sendings ≤ total act_weight acts
+pub performed_count :
+    (gate : Bool) (clock : ℕ) (acts : List Act) (rs : List Request)
+    → command_header * length (perform_all gate clock acts rs).sendings ≤ total act_weight acts
 performed_count gate clock [] rs = omega arith
 performed_count gate clock (act ∷ acts) rs =
     let a = act_count gate clock act rs in
@@ -174,13 +181,16 @@ performed_count gate clock (act ∷ acts) rs =
     rw (length-append (perform gate clock act rs).sendings (perform_all gate clock acts (perform gate clock act rs).pending).sendings) (omega arith)
 
 -- a list asked for batch by batch
-pub batches_weight : (f : Batch → Act) → ((b : Batch) → act_weight (f b) ≡ 48 * id_count b) → (items : List Item) → total act_weight (map f (batches_of items)) ≡ 48 * length items
-batches_weight f e items = total_map id_count act_weight f 48 e (batches_of items) ∙ ap (λ (n : ℕ). 48 * n) (batches_ids items)
+pub batches_weight :
+    (f : Batch → Act) → ((b : Batch) → act_weight (f b) ≡ command_size * id_count b) → (items : List Item)
+    → total act_weight (map f (batches_of items)) ≡ command_size * length items
+batches_weight f e items = total_map id_count act_weight f command_size e (batches_of items) ∙ ap (λ (n : ℕ). command_size * n) (batches_ids items)
 
-pub retries_weight : (items : List Item) → total weight (retry_sendings items) ≡ 48 * length items
+pub retries_weight : (items : List Item) → total weight (retry_sendings items) ≡ command_size * length items
 unfolding retry_sendings
 retries_weight items =
-    total_map id_count weight (λ (b : Batch). request b.type_id b.peer b.ids) 48 (λ b. refl) (batches_of items) ∙ ap (λ (n : ℕ). 48 * n) (batches_ids items)
+    total_map id_count weight (λ (b : Batch). request b.type_id b.peer b.ids) command_size (λ b. refl) (batches_of items)
+    ∙ ap (λ (n : ℕ). command_size * n) (batches_ids items)
 
 pub retries_count : (items : List Item) → length (retry_sendings items) ≤ length items
 unfolding retry_sendings

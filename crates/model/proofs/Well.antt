@@ -17,9 +17,13 @@ pub record WellId (id : Id) : Type 0 where
   pub long : length id ≡ id_size
   pub bytes : Bytes id
 
+-- F-6: "types become 16-bit"
+abbrev pub WellType : ℕ → Type 0
+WellType type_id = type_id < 2 ^ 16
+
 pub record WellRequest (settings : Settings) (last_clock : ℕ) (r : Request) : Type 0 where
   pub id : WellId r.id
-  pub type_id : r.type_id < 2 ^ 8
+  pub type_id : WellType r.type_id
   pub peer : r.peer < 2 ^ 64
   pub stamp : r.stamp ≤ last_clock
   pub checks : r.checks < most_requests settings r.type_id

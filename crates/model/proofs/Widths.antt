@@ -11,7 +11,7 @@ use Rattle.model.specs.Requests as requests
 use Rattle.model.specs.Sections.{Section, Header, absent, present, View, Item, Batch}
 use Rattle.model.specs.Steps
 use Rattle.model.specs.Steps.{Step, Args}
-use Rattle.model.proofs.Well.{WellId}
+use Rattle.model.proofs.Well.{WellId, WellType}
 
 abbrev pub IfSome : {A : Type 0} → (A → Type 0) → Option A → Type 0
 IfSome P none = Unit {0}
@@ -25,12 +25,12 @@ WellHeight height = height < 2 ^ 32
 
 pub record WellItem (i : Item) : Type 0 where
   pub id : WellId i.id
-  pub type_id : i.type_id < 2 ^ 8
+  pub type_id : WellType i.type_id
   pub peer : WellPeer i.peer
 
 -- a list of ids with a type, for a peer
 pub record WellList (of_type for_peer : ℕ) (list : List Id) : Type 0 where
-  pub type_id : of_type < 2 ^ 8
+  pub type_id : WellType of_type
   pub peer : WellPeer for_peer
   pub ids : All WellId list
 
@@ -52,18 +52,18 @@ WellAct (requests.send (requests.sync_info peer)) = WellPeer peer
 pub record WellCommand (c : Command) : Type 0 where
   pub kind_low : 1 ≤ c.kind
   pub kind_high : c.kind ≤ 3
-  pub type_id : c.type_id < 2 ^ 8
+  pub type_id : WellType c.type_id
   pub batch : c.batch < 2 ^ 16
   pub peer : c.peer < 2 ^ 64
   pub count : length c.ids < 2 ^ 32
   pub ids : All WellId c.ids
 
 pub record WellPair (p : Pair) : Type 0 where
-  pub type_id : p.type_id < 2 ^ 8
+  pub type_id : WellType p.type_id
   pub id : WellId p.id
 
 pub record WellSection (s : Section) : Type 0 where
-  pub type_id : s.type_id < 2 ^ 8
+  pub type_id : WellType s.type_id
   pub id : WellId s.id
 
 abbrev pub WellHeader : Header → Type 0
@@ -83,7 +83,7 @@ WellStep Steps.section_tick = Unit {0}
 WellStep Steps.send_failure = Unit {0}
 WellStep Steps.end_of_stream = Unit {0}
 WellStep Steps.other_message = Unit {0}
-WellStep (Steps.needed_modifier type_id ids) = (type_id < 2 ^ 8) × (All WellId ids × (length ids ≤ tracked_limit))
+WellStep (Steps.needed_modifier type_id ids) = WellType type_id × (All WellId ids × (length ids ≤ tracked_limit))
 WellStep (Steps.reorg fork) = Unit {0}
 WellStep (Steps.announced peer type_id ids) = WellList type_id peer ids × (length ids ≤ tracked_limit)
 WellStep (Steps.sync_info peer parsed tip ids) = (WellPeer peer × IfSome WellHeight tip) × (All WellId ids × (length ids ≤ 400))

@@ -1,6 +1,7 @@
 -- The entries on raw calls: numbers and byte lists of any content and length. The exported functions cite these.
 use Rattle.std.specs.Prelude.{ℕ, ◌+◌, Bool, true, false, not, cond, ◌&&◌, ◌||◌, List, [], ◌∷◌, ◌++◌, map, length, eqb, leb}
 use Rattle.std.proofs.Math.Option.{Option, none, some}
+use Rattle.fields.specs.Number.{to_be}
 use Rattle.fields.specs.Overwrite.{overwritten}
 use Rattle.fields.specs.Order.{before, same}
 use Rattle.fields.specs.Entries.{joined}
@@ -14,7 +15,7 @@ use Rattle.model.specs.Steps.{Step, Args, of_mode, plan, after, commands, count_
 use Rattle.model.specs.Image.{encode, decode, well_formed}
 use Rattle.model.specs.Lists.{ids_in, peers_in, pairs_in, view_of, ids_fit, continuation_fits, pairs_fit, peers_fit, view_fits}
 use Rattle.model.specs.Commands.{all_command_bytes}
-use Rattle.model.specs.Layout.{area_size}
+use Rattle.model.specs.Layout.{area_size, type_size}
 
 -- A step's arguments but for the areas, as they are handed in.
 pub record Call : Type 0 where
@@ -184,7 +185,7 @@ open' state o =
 
 -- A pair as bytes: their order is that of type, then id.
 abbrev pub pair_bytes : ℕ → Id → List ℕ
-pair_bytes type_id id = type_id ∷ id
+pair_bytes type_id id = to_be type_size type_id ++ id
 
 -- "strictly rising": each pair once, in order
 abbrev pub inserted_once : List ℕ → List (List ℕ) → List (List ℕ)

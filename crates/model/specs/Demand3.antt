@@ -63,7 +63,7 @@ pub record InWidth (call : Call) : Type 0 where
   pub clock : call.clock < 2 ^ 64
   pub height : call.height < 2 ^ 32
   pub peer : call.peer < 2 ^ 64
-  pub typeid : call.typeid < 2 ^ 8
+  pub typeid : call.typeid < 2 ^ 16
   pub fork : call.fork < 2 ^ 32
   pub tip : call.tip < 2 ^ 32
   pub ids : Bytes call.ids

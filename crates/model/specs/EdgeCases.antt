@@ -190,7 +190,7 @@ number n = (n ∷ []) ∷ []
 -- with an id, a continuation id, a stored pair, a peer and a view of height 401 without a header
 abbrev pub lending : ℕ → Call
 lending kind =
-    lends kind 1000 1 50 (to_be 32 5) (to_be 32 6) (101 ∷ to_be 32 8) (to_be 8 4) (0 ∷ 0 ∷ 1 ∷ 0x91 ∷ 255 ∷ replicate 102 0)
+    lends kind 1000 1 50 (to_be 32 5) (to_be 32 6) (0 ∷ 101 ∷ to_be 32 8) (to_be 8 4) (0 ∷ 0 ∷ 1 ∷ 0x91 ∷ 255 ∷ replicate 105 0)
 
 -- in syncing, clock 1,000
 abbrev pub waiting : State
@@ -257,6 +257,9 @@ of_each_verdict = waits 1 102 7 1 0 ∷ waits 2 102 7 0 0 ∷ waits 3 102 7 0 1 
 -- of the sync peer two types and a transaction; one of another peer
 abbrev pub of_two_peers : List Request
 of_two_peers = waits 1 104 7 0 0 ∷ waits 2 102 7 0 0 ∷ waits 3 2 7 0 0 ∷ waits 4 102 9 0 0 ∷ waits 5 102 7 0 1 ∷ []
+
+abbrev pub of_wide_types : List Request
+of_wide_types = waits 1 256 7 0 0 ∷ waits 2 255 7 0 0 ∷ waits 3 300 7 0 0 ∷ waits 4 102 7 0 0 ∷ []
 
 -- downloaded 5, two pending, 9 evicted
 abbrev pub before_reorg : State
@@ -564,7 +567,7 @@ delivery_checks =
     (sends four_pending (checking (8 ∷ 9 ∷ [])) gives
     (0 ∷ 2 ∷ []) ∷ requests 0 101 8 (2 ∷ 4 ∷ []) ∷ requests 1 102 8 (1 ∷ []) ∷ requests 2 102 9 (3 ∷ [])
     ∷ pending 1 102 8 10000 1 ∷ pending 2 101 8 10000 1 ∷ pending 3 102 9 10000 1 ∷ pending 4 101 8 10000 1 ∷ [])
-    ∷ (answers four_pending (checking (8 ∷ 9 ∷ [])) gives (0 ∷ 4 ∷ 0 ∷ 0 ∷ 0 ∷ 4 ∷ 0 ∷ 176 ∷ []) ∷ [])
+    ∷ (answers four_pending (checking (8 ∷ 9 ∷ [])) gives (0 ∷ 4 ∷ 0 ∷ 0 ∷ 0 ∷ 4 ∷ 0 ∷ 179 ∷ []) ∷ [])
     -- gate shut: stamps and checks move, peers don't
     ∷ (sends four_pending (gate_shut (checking (8 ∷ 9 ∷ []))) gives
     (0 ∷ 2 ∷ []) ∷ pending 1 102 7 10000 1 ∷ pending 2 101 7 10000 1 ∷ pending 3 102 8 10000 1 ∷ pending 4 101 9 10000 1 ∷ [])
@@ -578,14 +581,19 @@ delivery_checks =
     (0 ∷ 2 ∷ []) ∷ requests 0 101 7 (2 ∷ []) ∷ requests 1 102 7 (1 ∷ []) ∷ requests 2 102 8 (3 ∷ []) ∷ requests 3 101 9 (4 ∷ [])
     ∷ pending 1 102 7 10000 1 ∷ pending 2 101 7 10000 1 ∷ pending 3 102 8 10000 1 ∷ pending 4 101 9 10000 1 ∷ [])
     -- one of each verdict: waiting, retried, abandoned, forgotten
-    ∷ (answers (holding synced of_each_verdict) (checking (8 ∷ [])) gives (0 ∷ 1 ∷ 0 ∷ 1 ∷ 1 ∷ 2 ∷ 0 ∷ 48 ∷ []) ∷ [])
+    ∷ (answers (holding synced of_each_verdict) (checking (8 ∷ [])) gives (0 ∷ 1 ∷ 0 ∷ 1 ∷ 1 ∷ 2 ∷ 0 ∷ 49 ∷ []) ∷ [])
     ∷ (sends (holding synced of_each_verdict) (checking (8 ∷ [])) gives
     (0 ∷ 3 ∷ []) ∷ requests 0 102 8 (2 ∷ []) ∷ pending 1 102 7 1 0 ∷ pending 2 102 8 10000 1 ∷ [])
+    -- F-6: 258 is no transaction, and is retried where 2 is forgotten; batches by the whole type
+    ∷ (answers (holding synced (waits 1 258 7 0 0 ∷ waits 2 2 7 0 0 ∷ [])) (checking (8 ∷ [])) gives (0 ∷ 1 ∷ 0 ∷ 0 ∷ 1 ∷ 1 ∷ 0 ∷ 49 ∷ []) ∷ [])
+    ∷ (sends (holding synced (waits 1 300 7 0 0 ∷ waits 2 256 7 0 0 ∷ waits 3 255 7 0 0 ∷ [])) (checking (8 ∷ [])) gives
+    (0 ∷ 3 ∷ []) ∷ requests 0 255 8 (3 ∷ []) ∷ requests 1 256 8 (2 ∷ []) ∷ requests 2 300 8 (1 ∷ [])
+    ∷ pending 1 300 8 10000 1 ∷ pending 2 256 8 10000 1 ∷ pending 3 255 8 10000 1 ∷ [])
     -- an abandoned id that is evicted enters again as a header, and so does a forgotten one; the list is handed out with its repeats
     ∷ (sends (evicting 1 (waits 5 102 7 0 0 ∷ []) (5 ∷ 6 ∷ 5 ∷ [])) (checking (8 ∷ [])) gives
     (0 ∷ 2 ∷ []) ∷ requests 0 101 8 (5 ∷ 6 ∷ 5 ∷ []) ∷ pending 5 101 8 10000 0 ∷ pending 6 101 8 10000 0 ∷ [])
     ∷ (answers (evicting 1 (waits 5 102 7 0 0 ∷ []) (5 ∷ 6 ∷ 5 ∷ [])) (checking (8 ∷ [])) gives
-    (0 ∷ 0 ∷ 3 ∷ 1 ∷ 0 ∷ 2 ∷ 0 ∷ 112 ∷ []) ∷ [])
+    (0 ∷ 0 ∷ 3 ∷ 1 ∷ 0 ∷ 2 ∷ 0 ∷ 113 ∷ []) ∷ [])
     ∷ (sends (evicting 2 (waits 5 2 7 0 0 ∷ []) (5 ∷ [])) (checking (8 ∷ [])) gives
     (0 ∷ 2 ∷ []) ∷ requests 0 101 8 (5 ∷ []) ∷ pending 5 101 8 10000 0 ∷ [])
     -- a retried one is dropped from the fresh list, which comes after the retries
@@ -664,6 +672,14 @@ messages =
     ∷ (sends synced_core (at 50 (announced 8 108 (ids (5 ∷ [])))) gives (0 ∷ 3 ∷ []) ∷ requests 0 108 8 (5 ∷ []) ∷ pending 5 108 8 50 0 ∷ [])
     ∷ (sends synced_core (at 50 (announced 8 103 (ids (5 ∷ [])))) gives (0 ∷ 3 ∷ []) ∷ [])
     ∷ (sends synced_core (at 50 (announced 8 0 (ids (5 ∷ [])))) gives (0 ∷ 3 ∷ []) ∷ [])
+    -- F-6: types that end in a known number's low byte; a needed modifier of such a type, also where the known one is stored
+    ∷ (sends synced_core (at 50 (announced 8 358 (ids (5 ∷ [])))) gives (0 ∷ 3 ∷ []) ∷ [])
+    ∷ (sends synced_core (at 50 (announced 8 357 (ids (5 ∷ [])))) gives (0 ∷ 3 ∷ []) ∷ [])
+    ∷ (sends synced_core (at 50 (announced 8 258 (ids (5 ∷ [])))) gives (0 ∷ 3 ∷ []) ∷ [])
+    ∷ (sends syncing_core (args_at 200 1 (5 ∷ []) (announced 7 357 [])) gives (0 ∷ 2 ∷ []) ∷ [])
+    ∷ (sends synced_core (storing (at 50 (needed_modifier 358 (ids (5 ∷ [])))) (pair 102 5 ∷ [])) gives
+    (0 ∷ 3 ∷ []) ∷ requests 0 358 7 (5 ∷ []) ∷ pending 5 358 7 50 0 ∷ [])
+    ∷ (sends synced_core (storing (at 50 (needed_modifier 358 (ids (5 ∷ [])))) (pair 358 5 ∷ [])) gives (0 ∷ 3 ∷ []) ∷ [])
     -- empty lists: headers from the sync peer, in syncing with rule 4 and both marks cleared, in synced without; other types
     ∷ (sends syncing_core (args_at 200 1 (5 ∷ []) (announced 7 101 [])) gives
     (1 ∷ 3 ∷ []) ∷ requests 0 102 5 (1 ∷ []) ∷ pending 1 102 5 200 0 ∷ [])
@@ -737,6 +753,13 @@ mode_steps =
     ∷ (sends (holding syncing of_two_peers) (storing (args_at 50 0 (7 ∷ []) (lost_peer 7)) (pair 101 5 ∷ pair 102 2 ∷ [])) gives
     (3 ∷ 1 ∷ []) ∷ requests 0 102 7 (5 ∷ []) ∷ requests 1 104 7 (1 ∷ [])
     ∷ pending 1 104 7 50 0 ∷ pending 4 102 9 0 0 ∷ pending 5 102 7 50 0 ∷ [])
+    -- F-6: "256, 255, 300, 102: batches 102, 255, 256, 300"; one stored under its whole type, one under a low byte only
+    ∷ (sends (holding syncing of_wide_types) (storing (args_at 50 0 (8 ∷ []) (lost_peer 7)) (pair 44 3 ∷ pair 255 2 ∷ [])) gives
+    (3 ∷ 1 ∷ []) ∷ requests 0 102 8 (4 ∷ []) ∷ requests 1 256 8 (1 ∷ []) ∷ requests 2 300 8 (3 ∷ [])
+    ∷ pending 1 256 8 50 0 ∷ pending 3 300 8 50 0 ∷ pending 4 102 8 50 0 ∷ [])
+    ∷ (sends (holding syncing of_wide_types) (args_at 50 0 (8 ∷ []) (lost_peer 7)) gives
+    (3 ∷ 1 ∷ []) ∷ requests 0 102 8 (4 ∷ []) ∷ requests 1 255 8 (2 ∷ []) ∷ requests 2 256 8 (1 ∷ []) ∷ requests 3 300 8 (3 ∷ [])
+    ∷ pending 1 256 8 50 0 ∷ pending 2 255 8 50 0 ∷ pending 3 300 8 50 0 ∷ pending 4 102 8 50 0 ∷ [])
     -- nobody listed, or the gate shut: they leave pending
     ∷ (sends (holding syncing of_two_peers) (at 50 (lost_peer 7)) gives (3 ∷ 1 ∷ []) ∷ pending 4 102 9 0 0 ∷ [])
     ∷ (sends (holding syncing of_two_peers) (gate_shut (args_at 50 0 (8 ∷ []) (lost_peer 7))) gives (3 ∷ 1 ∷ []) ∷ pending 4 102 9 0 0 ∷ [])
@@ -803,7 +826,7 @@ forecasts =
     (forecast (evicting 2 (waits 5 102 7 0 0 ∷ []) (5 ∷ 6 ∷ [])) (at 10000 other_message) gives (0 ∷ 0 ∷ 1 ∷ 2 ∷ 0 ∷ 0 ∷ []) ∷ [])
     -- a retry, and an id evicted 401 times handed out: two batches, three commands
     ∷ (forecast (state_of 2 syncing (waits 5 102 7 0 0 ∷ []) (with_evicted base_sync (replicate 401 (replicate 32 6)))) (checking (8 ∷ [])) gives
-    (0 ∷ 0 ∷ 2 ∷ 0 ∷ 3 ∷ 12912 ∷ []) ∷ [])
-    -- a sync info of 16 bytes; an outcome that is not Continue
-    ∷ (forecast syncing_core (at 200 scheduled_tick) gives (0 ∷ 0 ∷ 0 ∷ 0 ∷ 1 ∷ 16 ∷ []) ∷ [])
+    (0 ∷ 0 ∷ 2 ∷ 0 ∷ 3 ∷ 12915 ∷ []) ∷ [])
+    -- a sync info of 17 bytes; an outcome that is not Continue
+    ∷ (forecast syncing_core (at 200 scheduled_tick) gives (0 ∷ 0 ∷ 0 ∷ 0 ∷ 1 ∷ 17 ∷ []) ∷ [])
     ∷ (forecast syncing_core (at 50 end_of_stream) gives (0 ∷ 5 ∷ 0 ∷ 0 ∷ 0 ∷ 0 ∷ []) ∷ []) ∷ []

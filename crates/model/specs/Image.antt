@@ -1,4 +1,4 @@
--- The state area as bytes: docs/LAYOUT.md, "State area, version 1".
+-- The state area as bytes: docs/LAYOUT.md, "State area".
 use Rattle.std.specs.Prelude.{ℕ, zero, suc, ◌+◌, ◌-◌, ◌*◌, Bool, true, false, not, cond, ◌&&◌, ◌||◌, List, [], ◌∷◌, ◌++◌, map, length, take, drop, get_or, eqb, leb, ltb}
 use Rattle.fields.specs.Number.{from_be, to_be}
 use Rattle.fields.specs.Zero.{zeros, all_zero}
@@ -36,11 +36,15 @@ request_of bytes =
       checks = field 50 4 bytes;
     }
 
--- The header's fields, up to the first byte that version 1 keeps at zero.
+-- F-6: "the image becomes version 2"
+abbrev pub newest_version : ℕ
+newest_version = 2
+
+-- The header's fields, up to the first byte that is kept at zero.
 unfoldable pub header_bytes : State → List ℕ
 header_bytes st =
     69 ∷ 68 ∷ 84 ∷ []
-    ++ (to_be 2 1
+    ++ (to_be 2 newest_version
     ++ (mode_number st.mode ∷ bit st.sync.progress_used ∷ bit st.sync.entry_sent ∷ []
     ++ (to_be 8 st.last_clock
     ++ (to_be 4 st.settings.timeout
@@ -71,6 +75,9 @@ encode st =
     padded (area_size - length back) front ++ back
 
 module _ (area : List ℕ) where
+  abbrev pub version : ℕ
+  version = field 3 2 area
+
   abbrev pub mode_byte : ℕ
   mode_byte = get_or area 5 0
 
@@ -132,7 +139,7 @@ abbrev pub all_fit : Settings → ℕ → List Request → Bool
 all_fit settings last_clock [] = true
 all_fit settings last_clock (r ∷ requests) = request_fits settings last_clock r && all_fit settings last_clock requests
 
--- the high byte of each record's type is unused in version 1
+-- the high byte of each record's type
 abbrev pub types_narrow : List (List ℕ) → Bool
 types_narrow [] = true
 types_narrow (e ∷ es) = eqb (get_or e 40 0) 0 && types_narrow es
@@ -150,14 +157,22 @@ module _ (area : List ℕ) where
   unfoldable pub clocks_fit : Bool
   clocks_fit = leb (field 32 8 area) (last_clock_of area) && leb (field 40 8 area) (last_clock_of area)
 
-  -- "unused bytes not zero": the sync peer outside syncing and synced, the room of version 1, stalled places beyond the count,
-  -- the high byte of types, the region between pending and evicted
+  -- F-6: "a version 1 image is still accepted", "any other version is number 2 as before"
+  unfoldable pub version_fits : Bool
+  version_fits = eqb (version area) newest_version || eqb (version area) 1
+
+  -- in version 1 a type has one byte, and the other is unused
+  unfoldable pub types_fit : Bool
+  types_fit = eqb (version area) newest_version || types_narrow (entries record_size (pending_count area) (drop region_at area))
+
+  -- "unused bytes not zero": the sync peer outside syncing and synced, the room behind the header, stalled places beyond the count,
+  -- the high byte of types in version 1, the region between pending and evicted
   unfoldable pub unused_zero : Bool
   unused_zero =
       (has_sync_peer (mode_of (mode_byte area)) || eqb (field 48 8 area) 0)
       && (all_zero (take (stalled_at - 74) (drop 74 area))
       && (all_zero (take ((stalled_limit - stalled_count area) * peer_size) (drop (stalled_at + stalled_count area * peer_size) area))
-      && (types_narrow (entries record_size (pending_count area) (drop region_at area))
+      && (types_fit
       && all_zero (take (area_size - region_at - pending_count area * record_size - evicted_count area * id_size) (drop (region_at + pending_count area * record_size) area)))))
 
   -- Not malformed, by the table's number 2: "mark, version, mode, flags, counts, order of ids, a peer stalled twice, a stamp, last
@@ -165,7 +180,7 @@ module _ (area : List ℕ) where
   unfoldable pub well_formed : Bool
   well_formed =
       same (take 3 area) (69 ∷ 68 ∷ 84 ∷ [])
-      && (eqb (field 3 2 area) 1
+      && (version_fits
       && (leb (mode_byte area) 4
       && (marks_fit
       && (counts_fit

@@ -9,9 +9,13 @@ id_size = 32
 abbrev pub peer_size : ℕ
 peer_size = 8
 
+-- F-6: "types become 16-bit"
+abbrev pub type_size : ℕ
+type_size = 2
+
 -- a stored pair, or one of the question's: type and id
 abbrev pub pair_size : ℕ
-pair_size = 33
+pair_size = 34
 
 -- a pending record: id, peer, type, stamp, checks
 abbrev pub record_size : ℕ
@@ -19,19 +23,19 @@ record_size = 54
 
 -- "three places of type, id, stored 0 or 1"
 abbrev pub place_size : ℕ
-place_size = 34
+place_size = 35
 
 -- a row of the view: count and three places
 abbrev pub row_size : ℕ
-row_size = 103
+row_size = 106
 
--- "Header: kind 1 byte, type 1, batch 2, peer 8, count 4"
+-- "Header: kind 1 byte, type 1, batch 2, peer 8, count 4"; F-6: its type 2, "header now 17 bytes"
 abbrev pub command_header : ℕ
-command_header = 16
+command_header = 17
 
 -- a request for one id
 abbrev pub command_size : ℕ
-command_size = 48
+command_size = 49
 
 -- ---- the areas
 
@@ -63,11 +67,11 @@ id_list_size = 32768
 
 -- 1,024 pairs
 abbrev pub pair_list_size : ℕ
-pair_list_size = 33792
+pair_list_size = 34816
 
 -- the 576 pairs of a window
 abbrev pub window_pairs_size : ℕ
-window_pairs_size = 19008
+window_pairs_size = 19584
 
 -- 1,024 records
 abbrev pub table_size : ℕ
@@ -76,7 +80,7 @@ table_size = 55296
 -- ---- a step's commands, at most
 
 abbrev pub most_bytes : ℕ
-most_bytes = 49152
+most_bytes = 50176
 
 abbrev pub most_batches : ℕ
 most_batches = 1026

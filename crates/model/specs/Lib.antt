@@ -21,6 +21,7 @@ pub mod Sections
 pub mod Settings
 pub mod State
 pub mod Steps
+pub mod Versions
 pub mod Promises
 pub mod WindowMap
 pub mod MapBytes

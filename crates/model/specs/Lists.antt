@@ -7,7 +7,7 @@ use Rattle.fields.specs.Entries.{entries, entry, rising}
 use Rattle.model.specs.Protocol.{Id, list_limit, continuation_limit, peer_limit}
 use Rattle.model.specs.Requests.{Pair}
 use Rattle.model.specs.Sections.{Section, Header, absent, present, View}
-use Rattle.model.specs.Layout.{id_size, pair_size, peer_size, place_size, row_size}
+use Rattle.model.specs.Layout.{id_size, pair_size, peer_size, place_size, row_size, type_size}
 
 -- whole entries, at most so many
 unfoldable pub list_fits : ℕ → ℕ → List ℕ → Bool
@@ -23,8 +23,12 @@ ids_in bytes = entries_of id_size bytes
 unfoldable pub peers_in : List ℕ → List ℕ
 peers_in bytes = map from_be (entries_of peer_size bytes)
 
+-- the type that some bytes begin with
+abbrev pub type_in : List ℕ → ℕ
+type_in bytes = from_be (take type_size bytes)
+
 unfoldable pub pair_of : List ℕ → Pair
-pair_of bytes = record { type_id = get_or bytes 0 0; id = drop 1 bytes }
+pair_of bytes = record { type_id = type_in bytes; id = drop type_size bytes }
 
 unfoldable pub pairs_in : List ℕ → List Pair
 pairs_in bytes = map pair_of (entries_of pair_size bytes)
@@ -47,7 +51,8 @@ peers_fit bytes = list_fits peer_size peer_limit bytes
 
 -- A row: "count 0 to 3 or 255 (header absent), then three places of type, id, stored 0 or 1; unused places zero".
 unfoldable pub section_of : List ℕ → Section
-section_of place = record { type_id = get_or place 0 0; id = take id_size (drop 1 place); is_stored = eqb (get_or place pair_size 0) 1 }
+section_of place =
+    record { type_id = type_in place; id = take id_size (drop type_size place); is_stored = eqb (get_or place pair_size 0) 1 }
 
 unfoldable pub header_of : List ℕ → Header
 header_of row = cond (eqb (get_or row 0 0) 255) absent (present (map section_of (entries place_size (get_or row 0 0) (drop 1 row))))

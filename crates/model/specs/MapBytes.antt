@@ -4,7 +4,7 @@ use Rattle.std.specs.Int.Count.{count_trailing_zeros}
 use Rattle.fields.specs.Number.{to_be}
 use Rattle.fields.specs.Zero.{zeros, all_zero}
 use Rattle.fields.specs.Order.{same}
-use Rattle.model.specs.Layout.{map_heights_at}
+use Rattle.model.specs.Layout.{map_heights_at, place_size}
 use Rattle.model.specs.Protocol.{window_size}
 use Rattle.model.specs.Image.{field}
 use Rattle.model.specs.WindowMap.{bits}
@@ -27,10 +27,14 @@ byte_complete byte = eqb byte 0 || (eqb byte 17 || (eqb byte 35 || eqb byte 55))
 abbrev pub byte_mark : List ℕ → ℕ
 byte_mark heights = bits (map byte_complete heights)
 
+-- the stored flags of a row, each the last byte of its place
+abbrev pub row_flags : List ℕ → ℕ
+row_flags row = get_or row place_size 0 + 2 * (get_or row (2 * place_size) 0 + 2 * get_or row (3 * place_size) 0)
+
 -- the byte of a height from its row: 128 for an absent header, else the count in the high half and the three stored flags in the low
 unfoldable pub row_byte : List ℕ → ℕ
 row_byte row =
-    cond (eqb (get_or row 0 0) 255) 128 (get_or row 0 0 * 16 + (get_or row 34 0 + 2 * (get_or row 68 0 + 2 * get_or row 102 0)))
+    cond (eqb (get_or row 0 0) 255) 128 (get_or row 0 0 * 16 + row_flags row)
 
 -- ---- the test of an area
 

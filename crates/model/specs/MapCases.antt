@@ -82,20 +82,20 @@ three_words =
 
 -- a place: stored 0 or 1
 abbrev pub place : ℕ → List ℕ
-place stored = 102 ∷ replicate 32 170 ++ (stored ∷ [])
+place stored = 0 ∷ 102 ∷ replicate 32 170 ++ (stored ∷ [])
 
 -- rows: no sections, an absent header, one section, two, three
 abbrev pub bare : List ℕ
-bare = replicate 103 0
+bare = replicate 106 0
 
 abbrev pub headless : List ℕ
-headless = 255 ∷ replicate 102 0
+headless = 255 ∷ replicate 105 0
 
 abbrev pub single : ℕ → List ℕ
-single stored = 1 ∷ place stored ++ replicate 68 0
+single stored = 1 ∷ place stored ++ replicate 70 0
 
 abbrev pub double : ℕ → ℕ → List ℕ
-double a b = 2 ∷ place a ++ (place b ++ replicate 34 0)
+double a b = 2 ∷ place a ++ (place b ++ replicate 35 0)
 
 abbrev pub triple : ℕ → ℕ → ℕ → List ℕ
 triple a b c = 3 ∷ place a ++ (place b ++ place c)

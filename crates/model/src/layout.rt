@@ -4,7 +4,12 @@ pub const ID_SIZE: usize = 32;
 
 pub const PEER_SIZE: usize = 8;
 
-pub const PAIR_SIZE: usize = 33;
+// The version of the image that is written; 1 is read too.
+pub const NEWEST_VERSION: u16 = 2;
+
+pub const TYPE_SIZE: usize = 2;
+
+pub const PAIR_SIZE: usize = 34;
 
 pub const RECORD_SIZE: usize = 54;
 
@@ -17,14 +22,14 @@ pub const STAMP_AT: usize = 42;
 
 pub const CHECKS_AT: usize = 50;
 
-pub const PLACE_SIZE: usize = 34;
+pub const PLACE_SIZE: usize = 35;
 
-pub const ROW_SIZE: usize = 103;
+pub const ROW_SIZE: usize = 106;
 
-pub const COMMAND_HEADER: usize = 16;
+pub const COMMAND_HEADER: usize = 17;
 
 // A request for one id.
-pub const COMMAND_SIZE: usize = 48;
+pub const COMMAND_SIZE: usize = 49;
 
 pub const AREA_SIZE: usize = 65536;
 
@@ -39,12 +44,12 @@ pub const MAP_HEIGHTS_AT: usize = 64;
 
 pub const ID_LIST_SIZE: usize = 32768;
 
-pub const PAIR_LIST_SIZE: usize = 33792;
+pub const PAIR_LIST_SIZE: usize = 34816;
 
-pub const WINDOW_PAIRS_SIZE: usize = 19008;
+pub const WINDOW_PAIRS_SIZE: usize = 19584;
 
 // A step's commands, at most.
-pub const MOST_BYTES: usize = 49152;
+pub const MOST_BYTES: usize = 50176;
 
 // Most requests pending and ids evicted.
 pub const TRACKED_LIMIT: usize = 1024;

@@ -7,18 +7,15 @@
 
 pub mod layout;
 
-pub const TRANSACTION_TYPE_ID: u8 = 2;
+pub const TRANSACTION_TYPE_ID: u16 = 2;
 
-// The same as a record holds it, in two bytes.
-pub const TRANSACTION: u16 = TRANSACTION_TYPE_ID as u16;
+pub const HEADER_TYPE_ID: u16 = 101;
 
-pub const HEADER_TYPE_ID: u8 = 101;
+pub const BLOCK_TRANSACTIONS_TYPE_ID: u16 = 102;
 
-pub const BLOCK_TRANSACTIONS_TYPE_ID: u8 = 102;
+pub const AD_PROOFS_TYPE_ID: u16 = 104;
 
-pub const AD_PROOFS_TYPE_ID: u8 = 104;
-
-pub const EXTENSION_TYPE_ID: u8 = 108;
+pub const EXTENSION_TYPE_ID: u16 = 108;
 
 // Most ids one request may carry.
 pub const MAX_MODIFIER_REQUEST_IDS: usize = 400;

@@ -26,7 +26,7 @@ pub struct Call {
     pub gate: u8,
     pub height: u32,
     pub peer: u64,
-    pub typeid: u8,
+    pub typeid: u16,
     pub fork: u32,
     pub parsed: u8,
     pub hastip: u8,

@@ -19,7 +19,7 @@ pub enum Heard {
 
 // The types that an announcement is served for: transactions, headers and the three sections.
 #[tactic(auto, unfolding(model::specs::Protocol::is_announceable))]
-pub fn is_announceable(typeid: u8) -> bool
+pub fn is_announceable(typeid: u16) -> bool
     ensures { result ≡ model.is_announceable typeid }
 {
     matches!(

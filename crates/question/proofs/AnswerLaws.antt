@@ -6,22 +6,24 @@ use mathlib.Core.List.{List, [], ◌∷◌, map, append-nil}
 use native.Mathlib.Omega.{arith}
 use native.Mathlib.Numerals.{add-one}
 use lib.Dec.{eqb}
-use lib.ListN.{length, take, drop, set, length-map, length-drop, drop_of_length-le}
+use lib.ListN.{length, take, drop, length-map, length-drop, drop_of_length-le}
 use lib.Seq.{drop-cons, length-take-le}
 use Rattle.fields.specs.Facts.{All}
+use Rattle.fields.specs.Number.{to_be}
 use Rattle.fields.specs.Entries.{entries, entry, joined}
 use Rattle.fields.specs.Overwrite.{overwritten}
 use Rattle.fields.proofs.AllLaws.{all_map, all_kept, all_drop}
 use Rattle.fields.proofs.FilterLaws.{length_kept}
-use Rattle.fields.proofs.OverwriteLaws.{overwritten_nil, overwritten_one, overwritten_next, length_overwritten, front_read_back}
+use Rattle.fields.proofs.OverwriteLaws.{overwritten_nil, overwritten_next, length_overwritten, front_read_back}
 use Rattle.fields.proofs.EntriesLaws.{Wide, length_entries, length_entry, entries_at, entries_wide, length_joined, entries_joined}
 use Rattle.model.specs.Protocol.{header_type, is_transaction, tracked_limit}
 use Rattle.model.specs.Delivery.{Request, orphans_of}
 use Rattle.model.specs.Image.{request_of}
 use Rattle.model.specs.Lists.{entries_of}
 use Rattle.model.specs.Calls.{pair_bytes}
+use Rattle.model.proofs.ListLaws.{length_pair}
 use Rattle.commands.specs.Pending.{requests_in}
-use Rattle.model.specs.Layout.{id_size, pair_list_size, pair_size, record_size}
+use Rattle.model.specs.Layout.{id_size, pair_list_size, pair_size, record_size, type_size}
 
 -- an id as a header's pair
 abbrev pub header : List ℕ → List ℕ
@@ -30,20 +32,19 @@ header = pair_bytes header_type
 -- ---- one evicted id
 
 pub header_put : (ids : List ℕ) (i : ℕ) (pairs : List ℕ) {x y : List ℕ} → i * id_size + id_size ≤ length ids → i * pair_size + pair_size ≤ length pairs
-    → x ≡ set pairs (i * pair_size) 101 → y ≡ overwritten (i * pair_size + 1) (take (i * id_size + id_size - i * id_size) (drop (i * id_size) ids)) x
+    → x ≡ overwritten (i * pair_size) (to_be type_size header_type) pairs → y ≡ overwritten (i * pair_size + type_size) (take (i * id_size + id_size - i * id_size) (drop (i * id_size) ids)) x
     → y ≡ overwritten (i * pair_size) (header (entry id_size i ids)) pairs
 unfolding entry
 header_put ids i pairs {x = x} h l p q =
     let id : List ℕ = take id_size (drop (i * id_size) ids) in
     let k : i * id_size + id_size - i * id_size ≡ id_size = omega arith in
     let n : length id ≡ id_size = length-take-le 32 (drop (i * id_size) ids) (rw (length-drop (i * id_size) ids) (omega arith)) in
-    let e : x ≡ overwritten (i * pair_size) (101 ∷ []) pairs = p ∙ overwritten_one (i * pair_size) 101 pairs (omega arith) in
-    q ∙ rw (e, k) (overwritten_next (i * pair_size) (101 ∷ []) id pairs (omega arith))
+    q ∙ rw (p, k) (overwritten_next (i * pair_size) (to_be type_size header_type) id pairs (omega arith))
 
 -- ---- all of them
 
 pub headers_wide : (es : List (List ℕ)) → Wide id_size es → Wide pair_size (map header es)
-headers_wide es w = all_map (λ (e : List ℕ). length e ≡ id_size) (λ (e : List ℕ). length e ≡ pair_size) header (λ e l. ap suc l) es w
+headers_wide es w = all_map (λ (e : List ℕ). length e ≡ id_size) (λ (e : List ℕ). length e ≡ pair_size) header (λ e l. length_pair header_type e l) es w
 
 -- The pass at id i: what is written, then the rest, is the whole.
 pub record Heading (ids d pairs : List ℕ) (i : ℕ) : Type 0 where
@@ -64,7 +65,7 @@ module _ {ids d pairs : List ℕ} {i : ℕ} (s : Heading ids d pairs i) where
       let T : List ℕ = joined (map header ds) in
       let w : Wide id_size ds = all_drop (λ (e : List ℕ). length e ≡ id_size) (i + 1) es (entries_wide 32 count ids (omega arith)) in
       let n : drop i es ≡ entry id_size i ids ∷ ds = rw (add-one, ← entries_at 32 count i ids h) (drop-cons es i [] (omega arith)) in
-      let lo : length one ≡ pair_size = ap suc (length_entry id_size i ids (omega arith)) in
+      let lo : length one ≡ pair_size = length_pair header_type (entry id_size i ids) (length_entry id_size i ids (omega arith)) in
       let ld : length ds ≡ count - (i + 1) = length-drop (i + 1) es ∙ rw le in
       let l_t : length T ≡ length ds * pair_size = length_joined pair_size (map header ds) (headers_wide ds w) ∙ rw (length-map ds header) in
       let at : (i + 1) * pair_size ≡ i * pair_size + length one = omega arith in
@@ -127,5 +128,5 @@ module _ (peer count : ℕ) (table : List ℕ) where
       let wide : Wide record_size (entries record_size count table) = entries_wide record_size count table h in
       let long : All LongId (requests_in count table) =
       all_map (λ (e : List ℕ). length e ≡ record_size) LongId request_of (λ e l. length-take-le 32 e (omega arith)) (entries record_size count table) wide in
-      all_map LongId (λ (e : List ℕ). length e ≡ pair_size) pair_of (λ r l. ap suc l) (orphans_of peer (requests_in count table))
+      all_map LongId (λ (e : List ℕ). length e ≡ pair_size) pair_of (λ r l. length_pair r.type_id r.id l) (orphans_of peer (requests_in count table))
       (all_kept LongId orphan (requests_in count table) long)

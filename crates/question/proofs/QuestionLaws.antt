@@ -15,7 +15,7 @@ use Rattle.fields.proofs.EntriesLaws.{Wide, length_entries, entries_wide}
 use Rattle.model.specs.Protocol.{tracked_limit}
 use Rattle.model.specs.Delivery.{Request, orphans_of}
 use Rattle.model.specs.State.{State, has_sync_peer}
-use Rattle.model.specs.Image.{bit, field, mode_of, types_narrow, pending_count, evicted_count, pending_of, evicted_of, decode, well_formed}
+use Rattle.model.specs.Image.{bit, field, mode_of, pending_count, evicted_count, pending_of, evicted_of, decode, well_formed}
 use Rattle.model.specs.Lists.{entries_of}
 use Rattle.model.specs.Calls.{strictly_rising, question_pairs}
 use Rattle.model.proofs.FormedLaws.{formed}
@@ -77,10 +77,6 @@ module _ {area : List ℕ} {h : Head} (a : Area area h) where
 
   pub pending_long : h.pending * record_size ≤ length (behind region_at area)
   pending_long = rw (rest_all region_at area, length-drop region_at area) (omega (arith, pending_few, a.long))
-
-  pub types_narrow_lem : types_narrow (entries record_size h.pending (behind region_at area)) ≡ true
-  unfolding head_in
-  types_narrow_lem = rw (rest_all region_at area, a.head) (formed area a.well).narrow
 
   -- ---- what is asked for
 

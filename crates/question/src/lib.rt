@@ -23,7 +23,7 @@ ghost use Rattle.model.specs.Layout.{area_size, id_size, pair_list_size, pair_si
 use image::head::Head;
 use image::mode::{SYNCED, SYNCING};
 use model::HEADER_TYPE_ID;
-use model::layout::{ID_SIZE, PAIR_LIST_SIZE, PAIR_SIZE, REGION_AT};
+use model::layout::{ID_SIZE, PAIR_LIST_SIZE, PAIR_SIZE, REGION_AT, TYPE_SIZE};
 
 // Id i as a header's pair, at index i of the pairs.
 fn put_header(ids: &[u8], i: usize, pairs: &mut [u8])
@@ -33,8 +33,8 @@ fn put_header(ids: &[u8], i: usize, pairs: &mut [u8])
     let from = i * ID_SIZE;
     let end = from + ID_SIZE;
     let at = i * PAIR_SIZE;
-    pairs[at] = HEADER_TYPE_ID;
-    spans::moving::overwrite(pairs, at + 1, &ids[from..end]);
+    fields::write_u16(pairs, at, HEADER_TYPE_ID);
+    spans::moving::overwrite(pairs, at + TYPE_SIZE, &ids[from..end]);
 }
 
 // The ids as pairs of headers.

@@ -15,7 +15,7 @@ use Rattle.fields.specs.Entries.{entries, entry}
 use Rattle.fields.proofs.OrderLaws.{and_right}
 use Rattle.fields.proofs.ZeroLaws.{all_zero_eq, all_zero_append, zeros_at}
 use Rattle.fields.proofs.OverwriteLaws.{drop_take}
-use Rattle.fields.proofs.EntriesLaws.{entries_add}
+use Rattle.fields.proofs.EntriesLaws.{entries_add, entry_byte}
 use Rattle.model.specs.Lists.{flags_fit, used_places, row_fits, rows_fit}
 use Rattle.model.specs.Layout.{pair_size, place_size, row_size}
 
@@ -28,10 +28,6 @@ pub zero_drop : (n : ℕ) (s : List ℕ) → all_zero s ≡ true → all_zero (d
 zero_drop n s z = and_right (all_zero (take n s)) (all_zero (drop n s)) (sym (all_zero_append (take n s) (drop n s)) ∙ ap all_zero (take-append-drop n s) ∙ z)
 
 -- ---- an entry's bytes where they stand
-
-pub entry_byte : (width i k : ℕ) (bytes : List ℕ) → k < width → get_or (entry width i bytes) k 0 ≡ get_or bytes (i * width + k) 0
-unfolding entry
-entry_byte width i k bytes h = get_or-take width (drop (i * width) bytes) k 0 h ∙ get_or-drop (i * width) bytes k 0
 
 pub entry_drop : (width i k : ℕ) (bytes : List ℕ) → k ≤ width → drop k (entry width i bytes) ≡ take (width - k) (drop (i * width + k) bytes)
 unfolding entry
@@ -71,18 +67,22 @@ all_places used bytes h =
     ap (λ (t : Bool). t && all_zero rest) e
     ∙ spare (flags_fit (entries place_size used bytes)) (flags_fit (entries place_size (3 - used) rest)) (all_zero rest) (flags_zero (3 - used) rest)
 
--- where a row's stored bytes stand
-three_flags : (row : List ℕ) → flags_fit (entries place_size 3 (drop 1 row)) ≡ leb (get_or row place_size 0) 1 && (leb (get_or row 68 0) 1 && leb (get_or row 102 0) 1)
+-- a row's three flags, where byte k of it is `byte k`
+abbrev flags_by : (ℕ → ℕ) → Bool
+flags_by byte = leb (byte place_size) 1 && (leb (byte (2 * place_size)) 1 && leb (byte (3 * place_size)) 1)
+
+three_flags : (row : List ℕ) → flags_fit (entries place_size 3 (drop 1 row)) ≡ flags_by (λ (k : ℕ). get_or row k 0)
 three_flags row =
     let places : List ℕ = drop 1 row in
     let a : get_or (take place_size places) pair_size 0 ≡ get_or row place_size 0 = get_or-take place_size places pair_size 0 (omega arith) ∙ get_or-drop 1 row pair_size 0 in
     let second : List ℕ = drop place_size places in
     let third : List ℕ = drop place_size second in
-    let b : get_or (take place_size second) pair_size 0 ≡ get_or row 68 0 =
-    get_or-take place_size second pair_size 0 (omega arith) ∙ get_or-drop place_size places pair_size 0 ∙ get_or-drop 1 row 67 0 in
-    let c : get_or (take place_size third) pair_size 0 ≡ get_or row 102 0 =
-    get_or-take place_size third pair_size 0 (omega arith) ∙ get_or-drop place_size second pair_size 0 ∙ get_or-drop place_size places 67 0 ∙ get_or-drop 1 row 101 0 in
-    rw (a, b, c, and-true (leb (get_or row 102 0) 1))
+    let b : get_or (take place_size second) pair_size 0 ≡ get_or row (2 * place_size) 0 =
+    get_or-take place_size second pair_size 0 (omega arith) ∙ get_or-drop place_size places pair_size 0 ∙ get_or-drop 1 row (place_size + pair_size) 0 in
+    let c : get_or (take place_size third) pair_size 0 ≡ get_or row (3 * place_size) 0 =
+    get_or-take place_size third pair_size 0 (omega arith) ∙ get_or-drop place_size second pair_size 0
+    ∙ get_or-drop place_size places (place_size + pair_size) 0 ∙ get_or-drop 1 row (2 * place_size + pair_size) 0 in
+    rw (a, b, c, and-true (leb (get_or row (3 * place_size) 0) 1))
 
 -- ---- a row
 
@@ -99,18 +99,16 @@ module _ (i : ℕ) (rows : List ℕ) {used : ℕ} (counted : used ≡ cond (eqb 
 
   pub row_read : {unused : Bool} → used ≤ 3
       → unused ≡ all_zero (take (i * row_size + row_size - (i * row_size + (1 + used * place_size))) (drop (i * row_size + (1 + used * place_size)) rows))
-      → (leb (get_or rows (i * row_size + place_size) 0) 1 && (leb (get_or rows (i * row_size + 68) 0) 1 && leb (get_or rows (i * row_size + 102) 0) 1)) && unused
-      ≡ row_fits (entry row_size i rows)
+      → flags_by (λ (k : ℕ). get_or rows (i * row_size + k) 0) && unused ≡ row_fits (entry row_size i rows)
   unfolding row_fits
   row_read {unused} h z =
       let row : List ℕ = entry row_size i rows in
       let size : i * row_size + row_size - (i * row_size + (1 + used * place_size)) ≡ row_size - (1 + used * place_size) = omega arith in
       let tail : unused ≡ all_zero (drop (used * place_size) (drop 1 row)) =
       z ∙ rw (size, drop-drop (used * place_size) 1 row, entry_drop row_size i (1 + used * place_size) rows (omega arith)) in
-      let flags : leb (get_or rows (i * row_size + place_size) 0) 1 && (leb (get_or rows (i * row_size + 68) 0) 1 && leb (get_or rows (i * row_size + 102) 0) 1)
-      ≡ flags_fit (entries place_size 3 (drop 1 row)) =
-      sym (three_flags row
-      ∙ rw (entry_byte row_size i place_size rows (omega arith), entry_byte row_size i 68 rows (omega arith), entry_byte row_size i 102 rows (omega arith))) in
+      let byte : (k : ℕ) → k < row_size → get_or row k 0 ≡ get_or rows (i * row_size + k) 0 = λ k l. entry_byte row_size i k rows l in
+      let flags : flags_by (λ (k : ℕ). get_or rows (i * row_size + k) 0) ≡ flags_fit (entries place_size 3 (drop 1 row)) =
+      sym (three_flags row ∙ rw (byte place_size (omega arith), byte (2 * place_size) (omega arith), byte (3 * place_size) (omega arith))) in
       rw (tail, flags, used-row, le-leb used 3 h, ← drop-drop (used * place_size) 1 row) (all_places used (drop 1 row) h)
 
 -- ---- all rows

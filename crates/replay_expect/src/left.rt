@@ -39,9 +39,9 @@ pub fn command(areas: &mut Areas, words: &Words, replay: Replay) -> Result<Repla
     if words.numbers[4] != (ids.len() / 32) as u64 {
         return Err(Fault::Form);
     }
-    let table = [(0, 1), (1, 1), (2, 2), (4, 8), (12, 4)];
+    let table = [(0, 1), (1, 2), (3, 2), (5, 8), (13, 4)];
     put_numbers(&mut areas.commands[at..], &table, &words.numbers[..5]);
-    let end = at + 16 + ids.len();
-    areas.commands[at + 16..end].copy_from_slice(ids);
+    let end = at + 17 + ids.len();
+    areas.commands[at + 17..end].copy_from_slice(ids);
     Ok(Replay { end, ..replay })
 }

@@ -109,7 +109,7 @@ impl Areas {
         ];
         self.lent[..16].fill(0);
         self.lent[32..USUAL].fill(0);
-        self.lent[..5].copy_from_slice(b"EDT\x00\x01");
+        self.lent[..5].copy_from_slice(b"EDT\x00\x02");
         put_numbers(&mut self.lent, &table, numbers);
         put_lists(&mut self.lent[..USUAL], stalled, evicted, pending)
     }

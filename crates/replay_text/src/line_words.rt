@@ -90,7 +90,7 @@ impl Call {
     {
         match self {
             Call::Area(AreaCall::Open) => b"844444",
-            Call::Area(AreaCall::Step) => b"1814xxx814114xxs",
+            Call::Area(AreaCall::Step) => b"1814xxx824114xxs",
             Call::Area(AreaCall::Ask) => b"1",
             Call::Map(MapCall::Fill) => b"44x",
             Call::Map(MapCall::Arrived | MapCall::Pruned) => b"41",
@@ -159,7 +159,7 @@ impl Head {
             Head::Areas => b"44",
             Head::Map | Head::Pairs | Head::LeftMap => b"x",
             Head::Answer => made.answer_shape(),
-            Head::Command => b"11284x",
+            Head::Command => b"12284x",
             Head::State => b"1p88844411xxx",
         }
     }

@@ -1,5 +1,5 @@
 // The numbers of a line, as wide as the exported entries take them. The shape of a line has bounded them, so that each fits.
-// `of_step` and `of_opening` name the order of a line. A generic function in place of `byte` and `half` would be given the greatest number at each call.
+// `of_step` and `of_opening` name the order of a line. A generic function in place of `byte`, `quarter` and `half` would be given the greatest number at each call.
 
 // The numbers of a step, in the order of its line.
 #[derive(Clone, Copy)]
@@ -9,7 +9,7 @@ pub struct Step {
     pub gate: u8,
     pub height: u32,
     pub peer: u64,
-    pub typeid: u8,
+    pub typeid: u16,
     pub fork: u32,
     pub parsed: u8,
     pub hastip: u8,
@@ -32,6 +32,11 @@ pub fn byte(n: u64) -> u8 {
     u8::try_from(n).unwrap_or(u8::MAX)
 }
 
+// A number of 16 bits.
+pub fn quarter(n: u64) -> u16 {
+    u16::try_from(n).unwrap_or(u16::MAX)
+}
+
 // A number of 32 bits.
 pub fn half(n: u64) -> u32 {
     u32::try_from(n).unwrap_or(u32::MAX)
@@ -45,7 +50,7 @@ pub fn of_step(numbers: &[u64; 17]) -> Step {
         gate: byte(numbers[2]),
         height: half(numbers[3]),
         peer: numbers[7],
-        typeid: byte(numbers[8]),
+        typeid: quarter(numbers[8]),
         fork: half(numbers[9]),
         parsed: byte(numbers[10]),
         hastip: byte(numbers[11]),

@@ -73,7 +73,7 @@ module _ {r : Run} (ready : Ready r) where
   ask_starts f fp hp =
       let w = asks_weight r.peer (pairs_in r.stored) r.pairs in
       let c = asks_count r.peer (pairs_in r.stored) r.pairs in
-      let q : asks_of r.peer (pairs_in r.stored) (pairs_at r.pairs r.places) ≡ asks r = rw ready.by_type (asks_of_places r.peer r.pairs (pairs_in r.stored)) in
+      let q : asks_of r.peer (pairs_in r.stored) (pairs_at r.pairs r.places) ≡ asks r = rw ready.by_type (asks_of_places r.peer r.pairs fp (pairs_in r.stored)) in
       let well = asks_well r.peer (pairs_in r.stored) r.pairs hp fp in
       record {
         i_le = omega arith;

@@ -15,7 +15,7 @@ use Rattle.order.proofs.NumberedLaws.{length_numbers, numbered_within}
 use Rattle.order.specs.Places.{key_below}
 use Rattle.request_announced.specs.Pairs.{Within, ids_at, places_by_type}
 use Rattle.request_announced.proofs.PlacesLaws.{ids_in_front}
-use Rattle.model.specs.Layout.{id_size, pair_size}
+use Rattle.model.specs.Layout.{id_size, pair_size, type_size}
 
 module _ (pairs : List ℕ) where
   pub all_within : All (Within pairs) (numbers_from 0 (length pairs / pair_size))
@@ -23,15 +23,15 @@ module _ (pairs : List ℕ) where
 
   places_within : All (Within pairs) (places_by_type pairs)
   unfolding places_by_type
-  places_within = all_sorted (key_below pair_size 0 1 pairs) (Within pairs) (numbers_from 0 (length pairs / pair_size)) all_within
+  places_within = all_sorted (key_below pair_size 0 type_size pairs) (Within pairs) (numbers_from 0 (length pairs / pair_size)) all_within
 
   length_places : length (places_by_type pairs) ≡ length pairs / pair_size
   unfolding places_by_type
-  length_places = length_sorted (key_below pair_size 0 1 pairs) (numbers_from 0 (length pairs / pair_size)) ∙ length_numbers 0 (length pairs / pair_size)
+  length_places = length_sorted (key_below pair_size 0 type_size pairs) (numbers_from 0 (length pairs / pair_size)) ∙ length_numbers 0 (length pairs / pair_size)
 
   -- places that were numbered, then sorted
   pub sorted_front : {numbers places : List ℕ} {n : ℕ} (rest : List ℕ) → n ≡ length pairs / pair_size → numbers ≡ numbers_from 0 n
-      → places ≡ sorted (key_below pair_size 0 1 pairs) (take (length pairs / pair_size) (numbers ++ rest)) → places ≡ places_by_type pairs
+      → places ≡ sorted (key_below pair_size 0 type_size pairs) (take (length pairs / pair_size) (numbers ++ rest)) → places ≡ places_by_type pairs
   unfolding places_by_type
   sorted_front {numbers} {places} {n} rest en e₁ e₂ =
       let l : length numbers ≡ length pairs / pair_size = ap length e₁ ∙ length_numbers 0 n ∙ en in

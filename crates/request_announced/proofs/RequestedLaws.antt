@@ -96,7 +96,7 @@ pub record Entered (g : Given) : Type 0 where
   pub rise : rising id_size (entries record_size g.count g.table) ≡ true
   pub table_bytes : Bytes g.table
   pub ids_bytes : Bytes g.ids
-  pub type_fits : g.typeid < 2 ^ 8
+  pub type_fits : g.typeid < 2 ^ 16
   pub peer_fits : g.peer < 2 ^ 64
 
 -- the answer, the table and the area are as this says

@@ -1,31 +1,36 @@
 -- Rule 3's filter: keys in tables as pending and stored ids, and one pass that keeps the wanted ids.
-use Prim.Native.Nat.{ℕ, suc, ◌+◌, ◌-◌, ◌*◌, ◌/◌, ◌≤◌, ◌<◌}
+use Prim.Native.Nat.{ℕ, suc, ◌+◌, ◌-◌, ◌*◌, ◌/◌, ◌^◌, ◌≤◌, ◌<◌}
 use mathlib.Core.Path.{◌≡◌, refl, sym, ap, ◌∙◌}
 use mathlib.Core.Bool.{Bool, true, false, not, ◌&&◌}
 use mathlib.Core.List.{List, [], ◌∷◌, ◌++◌, map}
 use native.Mathlib.Omega.{arith}
 use native.Mathlib.Numerals.{add-one}
 use lib.Dec.{eqb}
-use lib.ListN.{length, take, drop, get_or, length-drop, drop_of_length-le}
-use lib.Seq.{drop-cons, take_all}
+use lib.ListN.{length, take, drop, get_or, length-append, length-drop, take-append-drop, drop_of_length-le}
+use lib.Seq.{drop-cons, take_all, length-take-le}
+use Rattle.fields.specs.Facts.{All, Bytes}
+use Rattle.fields.specs.Number.{to_be}
 use Rattle.fields.specs.Order.{same}
 use Rattle.fields.specs.Filter.{kept, cons_if}
 use Rattle.fields.specs.Entries.{entries, joined, rising}
 use Rattle.fields.specs.Overwrite.{overwritten}
-use Rattle.fields.proofs.OrderLaws.{and_right}
-use Rattle.fields.proofs.OverwriteLaws.{overwritten_next, overwritten_nil, length_overwritten}
-use Rattle.fields.proofs.EntriesLaws.{Wide, entries_wide, length_joined}
+use Rattle.fields.proofs.NumberLaws.{bytes_take, to_be_bytes, from_be_to_be}
+use Rattle.fields.proofs.OrderLaws.{and_right, same_append, same_number}
+use Rattle.fields.proofs.OverwriteLaws.{overwritten_all, overwritten_next, overwritten_nil, length_overwritten}
+use Rattle.fields.proofs.EntriesLaws.{Wide, entries_wide, entries_bytes, length_joined}
 use Rattle.fields.proofs.FilterLaws.{length_kept}
 use Rattle.fields.proofs.AllLaws.{all_at, all_kept, all_drop}
 use Rattle.model.specs.Protocol.{Id, list_limit}
 use Rattle.model.specs.Delivery.{Request, is_pending}
 use Rattle.model.specs.Requests.{Pair, is_stored, wanted}
-use Rattle.model.specs.Lists.{pair_of, pairs_fit, pairs_in, list_fits}
+use Rattle.model.specs.Lists.{type_in, pair_of, pairs_fit, pairs_in, list_fits}
+use Rattle.model.specs.Calls.{pair_bytes}
+use Rattle.model.proofs.ListLaws.{length_pair}
 use Rattle.keys.specs.Find.{found}
 use Rattle.keys.specs.Keys.{has_key}
 use Rattle.keys.proofs.HasLaws.{found_has, gap_has}
 use Rattle.std.proofs.Common.{Result, Ok, Err, is_ok}
-use Rattle.model.specs.Layout.{id_size, pair_size}
+use Rattle.model.specs.Layout.{id_size, pair_size, type_size}
 
 -- ---- a search
 
@@ -39,29 +44,44 @@ found_says key es r = go (found key 0 es) refl
 
 -- ---- stored
 
-pair_same : (e : List ℕ) (type_id : ℕ) (id : List ℕ) → length e ≡ pair_size → length id ≡ id_size
-    → eqb (get_or e 0 0) type_id && same (drop 1 e) id ≡ same (take (suc (length id)) e) (type_id ∷ id)
-unfolding same
-pair_same [] type_id id l h = absurd (omega arith)
-pair_same (b ∷ e) type_id id l h = rw (take_all (length id) e (omega arith))
+-- a pair written into room for it
+pub pair_written : (type_id : ℕ) (id zero : List ℕ) {typed pair : List ℕ} → length id ≡ id_size → length zero ≡ pair_size
+    → typed ≡ overwritten 0 (to_be type_size type_id) zero → pair ≡ overwritten type_size id typed → pair ≡ pair_bytes type_id id
+pair_written type_id id zero l n w e =
+    e ∙ rw w (overwritten_next 0 (to_be type_size type_id) id zero (omega arith))
+    ∙ overwritten_all (pair_bytes type_id id) zero (length_pair type_id id l ∙ sym n)
 
-pub stored_key : (type_id : ℕ) (id : List ℕ) (es : List (List ℕ)) → length id ≡ id_size → Wide pair_size es
-    → is_stored (map pair_of es) type_id id ≡ has_key (type_id ∷ id) es
+pair_same : (e : List ℕ) (type_id : ℕ) (id : List ℕ) → type_id < 2 ^ 16 → length e ≡ pair_size → Bytes e → length id ≡ id_size
+    → eqb (type_in e) type_id && same (drop type_size e) id ≡ same (take (length (pair_bytes type_id id)) e) (pair_bytes type_id id)
+pair_same e type_id id t l f h =
+    let typed : List ℕ = to_be type_size type_id in
+    let two : length (take type_size e) ≡ type_size = length-take-le type_size e (omega arith) in
+    let n : length (pair_bytes type_id id) ≡ pair_size = length_pair type_id id h in
+    let types : same (take type_size e) typed ≡ eqb (type_in e) type_id =
+    same_number (take type_size e) typed two (bytes_take type_size e f) (to_be_bytes type_size type_id) ∙ ap (eqb (type_in e)) (from_be_to_be type_size type_id t) in
+    let whole : take (length (pair_bytes type_id id)) e ≡ take type_size e ++ drop type_size e =
+    ap (λ (k : ℕ). take k e) n ∙ take_all pair_size e (omega arith) ∙ sym (take-append-drop type_size e) in
+    ap (λ (b : Bool). b && same (drop type_size e) id) (sym types) ∙ sym (same_append (take type_size e) typed (drop type_size e) id two)
+    ∙ ap (λ (x : List ℕ). same x (pair_bytes type_id id)) (sym whole)
+
+pub stored_key : (type_id : ℕ) (id : List ℕ) (es : List (List ℕ)) → type_id < 2 ^ 16 → length id ≡ id_size → Wide pair_size es → All Bytes es
+    → is_stored (map pair_of es) type_id id ≡ has_key (pair_bytes type_id id) es
 unfolding is_stored pair_of
-stored_key type_id id [] l w = refl
-stored_key type_id id (e ∷ es) l w = rw (pair_same e type_id id w.0 l, stored_key type_id id es l w.1)
+stored_key type_id id [] t l w f = refl
+stored_key type_id id (e ∷ es) t l w f = rw (pair_same e type_id id t w.0 f.0 l, stored_key type_id id es t l w.1 f.1)
 
 module _ (stored : List ℕ) (fit : pairs_fit stored ≡ true) where
   pub pairs_rise : rising pair_size (entries pair_size (length stored / pair_size) stored) ≡ true
   unfolding pairs_fit
   pairs_rise = and_right (list_fits pair_size list_limit stored) (rising pair_size (entries pair_size (length stored / pair_size) stored)) fit
 
-  pub stored_as : (type_id : ℕ) (id : List ℕ) {key : List ℕ} → length id ≡ id_size → key ≡ type_id ∷ id
-      → has_key key (entries pair_size (length stored / pair_size) stored) ≡ is_stored (pairs_in stored) type_id id
+  pub stored_as : Bytes stored → (type_id : ℕ) (id : List ℕ) → type_id < 2 ^ 16 → length id ≡ id_size
+      → has_key (pair_bytes type_id id) (entries pair_size (length stored / pair_size) stored) ≡ is_stored (pairs_in stored) type_id id
   unfolding pairs_in
-  stored_as type_id id l e =
-      let wide : Wide pair_size (entries pair_size (length stored / pair_size) stored) = entries_wide pair_size (length stored / pair_size) stored (omega arith) in
-      rw e (sym (stored_key type_id id (entries pair_size (length stored / pair_size) stored) l wide))
+  stored_as f type_id id t l =
+      let n : ℕ = length stored / pair_size in
+      let wide : Wide pair_size (entries pair_size n stored) = entries_wide pair_size n stored (omega arith) in
+      sym (stored_key type_id id (entries pair_size n stored) t l wide (entries_bytes pair_size n stored f))
 
 -- ---- the pass
 

@@ -1,12 +1,14 @@
 -- Pairs of type and id, asked of one peer type by type.
-use Rattle.std.specs.Prelude.{ℕ, Bool, List, map, drop, get_or}
+use Rattle.std.specs.Prelude.{ℕ, Bool, List, map, drop}
 use Rattle.model.specs.Delivery.{Request}
 use Rattle.model.specs.Sections.{Item, Batch, adjacent, batches_of}
 use Rattle.model.specs.Requests.{Pair, Act, ask, Done, perform_all}
+use Rattle.model.specs.Lists.{type_in}
+use Rattle.model.specs.Layout.{type_size}
 
 -- a pair as an item to ask the peer for
 abbrev pub pair_item : ℕ → List ℕ → Item
-pair_item peer pair = record { id = drop 1 pair; type_id = get_or pair 0 0; peer = peer }
+pair_item peer pair = record { id = drop type_size pair; type_id = type_in pair; peer = peer }
 
 -- one ask a type, types rising, ids in their order: rule 4, and the ids of a lost peer
 unfoldable pub asks_by_type : ℕ → List Pair → List (List ℕ) → List Act

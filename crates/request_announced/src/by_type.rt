@@ -56,7 +56,7 @@ fn ask_each(
     Ok(done)
 }
 
-// One list a type through rule 3, types rising, ids in their order. `pairs` are type and id, 33 bytes each, in any order.
+// One list a type through rule 3, types rising, ids in their order. `pairs` are type and id, in any order.
 // With Full, what is left in the table and behind the place is of no use.
 pub fn request_by_type(
     table: &mut [u8],

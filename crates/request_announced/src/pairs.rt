@@ -11,7 +11,7 @@ ghost use Rattle.request_announced.specs.Pairs.{Within, pairs_at, ids_at, type_a
 ghost use Rattle.model.specs.Layout.{id_size, pair_list_size, pair_size};
 ghost use Rattle.model.specs.Protocol.{tracked_limit};
 
-use model::layout::{PAIR_SIZE, TRACKED_LIMIT};
+use model::layout::{PAIR_SIZE, TRACKED_LIMIT, TYPE_SIZE};
 use order::SortKey;
 
 // The places of all pairs, types rising; within a type in the order of the pairs.
@@ -27,19 +27,19 @@ pub fn places_by_type(pairs: &[u8]) -> [u16; TRACKED_LIMIT]
         table: pairs,
         width: PAIR_SIZE,
         at: 0,
-        size: 1,
+        size: TYPE_SIZE,
     };
     order::sort(types, &mut places[..number], &mut spare[..number]);
     places
 }
 
 // The type of the pair at a place.
-pub fn type_at(pairs: &[u8], place: u16) -> u8
+pub fn type_at(pairs: &[u8], place: u16) -> u16
     requires { Within pairs.now place }
     ensures { result ≡ type_at pairs.now place }
 {
     let at = usize::from(place) * PAIR_SIZE;
-    pairs[at]
+    fields::read_u16(pairs, at)
 }
 
 // Where the run of one type that starts at `first` ends.
@@ -64,5 +64,5 @@ pub fn put_ids(pairs: &[u8], places: &[u16], ids: &mut [u8])
     requires room { length places.now * id_size ≤ length ids.old }
     ensures { ids.new ≡ overwritten 0 (joined (ids_at pairs.now places.now)) ids.old }
 {
-    order::gathering::gather(pairs, PAIR_SIZE, 1, places, ids);
+    order::gathering::gather(pairs, PAIR_SIZE, TYPE_SIZE, places, ids);
 }

@@ -32,7 +32,7 @@ pub fn request_announced(
     most: usize,
     gate: bool,
     clock: u64,
-    typeid: u8,
+    typeid: u16,
     peer: u64,
     stored: Pairs,
     ids: &[u8],

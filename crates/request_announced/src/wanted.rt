@@ -8,14 +8,15 @@ ghost use Rattle.fields.specs.Entries.{entries, joined, rising};
 ghost use Rattle.fields.specs.Overwrite.{overwritten};
 ghost use Rattle.model.specs.Delivery.{is_pending};
 ghost use Rattle.model.specs.Requests as model;
-ghost use Rattle.model.specs.Lists.{ids_in, pairs_in};
+ghost use Rattle.model.specs.Lists.{ids_in, pairs_in, pairs_fit};
+ghost use Rattle.model.specs.Calls.{pair_bytes};
 ghost use Rattle.commands.specs.Pending.{requests_in};
 ghost use Rattle.keys.specs.Keys.{has_key};
 ghost use Rattle.model.specs.Layout.{id_size, record_size};
 
 use keys::Entries;
 use lists::pairs::Pairs;
-use model::layout::{ID_SIZE, PAIR_SIZE, RECORD_SIZE};
+use model::layout::{ID_SIZE, PAIR_SIZE, RECORD_SIZE, TYPE_SIZE};
 
 // Whether an entry starts with the key.
 fn has_key(table: Entries, key: &[u8]) -> bool
@@ -24,6 +25,29 @@ fn has_key(table: Entries, key: &[u8]) -> bool
     ensures { result ≡ has_key key.now (entries table.entry.width table.entry.count table.entry.bytes.now) }
 {
     keys::find::find(table, key).is_ok()
+}
+
+// A pair as bytes.
+fn pair_of(typeid: u16, id: &[u8; ID_SIZE]) -> [u8; PAIR_SIZE]
+    ensures { result ≡ pair_bytes typeid id.now }
+{
+    let mut pair = [0u8; PAIR_SIZE];
+    fields::write_u16(&mut pair, 0, typeid);
+    spans::moving::overwrite(&mut pair, TYPE_SIZE, id);
+    pair
+}
+
+// Whether the pair of a type and an id is stored. On a slice and not on `Pairs`: that its bytes are bytes counts here.
+fn is_stored(stored: &[u8], typeid: u16, id: &[u8; ID_SIZE]) -> bool
+    requires { pairs_fit stored.now ≡ true }
+    ensures { result ≡ model.is_stored (pairs_in stored.now) typeid id.now }
+{
+    let pairs = Entries {
+        bytes: stored,
+        width: PAIR_SIZE,
+        count: stored.len() / PAIR_SIZE,
+    };
+    has_key(pairs, &pair_of(typeid, id))
 }
 
 // What is not asked for: the pending requests, and the stored pairs.
@@ -49,29 +73,14 @@ impl Known<'_> {
         has_key(records, id)
     }
 
-    // Whether the pair of a type and an id is stored.
-    fn is_stored(self, typeid: u8, id: &[u8; ID_SIZE]) -> bool
-        ensures { result ≡ model.is_stored (pairs_in self.entry.stored.bytes.now) typeid id.now }
-    {
-        let mut key = [0u8; PAIR_SIZE];
-        key[0] = typeid;
-        key[1..].copy_from_slice(id);
-        let pairs = Entries {
-            bytes: self.stored.bytes,
-            width: PAIR_SIZE,
-            count: self.stored.bytes.len() / PAIR_SIZE,
-        };
-        has_key(pairs, &key)
-    }
-
     // Whether an id is neither pending nor stored.
-    fn is_wanted(self, typeid: u8, id: &[u8; ID_SIZE]) -> bool
+    fn is_wanted(self, typeid: u16, id: &[u8; ID_SIZE]) -> bool
         ensures { result ≡ not (is_pending id.now (requests_in self.entry.count self.entry.table.now)) && not (model.is_stored (pairs_in self.entry.stored.bytes.now) typeid id.now) }
     {
         if self.is_pending(id) {
             return false;
         }
-        !self.is_stored(typeid, id)
+        !is_stored(self.stored.bytes, typeid, id)
     }
 }
 
@@ -80,7 +89,7 @@ pub fn wanted(
     table: &[u8],
     count: usize,
     stored: Pairs,
-    typeid: u8,
+    typeid: u16,
     ids: &[u8],
     rest: &mut [u8],
 ) -> usize

@@ -36,7 +36,7 @@ use Rattle.commands.specs.declared.place.Place.{Place}
 use Rattle.commands.proofs.RunLaws.{take_ids, drop_ids}
 use Rattle.commands.proofs.SentLaws.{sent_none, behind_none, sent_again, behind_again}
 use Rattle.commands.specs.Pending.{Stands}
-use Rattle.retries.specs.Items.{item_of, Asked, item_at, items_at, alike, span}
+use Rattle.retries.specs.Items.{item_of, item_at, items_at, alike, span}
 use Rattle.commands.proofs.RecordedLaws.{entry_bytes}
 use Rattle.retries.proofs.ItemLaws.{span_le}
 use Rattle.retries.specs.Retried.{ids_at, sendings_of}
@@ -166,23 +166,20 @@ all_ids es w =
 -- ---- the records at the places
 
 module _ (t : List ℕ) where
-  pub within : (places : List ℕ) → All (Asked t) places → All (Stands t) places
-  within = all_weaker (Asked t) (Stands t) (λ place h. h.0)
-
   -- a record begins with its id
   ids_taken : (places : List ℕ) → gathered record_size 0 t places ≡ ids_at t places
   unfolding item_at item_of request_of
   ids_taken places = refl
 
-  pub ids_wide : (places : List ℕ) → All (Asked t) places → Wide id_size (ids_at t places)
-  ids_wide places w = subst (Wide id_size) (ids_taken places) (gathered_wide record_size 0 t (omega arith) places (within places w))
+  pub ids_wide : (places : List ℕ) → All (Stands t) places → Wide id_size (ids_at t places)
+  ids_wide places w = subst (Wide id_size) (ids_taken places) (gathered_wide record_size 0 t (omega arith) places w)
 
-  pub length_ids : (places : List ℕ) → All (Asked t) places → length (joined (ids_at t places)) ≡ length places * id_size
-  length_ids places w = rw (ids_taken places) at (length_gathered record_size 0 t (omega arith) places (within places w))
+  pub length_ids : (places : List ℕ) → All (Stands t) places → length (joined (ids_at t places)) ≡ length places * id_size
+  length_ids places w = rw (ids_taken places) at (length_gathered record_size 0 t (omega arith) places w)
 
-  ids_in_front : (places d : List ℕ) {ids : List ℕ} → All (Asked t) places
+  ids_in_front : (places d : List ℕ) {ids : List ℕ} → All (Stands t) places
       → ids ≡ overwritten 0 (joined (gathered record_size 0 t places)) d → take (length places * id_size) ids ≡ joined (ids_at t places)
-  ids_in_front places d {ids} w e = gathered_front record_size 0 t (omega arith) places d ids (within places w) e ∙ ap joined (ids_taken places)
+  ids_in_front places d {ids} w e = gathered_front record_size 0 t (omega arith) places d ids w e ∙ ap joined (ids_taken places)
 
   ids_of_items : (places : List ℕ) → map (λ (i : Item). i.id) (items_at t places) ≡ ids_at t places
   ids_of_items [] = refl
@@ -192,7 +189,7 @@ module _ (t : List ℕ) where
   next_item places i h = drop_map (item_at t) i places ∙ next_mapped (item_at t) places i h
 
   -- the ids of the batch that starts at item i, by their bytes
-  pub batch_ids : (places : List ℕ) {ids : List ℕ} (i : ℕ) {k : ℕ} {x : Item} {xs : List Item} → All (Asked t) places → ids ≡ joined (ids_at t places)
+  pub batch_ids : (places : List ℕ) {ids : List ℕ} (i : ℕ) {k : ℕ} {x : Item} {xs : List Item} → All (Stands t) places → ids ≡ joined (ids_at t places)
       → drop i (items_at t places) ≡ x ∷ xs → k ≡ suc (span (alike x) xs) → ids_in (take (k * id_size) (drop (i * id_size) ids)) ≡ ids_with x xs
   batch_ids places {ids} i {k} {x} {xs} w e here ek =
       let id-of : Item → Id = λ (j : Item). j.id in
@@ -221,15 +218,15 @@ module _ (t : List ℕ) (f : Bytes t) where
   part_bytes at width place =
       bytes_take width (drop at (entry record_size place t)) (bytes_drop at (entry record_size place t) (entry_bytes record_size place t f))
 
-  keys_agree : (p q : ℕ) → Asked t p → Asked t q → key_below record_size 32 10 t p q ≡ item_below (item_at t p) (item_at t q)
+  keys_agree : (p q : ℕ) → Stands t p → Stands t q → key_below record_size 32 10 t p q ≡ item_below (item_at t p) (item_at t q)
   unfolding key_below item_below item_at item_of request_of
   keys_agree p q hp hq =
       let a : List ℕ = take 8 (drop id_size (entry record_size p t)) in
       let b : List ℕ = take 8 (drop id_size (entry record_size q t)) in
       let u : List ℕ = take 2 (drop 40 (entry record_size p t)) in
       let v : List ℕ = take 2 (drop 40 (entry record_size q t)) in
-      let lp : length (entry record_size p t) ≡ record_size = length_entry record_size p t hp.0 in
-      let lq : length (entry record_size q t) ≡ record_size = length_entry record_size q t hq.0 in
+      let lp : length (entry record_size p t) ≡ record_size = length_entry record_size p t hp in
+      let lq : length (entry record_size q t) ≡ record_size = length_entry record_size q t hq in
       let la : length a ≡ 8 = length_part 32 8 (entry record_size p t) (omega arith) in
       let lb : length b ≡ 8 = length_part 32 8 (entry record_size q t) (omega arith) in
       let lu : length u ≡ 2 = length_part 40 2 (entry record_size p t) (omega arith) in
@@ -237,34 +234,31 @@ module _ (t : List ℕ) (f : Bytes t) where
       let peer-before = before_number a b (omega arith) (part_bytes 32 8 p) (part_bytes 32 8 q) in
       let peer-same = same_number a b (omega arith) (part_bytes 32 8 p) (part_bytes 32 8 q) in
       let type-before = before_number u v (omega arith) (part_bytes 40 2 p) (part_bytes 40 2 q) in
-      rw (key_is p hp.0, key_is q hq.0) (before_append a b u v (omega arith) ∙ rw (peer-before, peer-same, type-before))
+      rw (key_is p hp, key_is q hq) (before_append a b u v (omega arith) ∙ rw (peer-before, peer-same, type-before))
 
-  well_item : (place : ℕ) → Asked t place → WellItem (item_at t place)
+  well_item : (place : ℕ) → Stands t place → WellItem (item_at t place)
   unfolding item_at item_of request_of
   well_item place h =
       let e : List ℕ = entry record_size place t in
-      let l : length e ≡ record_size = length_entry record_size place t h.0 in
+      let l : length e ≡ record_size = length_entry record_size place t h in
       let b : Bytes e = entry_bytes record_size place t f in
       record {
         id = record { long = length_part 0 32 e (omega arith); bytes = bytes_take id_size e b };
-        type_id = h.1;
+        type_id = part_below 40 2 e (omega arith) b;
         peer = part_below 32 8 e (omega arith) b;
       }
 
 -- The places sorted, by the ten bytes behind their ids.
 pub record Sorting (t places sorted_places : List ℕ) : Type 0 where
   pub bytes : Bytes t
-  pub asked : All (Asked t) places
+  pub asked : All (Stands t) places
   pub order : sorted_places ≡ sorted (key_below record_size 32 10 t) places
 
 -- ---- as the model's batches of them
 
 module _ {t places now' : List ℕ} (s : Sorting t places now') where
-  pub sorted_asked : All (Asked t) now'
-  sorted_asked = rw s.order (all_sorted (key_below record_size 32 10 t) (Asked t) places s.asked)
-
-  pub sorted_within : All (Stands t) now'
-  sorted_within = within t now' sorted_asked
+  pub sorted_asked : All (Stands t) now'
+  sorted_asked = rw s.order (all_sorted (key_below record_size 32 10 t) (Stands t) places s.asked)
 
   pub sorted_length : length now' ≡ length places
   sorted_length = ap length s.order ∙ length_sorted (key_below record_size 32 10 t) places
@@ -275,12 +269,12 @@ module _ {t places now' : List ℕ} (s : Sorting t places now') where
 
   pub sorted_sendings : sendings_of (items_at t now') ≡ retry_sendings (items_at t places)
   unfolding sendings_of retry_sendings batches_of
-  sorted_sendings = rw (s.order, map_sorted (key_below record_size 32 10 t) item_below (item_at t) (Asked t) (keys_agree t s.bytes) places s.asked)
+  sorted_sendings = rw (s.order, map_sorted (key_below record_size 32 10 t) item_below (item_at t) (Stands t) (keys_agree t s.bytes) places s.asked)
 
   pub sorted_room : (batch : ℕ) → length (sent_bytes batch (sendings_of (items_at t now'))) ≤ length places * command_size
   unfolding sent_bytes
   sorted_room batch =
-      let well : All WellItem (items_at t places) = all_map (Asked t) WellItem (item_at t) (well_item t s.bytes) places s.asked in
+      let well : All WellItem (items_at t places) = all_map (Stands t) WellItem (item_at t) (well_item t s.bytes) places s.asked in
       let a = sendings_bytes batch (retry_sendings (items_at t places)) (retries_sent_well (items_at t places) well) in
       let b = retries_weight (items_at t places) in
       let c : length (items_at t places) ≡ length places = length-map places (item_at t) in

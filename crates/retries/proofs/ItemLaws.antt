@@ -8,12 +8,10 @@ use lib.Dec.{eqb}
 use lib.ListN.{length, take, drop, get_or}
 use Rattle.fields.specs.Facts.{All}
 use Rattle.fields.specs.Number.{from_be}
-use Rattle.fields.specs.Entries.{entry}
-use Rattle.fields.proofs.AllLaws.{all_at}
 use Rattle.model.specs.Sections.{Item}
-use Rattle.model.specs.Image.{request_of}
+use Rattle.commands.specs.Pending.{Stands}
 use Rattle.commands.proofs.RecordedLaws.{peer_read, type_read}
-use Rattle.retries.specs.Items.{Asked, item_of, item_at, items_at, alike, span}
+use Rattle.retries.specs.Items.{item_of, item_at, items_at, alike, span}
 use Rattle.retries.specs.Batches.{batch_at}
 use Rattle.model.specs.Layout.{id_size, record_size}
 
@@ -58,17 +56,11 @@ alike_from t places first j = span (alike (item_at t (get_or places first 0))) (
 
 -- The place at which a batch starts, and what the places ask of the table.
 pub record First (t places : List ℕ) (first : ℕ) : Type 0 where
-  pub asked : All (Asked t) places
+  pub asked : All (Stands t) places
   pub inside : first < length places
 
 module _ {t places : List ℕ} {first : ℕ} (s : First t places first) where
   module _ {place : ℕ} (e : place ≡ get_or places first 0) where
-    -- a type of one byte
-    pub type_small : {typeid : ℕ} → typeid ≡ from_be (take 2 (drop (place * record_size + 40) t)) → typeid < 256
-    type_small {typeid} b =
-        let read : typeid ≡ (request_of (entry record_size (get_or places first 0) t)).type_id = b ∙ rw e (type_read (get_or places first 0) t) in
-        omega (arith, read, (all_at (Asked t) places first 0 s.inside s.asked).1)
-
     pub batch_as : {target typeid end : ℕ} → target ≡ from_be (take 8 (drop (place * record_size + id_size) t))
         → typeid ≡ from_be (take 2 (drop (place * record_size + 40) t)) → end ≡ first + suc (alike_from t places first (first + 1))
         → record { target = target; typeid = typeid; first = first; count = end - first } ≡ batch_at t places first

@@ -3,20 +3,14 @@ use Prim.Native.Nat.{ℕ}
 use mathlib.Core.Path.{◌≡◌, refl, sym}
 use mathlib.Core.Bool.{Bool, true, false, cond}
 use mathlib.Core.List.{List, [], ◌∷◌}
-use Rattle.fields.specs.Facts.{All}
 use Rattle.model.specs.Sections.{Item, batches_of}
 use Rattle.model.specs.Requests.{Sending}
 use Rattle.model.specs.Check.{retry_sendings}
 use Rattle.commands.specs.Sent.{sent_at, behind}
 use Rattle.commands.specs.declared.place.Place.{Place}
 use Rattle.commands.proofs.SentLaws.{sent_none, behind_none}
-use Rattle.commands.specs.Pending.{Stands}
-use Rattle.retries.specs.Items.{Narrow, Asked, item_at, items_at}
+use Rattle.retries.specs.Items.{item_at, items_at}
 use Rattle.retries.specs.Retried.{sent_of}
-
-pub asked_both : (t places : List ℕ) → All (Stands t) places → All (Narrow t) places → All (Asked t) places
-asked_both t [] a b = tt
-asked_both t (place ∷ places) a b = ((a.0, b.0), asked_both t places a.1 b.1)
 
 -- what is written and answered where nothing is sent
 pub nothing_sent : (place : Place) (out : List ℕ) {sendings : List Sending} → sendings ≡ []

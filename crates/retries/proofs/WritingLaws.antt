@@ -20,7 +20,8 @@ use Rattle.model.specs.Lists.{ids_in}
 use Rattle.commands.specs.Sent.{sent_bytes, sent_at, behind}
 use Rattle.commands.specs.declared.place.Place.{Place}
 use Rattle.commands.proofs.SentLaws.{sent_one}
-use Rattle.retries.specs.Items.{Asked, item_at, items_at, alike, span}
+use Rattle.commands.specs.Pending.{Stands}
+use Rattle.retries.specs.Items.{item_at, items_at, alike, span}
 use Rattle.retries.specs.Batches.{batch_at, batches_from, batches_in}
 use Rattle.retries.specs.declared.batches.Batch as declared
 use Rattle.retries.proofs.FillLaws.{batches_next, batches_end}
@@ -44,7 +45,7 @@ next_place next at = record { at = at; batch = next.batch + 1 }
 
 -- What stays the same: places of records, their ids, and room for all their requests.
 pub record Asking (t places ids : List ℕ) (place : Place) (d : List ℕ) : Type 0 where
-  pub asked : All (Asked t) places
+  pub asked : All (Stands t) places
   pub gathered : ids ≡ joined (ids_at t places)
   pub few : length places ≤ tracked_limit
   pub room : (behind place (sendings_of (items_at t places))).at ≤ length d

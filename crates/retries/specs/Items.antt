@@ -1,19 +1,10 @@
 -- Records at some places of a table as items to ask for, and which of them go together.
-use Rattle.std.specs.Prelude.{ℕ, suc, ◌<◌, Bool, cond, ◌&&◌, List, [], ◌∷◌, map, eqb}
+use Rattle.std.specs.Prelude.{ℕ, suc, Bool, cond, ◌&&◌, List, [], ◌∷◌, map, eqb}
 use Rattle.fields.specs.Entries.{entry}
 use Rattle.model.specs.Delivery.{Request}
 use Rattle.model.specs.Image.{request_of}
 use Rattle.model.specs.Sections.{Item}
-use Rattle.commands.specs.Pending.{Stands}
 use Rattle.model.specs.Layout.{record_size}
-
--- its type has one byte
-abbrev pub Narrow : List ℕ → ℕ → Type 0
-Narrow table place = (request_of (entry record_size place table)).type_id < 256
-
--- both
-abbrev pub Asked : List ℕ → ℕ → Type 0
-Asked table place = Stands table place × Narrow table place
 
 -- a pending request as an item to ask its peer for
 unfoldable pub item_of : Request → Item

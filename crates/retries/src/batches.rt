@@ -7,7 +7,7 @@
 ghost use Rattle.std.specs.Prelude.{◌≡◌, suc, ◌+◌, ◌*◌, ◌≤◌, ◌<◌, length, drop, get_or};
 ghost use Rattle.fields.specs.Facts.{All};
 ghost use Rattle.commands.specs.Pending.{Stands};
-ghost use Rattle.retries.specs.Items.{Asked, item_at, items_at, alike, span};
+ghost use Rattle.retries.specs.Items.{item_at, items_at, alike, span};
 ghost use Rattle.retries.specs.Batches.{batch_at, batches_in, filled_with};
 ghost use Rattle.model.specs.Layout.{record_size};
 ghost use Rattle.model.specs.Protocol.{tracked_limit};
@@ -18,7 +18,7 @@ use model::layout::{PEER_AT, RECORD_SIZE, TYPE_AT};
 #[derive(Clone, Copy)]
 pub struct Batch {
     pub target: u64,
-    pub typeid: u8,
+    pub typeid: u16,
     pub first: usize,
     pub count: usize,
 }
@@ -44,7 +44,7 @@ fn same_batch(table: &[u8], one: u16, other: u16) -> bool
 
 // Where the batch that starts at `first` ends.
 fn batch_end(table: &[u8], places: &[u16], first: usize) -> usize
-    requires { All (Asked table.now) places.now × (first < length places.now) }
+    requires { All (Stands table.now) places.now × (first < length places.now) }
     ensures { result ≡ first + suc (span (alike (item_at table.now (get_or places.now first 0))) (items_at table.now (drop (first + 1) places.now))) }
 {
     for end in first + 1..places.len() {
@@ -57,14 +57,14 @@ fn batch_end(table: &[u8], places: &[u16], first: usize) -> usize
 
 // The grouping rule: the batch that starts at `first`.
 pub fn next_batch(table: &[u8], places: &[u16], first: usize) -> Batch
-    requires { All (Asked table.now) places.now × (first < length places.now) }
+    requires { All (Stands table.now) places.now × (first < length places.now) }
     ensures { result ≡ batch_at table.now places.now first }
 {
     let end = batch_end(table, places, first);
     let at = usize::from(places[first]) * RECORD_SIZE;
     Batch {
         target: fields::read_u64(table, at + PEER_AT),
-        typeid: fields::read_u16(table, at + TYPE_AT) as u8,
+        typeid: fields::read_u16(table, at + TYPE_AT),
         first,
         count: end - first,
     }
@@ -72,7 +72,7 @@ pub fn next_batch(table: &[u8], places: &[u16], first: usize) -> Batch
 
 // The writer: the batches of all places from the list's start on, and how many they are.
 pub fn fill(batches: &mut [Batch], table: &[u8], places: &[u16]) -> usize
-    requires { All (Asked table.now) places.now × (length places.now ≤ length batches.old) }
+    requires { All (Stands table.now) places.now × (length places.now ≤ length batches.old) }
     ensures { (batches.new ≡ filled_with (batches_in table.now places.now) batches.old)
         × ((result ≡ length (batches_in table.now places.now)) × (result ≤ length places.now)) }
 {
@@ -90,7 +90,7 @@ pub fn fill(batches: &mut [Batch], table: &[u8], places: &[u16]) -> usize
 
 // The same for a list by value: it is lent for the call. The project keeps both forms, lent and by value.
 pub fn grouped(list: [Batch; 1024], table: &[u8], places: &[u16]) -> Batches
-    requires { All (Asked table.now) places.now × (length places.now ≤ tracked_limit) }
+    requires { All (Stands table.now) places.now × (length places.now ≤ tracked_limit) }
     ensures { (result.list ≡ filled_with (batches_in table.now places.now) list)
         × ((result.count ≡ length (batches_in table.now places.now)) × (result.count ≤ length places.now)) }
 {

@@ -15,7 +15,7 @@ ghost use Rattle.fields.specs.Entries.{joined};
 ghost use Rattle.model.specs.Check.{retry_sendings};
 ghost use Rattle.commands.specs.Pending.{Stands};
 ghost use Rattle.commands.specs.Sent.{sent_bytes, sent_at, behind};
-ghost use Rattle.retries.specs.Items.{Narrow, Asked, items_at};
+ghost use Rattle.retries.specs.Items.{items_at};
 ghost use Rattle.retries.specs.Retried.{ids_at, sendings_of, sent_of};
 ghost use Rattle.model.specs.Layout.{command_size, most_batches};
 ghost use Rattle.model.specs.Protocol.{tracked_limit};
@@ -38,7 +38,7 @@ fn no_batches() -> [Batch; 1024] {
 
 // Requests for the records at `places`, neighbours of one target and type as one batch; `ids` are theirs.
 fn put_batches(table: &[u8], places: &[u16], ids: &[u8], out: &mut [u8], place: Place) -> Place
-    requires all { All (Asked table.now) places.now × ((ids.now ≡ joined (ids_at table.now places.now)) × (length places.now ≤ tracked_limit)) }
+    requires all { All (Stands table.now) places.now × ((ids.now ≡ joined (ids_at table.now places.now)) × (length places.now ≤ tracked_limit)) }
     requires places_in_bounds { (place.at + length (sent_bytes place.batch (sendings_of (items_at table.now places.now))) ≤ length out.old) × (place.batch + length places.now < 65536) }
     ensures out_after { out.new ≡ sent_at place (sendings_of (items_at table.now places.now)) out.old }
     ensures value { result ≡ behind place (sendings_of (items_at table.now places.now)) }
@@ -66,7 +66,7 @@ fn put_batches(table: &[u8], places: &[u16], ids: &[u8], out: &mut [u8], place: 
 
 // Requests for the records at `places`, each from the peer that it names, as batches by target, then type.
 fn put_retries(table: &[u8], places: &mut [u16], out: &mut [u8], place: Place) -> Place
-    requires all { All (Asked table.now) places.old }
+    requires all { All (Stands table.now) places.old }
     requires places_len_bound { (length places.old ≤ tracked_limit) × ((place.at + length places.old * command_size ≤ length out.old) × (place.batch + most_batches < 65536)) }
     ensures out_after { out.new ≡ sent_at place (retry_sendings (items_at table.now places.old)) out.old }
     ensures value { result ≡ behind place (retry_sendings (items_at table.now places.old)) }
@@ -94,7 +94,6 @@ pub fn send_retries(
     place: Place,
 ) -> Place
     requires all { All (Stands table.now) places.old }
-    requires all_2 { All (Narrow table.now) places.old }
     requires room { (length places.old ≤ tracked_limit) × ((place.at + length places.old * command_size ≤ length out.old) × (place.batch + most_batches < 65536)) }
     ensures out_after { out.new ≡ sent_at place (sent_of gate table.now places.old) out.old }
     ensures value { result ≡ behind place (sent_of gate table.now places.old) }

@@ -67,7 +67,7 @@ impl Settings {
     pub fn most_requests(self, typeid: u16) -> u32
         ensures { result ≡ model.most_requests (settings_of self) typeid }
     {
-        if typeid == model::TRANSACTION {
+        if typeid == model::TRANSACTION_TYPE_ID {
             return 1;
         }
         self.checks.max(1)

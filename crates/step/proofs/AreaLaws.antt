@@ -19,7 +19,8 @@ use Rattle.model.specs.Image.{encode, decode, pending_of, evicted_of, pending_co
 use Rattle.model.proofs.Well.{Well}
 use Rattle.model.proofs.FormedLaws.{formed}
 use Rattle.model.proofs.ImageLaws.{Sized, well_sized, stalled_bytes, stalled_free, from_pending, length_stalled, stalled_end_lem, drop_to_stalled, drop_to_region}
-use Rattle.model.proofs.RoundLaws.{decode_well, encode_decode}
+use Rattle.model.proofs.RoundLaws.{decode_well}
+use Rattle.model.proofs.VersionLaws.{encode_behind}
 use Rattle.image.specs.Heads.{head_in}
 use Rattle.image.proofs.HeadLaws.{head_decode}
 use Rattle.commands.specs.Pending.{requests_in}
@@ -44,12 +45,13 @@ module _ (area : List ℕ) (l : length area ≡ area_size) (f : Bytes area) (ok 
   pub area_sized : Sized state
   area_sized = well_sized state area_well
 
-  pub area_encode : encode state ≡ area
-  area_encode = encode_decode area l f ok
+  -- behind the version, which a finished step writes anew
+  pub area_encode : (at : ℕ) → 5 ≤ at → drop at area ≡ drop at (encode state)
+  area_encode at h = encode_behind area l f ok at h
 
   pub region_held : drop region_at area ≡ region_of state.pending state.sync.evicted
   unfolding region_of
-  region_held = ap (drop region_at) (sym area_encode) ∙ drop_to_region state area_sized
+  region_held = area_encode region_at (omega arith) ∙ drop_to_region state area_sized
 
   pub places_held : take 2048 (drop 512 area) ≡ places_of state.sync.stalled_peers
   unfolding places_of
@@ -58,7 +60,7 @@ module _ (area : List ℕ) (l : length area ≡ area_size) (f : Bytes area) (ok 
       let n : length places ≡ 2048 =
       rw (length-append (stalled_bytes state), length_stalled state area_sized, length_zeros (stalled_free state)) (omega (arith, stalled_end_lem state area_sized)) in
       let d : drop 512 area ≡ places ++ from_pending state =
-      ap (drop 512) (sym area_encode) ∙ drop_to_stalled state area_sized ∙ sym (append_assoc (stalled_bytes state) (zeros (stalled_free state)) (from_pending state)) in
+      area_encode 512 (omega arith) ∙ drop_to_stalled state area_sized ∙ sym (append_assoc (stalled_bytes state) (zeros (stalled_free state)) (from_pending state)) in
       ap (take 2048) d ∙ take_at places (from_pending state) 2048 n
 
   evicted_held : state.sync.evicted ≡ evicted_in (head_in area).evicted (drop region_at area)
@@ -93,7 +95,6 @@ module _ (area : List ℕ) (l : length area ≡ area_size) (f : Bytes area) (ok 
         held = region_held ∙ ap (region_of rs) evicted_held;
         few = (formed area ok).tracked;
         order = (formed area ok).ids_rise;
-        narrow = (formed area ok).narrow;
         checks =
             all_weaker _ (λ (r : Request). r.checks + 1 < 2 ^ 32)
             (λ r h.

@@ -16,6 +16,7 @@ use Rattle.std.proofs.Common as program
 use Rattle.commands.specs.Sent.{sent_bytes, sent_at, behind}
 use Rattle.commands.specs.declared.place.Place.{Place}
 use Rattle.step.specs.Finished.{said}
+use Rattle.model.specs.Layout.{command_header}
 
 no_ids : (bytes : List ℕ) → length bytes < 1 → ids_in bytes ≡ []
 unfolding ids_in
@@ -34,17 +35,17 @@ module _ (says : program.Option ℕ) (place : Place) (out : List ℕ) where
 
   pub said_to_lem : (ids : List ℕ) {out' : List ℕ} {peer end : ℕ} → says ≡ Some peer → length ids ≡ 0
       → out' ≡ overwritten place.at (command_bytes (record { kind = 3; type_id = 0; batch = place.batch; peer = peer; ids = ids_in ids })) out
-      → end ≡ place.at + 16 + length ids
+      → end ≡ place.at + command_header + length ids
       → Said out' end
   unfolding sent_bytes command_bytes
   said_to_lem ids e h w n =
       let i : ids_in ids ≡ [] = no_ids ids (omega arith) in
       rw e (rw i at w, omega arith)
 
-pub said_short : (batch : ℕ) (peer : Option ℕ) → length (sent_bytes batch (said peer)) ≤ 16
+pub said_short : (batch : ℕ) (peer : Option ℕ) → length (sent_bytes batch (said peer)) ≤ command_header
 unfolding sent_bytes command_bytes
 said_short batch none = omega arith
 said_short batch (some peer) = omega arith
 
-pub said_end : (place : Place) (end : ℕ) (peer : Option ℕ) → end ≡ (behind place (said peer)).at → end ≤ place.at + 16
+pub said_end : (place : Place) (end : ℕ) (peer : Option ℕ) → end ≡ (behind place (said peer)).at → end ≤ place.at + command_header
 said_end place end peer e = omega (arith, said_short place.batch peer)

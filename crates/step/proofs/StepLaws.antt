@@ -215,7 +215,7 @@ module _ (area commands : List ℕ) (c : calls.Call) (p : Plan) (g : given_refus
               rw (carried_pending old c p f, carried_evicted old c p f) in
               let e₁ : take 438 (drop 74 image) ≡ take 438 (drop 74 (encode old)) =
               part_same 74 438 region_at image area (omega arith) front
-              ∙ ap (λ (x : List ℕ). take 438 (drop 74 x)) (sym (area_encode area given_facts.state_size bytes given_facts.image)) in
+              ∙ ap (take 438) (area_encode area given_facts.state_size bytes given_facts.image 74 (omega arith)) in
               ap (λ (x : Head). completed x (places_of (stalled_then p.stalling old.sync.stalled_peers)) image) h
               ∙ ap (λ (x : List ℕ). completed (head_of new) (places_of x) image) s
               ∙ completed_encode old new (well_sized old well) (well_sized new (step_well old c well width not_refused_call)) image e₁ (back ∙ r)

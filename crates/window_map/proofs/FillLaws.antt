@@ -21,7 +21,7 @@ use Rattle.model.specs.Layout.{place_size, row_size}
 use Rattle.model.specs.Sections.{Section, View}
 use Rattle.model.specs.Lists.{section_of, header_of, flags_fit, used_places, row_fits, rows_fit, first_height, row_count, view_fits, view_of}
 use Rattle.model.specs.WindowMap.{bits, flags_in, cell_byte, cell_at, cells_behind, is_there, shows}
-use Rattle.model.specs.MapBytes.{row_byte}
+use Rattle.model.specs.MapBytes.{row_flags, row_byte}
 use Rattle.model.proofs.ArgumentLaws.{row_fits_lem}
 use Rattle.model.proofs.MapLaws.{few_below}
 use Rattle.model.proofs.MapRowLaws as model
@@ -32,7 +32,7 @@ use Rattle.heights.proofs.RowLaws.{row_first, row_byte_lem, has_row, view_none, 
 
 -- count and flags of a row that fits, in one byte
 row_small : (row : List ℕ) → row_fits row ≡ true → (get_or row 0 0 ≡ 255 → ⊥)
-    → get_or row 0 0 * 16 + (get_or row 34 0 + 2 * (get_or row 68 0 + 2 * get_or row 102 0)) < 64
+    → get_or row 0 0 * 16 + row_flags row < 64
 unfolding row_fits used_places header_of row_byte
 row_small row h ne =
     let count : ℕ = get_or row 0 0 in
@@ -44,7 +44,7 @@ row_small row h ne =
     let long : length flags ≡ count =
     length-map (map section_of places) (λ (s : Section). s.is_stored) ∙ length-map places section_of ∙ length_entries place_size count (drop 1 row)
     in
-    let e : length flags * 16 + bits flags ≡ count * 16 + (get_or row 34 0 + 2 * (get_or row 68 0 + 2 * get_or row 102 0)) = rw k at (model.row_byte_lem row h) in
+    let e : length flags * 16 + bits flags ≡ count * 16 + row_flags row = rw k at (model.row_byte_lem row h) in
     let b : bits flags < 8 = few_below flags (omega arith) in
     omega (arith, e, b, long, few)
 
@@ -54,7 +54,7 @@ module _ (i : ℕ) (view : List ℕ) where
 
   -- count and flags
   abbrev pub together : ℕ
-  together = get_or view at 0 * 16 + (get_or view (at + 34) 0 + 2 * (get_or view (at + 68) 0 + 2 * get_or view (at + 102) 0))
+  together = get_or view at 0 * 16 + (get_or view (at + place_size) 0 + 2 * (get_or view (at + 2 * place_size) 0 + 2 * get_or view (at + 3 * place_size) 0))
 
   pub absent_byte : get_or view at 0 ≡ 255 → 128 ≡ row_byte (row_at i view)
   unfolding row_byte
@@ -66,15 +66,15 @@ module _ (i : ℕ) (view : List ℕ) where
     present_byte =
         rw (
           row_first i view,
-          row_byte_lem i view 34 (omega arith),
-          row_byte_lem i view 68 (omega arith),
-          row_byte_lem i view 102 (omega arith),
+          row_byte_lem i view place_size (omega arith),
+          row_byte_lem i view (2 * place_size) (omega arith),
+          row_byte_lem i view (3 * place_size) (omega arith),
           ne_eqb (get_or view (i * row_size + 4) 0) 255 ne,
         )
 
     pub present_small : row_fits (row_at i view) ≡ true → together < 64
     present_small h =
-        rw (row_first i view, row_byte_lem i view 34 (omega arith), row_byte_lem i view 68 (omega arith), row_byte_lem i view 102 (omega arith)) at
+        rw (row_first i view, row_byte_lem i view place_size (omega arith), row_byte_lem i view (2 * place_size) (omega arith), row_byte_lem i view (3 * place_size) (omega arith)) at
         (row_small (row_at i view) h (λ e. ne (sym (row_first i view) ∙ e)))
 
 -- ---- a height
@@ -120,7 +120,7 @@ module _ (view : List ℕ) (height : ℕ) where
   lacking_byte chain h e = rw (le-leb height chain h, view_none view height e)
 
   module _ (v : view_fits view ≡ true) {row : ℕ} (e : Some row ≡ at_height) where
-    pub row_lent : row * row_size + 107 ≤ length view
+    pub row_lent : row * row_size + 4 + row_size ≤ length view
     row_lent = let w = row_within view height e v in omega (arith, w)
 
     pub row_good : row_fits (row_at row view) ≡ true

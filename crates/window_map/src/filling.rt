@@ -14,7 +14,7 @@ use refusals::refusal::Refusal;
 
 // The byte of row i, which fits.
 pub fn row_byte(view: &[u8], i: usize) -> u8
-    requires { (i * row_size + 107 ≤ length view.now) × (row_fits (row_at i view.now) ≡ true) }
+    requires { (i * row_size + 4 + row_size ≤ length view.now) × (row_fits (row_at i view.now) ≡ true) }
     ensures { result ≡ row_byte (row_at i view.now) }
 {
     let at = i * ROW_SIZE + 4;

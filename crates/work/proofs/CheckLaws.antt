@@ -43,9 +43,9 @@ use Rattle.std.proofs.Common.{Ok}
 use Rattle.work.proofs.RegionLaws.{Stands, tracked_stands, stands_size, stands_requests, stands_holding, stands_cleared}
 use Rattle.work.proofs.WorkedLaws.{length_requests, length_evicted, settings_given, clock_given, gate_given}
 use Rattle.model.proofs.PendingLaws.{WellTarget}
-use Rattle.work.proofs.RetriedLaws.{tracked_types, items_at, retries_few, retries_in_width, below, types_at, retried_items}
+use Rattle.work.proofs.RetriedLaws.{items_at, retries_few, retries_in_width, below, retried_items}
 use Rattle.work.proofs.RetriedLaws.{after_rising, after_length, after_few, after_recorded}
-use Rattle.model.specs.Layout.{id_size, record_size, region_size}
+use Rattle.model.specs.Layout.{command_size, id_size, record_size, region_size}
 
 -- A check at its entry: the region, the targets and the clock are within their types.
 pub record Due (head : Head) (call : Call) (target : ℕ → ℕ) (region : List ℕ) : Type 0 where
@@ -98,9 +98,6 @@ module _ {head : Head} {call : Call} {target : ℕ → ℕ} {region : List ℕ} 
       due.targets stands.recorded due.tracked.checks)
       (after_rising gate settings call.clock target pending stands.rise) (omega (arith, stands.few)))
 
-  types : All (λ (r : Request). r.type_id < 256) pending
-  types = tracked_types due.tracked due.bytes
-
   retried_few : length (judged settings call.clock retried pending) ≤ head.pending
   unfolding judged
   retried_few =
@@ -128,9 +125,6 @@ module _ {head : Head} {call : Call} {target : ℕ → ℕ} {region : List ℕ} 
         (all_weaker (λ (place : ℕ). place < length after) (λ (place : ℕ). place * record_size + record_size ≤ length table)
         (λ place h. omega (arith, table_size_lem, table_stands.few))
         (retried_places settings call.clock pending 0) (below gate settings call.clock target pending stands.rise table held))
-
-    pub places_narrow : All (λ (place : ℕ). (request_of (entry record_size place table)).type_id < 256) places
-    places_narrow = rw hp (types_at gate settings call.clock target pending stands.rise table held types)
 
     items_again : sent_of gate table places ≡ checked_sendings head call target region
     unfolding checked_sendings
@@ -167,11 +161,11 @@ module _ {head : Head} {call : Call} {target : ℕ → ℕ} {region : List ℕ} 
       let few = retries_few gate settings call.clock target pending in
       omega (arith, retries_count (retries gate settings call.clock target pending), few, length_requests head.pending region)
 
-  pub checked_bytes : (batch : ℕ) → length (sent_bytes batch (checked_sendings head call target region)) ≤ 48 * head.pending
+  pub checked_bytes : (batch : ℕ) → length (sent_bytes batch (checked_sendings head call target region)) ≤ command_size * head.pending
   unfolding checked_sendings sent_bytes
   checked_bytes batch =
       let items : List Item = retries gate settings call.clock target pending in
-      let w = retries_in_width gate settings call.clock target pending due.targets stands.recorded types in
+      let w = retries_in_width gate settings call.clock target pending due.targets stands.recorded in
       let bytes = sendings_bytes batch (retry_sendings items) (retries_sent_well items w) in
       let few = retries_few gate settings call.clock target pending in
       omega (arith, bytes, retries_weight items, few, length_requests head.pending region)

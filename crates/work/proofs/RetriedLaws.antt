@@ -18,10 +18,10 @@ use Rattle.model.specs.Settings.{Settings}
 use Rattle.model.specs.Delivery.{Request, Verdict, waiting, retried, abandoned, forgotten, verdict, verdict_number, judged, restarted, check_timeouts, ids_of}
 use Rattle.model.specs.Sections.{Item}
 use Rattle.model.specs.Check.{retry_of, retries}
-use Rattle.model.specs.Image.{request_of, types_narrow}
+use Rattle.model.specs.Image.{request_of}
 use Rattle.model.proofs.Well.{RisingIds}
 use Rattle.model.proofs.Widths.{WellPeer, WellItem}
-use Rattle.model.proofs.RecordLaws.{Recorded, narrow_type}
+use Rattle.model.proofs.RecordLaws.{Recorded}
 use Rattle.model.proofs.PendingLaws.{WellTarget, rising_checked, rising_retried}
 use Rattle.image.specs.declared.head.Head.{Head}
 use Rattle.commands.specs.Pending.{requests_in}
@@ -31,21 +31,6 @@ use Rattle.check_timeouts.specs.Checked.{pending_after_check, placed_after, retr
 use Rattle.check_timeouts.specs.Turn.{restarted_to}
 use Rattle.check_timeouts.proofs.RetryLaws.{stays_to, checked_to, length_checked, pending_after}
 use Rattle.model.specs.Layout.{record_size}
-
-pub types_below : (es : List (List ℕ)) → Wide record_size es → All Bytes es → types_narrow es ≡ true
-    → All (λ (r : Request). r.type_id < 256) (map request_of es)
-types_below [] w f h = tt
-types_below (e ∷ es) w f h = (
-  narrow_type e w.0 f.0 (and_left (eqb (get_or e 40 0) 0) (types_narrow es) h),
-  types_below es w.1 f.1 (and_right (eqb (get_or e 40 0) 0) (types_narrow es) h),
-)
-
--- a pending type is a byte
-pub tracked_types : {head : Head} {region : List ℕ} → Tracked head region → Bytes region
-    → All (λ (r : Request). r.type_id < 256) (requests_in head.pending region)
-tracked_types {head} {region} t f =
-    types_below (entries record_size head.pending region) (entries_wide record_size head.pending region (omega (arith, t.few, t.size)))
-    (entries_bytes record_size head.pending region f) t.narrow
 
 -- what the requests at some places of a table stand for
 abbrev pub items_at : List ℕ → List ℕ → List Item
@@ -146,12 +131,6 @@ module _ (gate : Bool) (settings : Settings) (clock : ℕ) (target : ℕ → ℕ
   pub after_few : length (pending_after_check gate settings clock target rs) ≤ length rs
   after_few = rw after_is (checked_few settings clock aim rs)
 
-  pub after_types : All (λ (r : Request). r.type_id < 256) rs → All (λ (r : Request). r.type_id < 256) (pending_after_check gate settings clock target rs)
-  unfolding restarted_to restarted
-  after_types w =
-      rw after_is
-      (checked_all settings clock aim (λ (r : Request). r.type_id < 256) (λ (r : Request). r.type_id < 256) (λ r p. p) (λ r p. p) rs w)
-
   pub after_recorded : clock < 2 ^ 64 → WellTarget target → All Recorded rs → All (λ (r : Request). r.checks + 1 < 2 ^ 32) rs
       → All Recorded (pending_after_check gate settings clock target rs)
   unfolding restarted_to restarted
@@ -180,14 +159,6 @@ module _ (gate : Bool) (settings : Settings) (clock : ℕ) (target : ℕ → ℕ
     at_place place h =
         ap request_of (sym (entries_at record_size count place table h)) ∙ sym (get_or-map request_of (entries record_size count table) place [])
         ∙ ap (λ (x : List Request). get_or x place (request_of [])) held
-
-    pub types_at : All (λ (r : Request). r.type_id < 256) rs
-        → All (λ (place : ℕ). (request_of (entry record_size place table)).type_id < 256) (retried_places settings clock rs 0)
-    types_at w =
-        all_weaker (λ (place : ℕ). place < count) (λ (place : ℕ). (request_of (entry record_size place table)).type_id < 256)
-        (λ place h. rw (at_place place h)
-        (all_at (λ (r : Request). r.type_id < 256) (pending_after_check gate settings clock target rs) place (request_of []) h (after_types w)))
-        (retried_places settings clock rs 0) below
 
     items_plain : (places : List ℕ) → All (λ (place : ℕ). place < count) places
         → items_at table places ≡ map item_of (map (λ (place : ℕ). get_or (pending_after_check gate settings clock target rs) place (request_of [])) places)
@@ -227,15 +198,11 @@ module _ (gate : Bool) (settings : Settings) (clock : ℕ) (target : ℕ → ℕ
       let b = length_kept (λ (r : Request). eqb (verdict_number (verdict settings clock r)) (verdict_number retried)) rs in
       either (λ (is : List Item). length is ≤ length rs) gate (map (retry_of target) due) [] (omega arith) (omega arith)
 
-  pub retries_in_width : WellTarget target → All Recorded rs → All (λ (r : Request). r.type_id < 256) rs
-      → All WellItem (retries gate settings clock target rs)
+  pub retries_in_width : WellTarget target → All Recorded rs → All WellItem (retries gate settings clock target rs)
   unfolding retries retry_of judged
-  retries_in_width w a b =
+  retries_in_width w a =
       let due : List Request = judged settings clock retried rs in
       either (All WellItem) gate (map (retry_of target) due) []
-      (all_map (λ (r : Request). Recorded r × (r.type_id < 256)) WellItem (retry_of target)
-      (λ r q. record { id = q.0.id; type_id = q.1; peer = w r.peer q.0.cells.0 }) due
-      (all_kept (λ (r : Request). Recorded r × (r.type_id < 256))
-      (λ (r : Request). eqb (verdict_number (verdict settings clock r)) (verdict_number retried)) rs
-      (all_both Recorded (λ (r : Request). r.type_id < 256) rs a b)))
+      (all_map Recorded WellItem (retry_of target) (λ r q. record { id = q.id; type_id = q.cells.1.0; peer = w r.peer q.cells.0 }) due
+      (all_kept Recorded (λ (r : Request). eqb (verdict_number (verdict settings clock r)) (verdict_number retried)) rs a))
       tt

@@ -8,7 +8,7 @@ use Rattle.model.specs.Delivery.{Request, Verdict, retried, abandoned, forgotten
 use Rattle.model.specs.State.{State}
 use Rattle.model.specs.Requests.{Sending, Done, perform_all}
 use Rattle.model.specs.Check.{mark_all_retried, retry_sendings}
-use Rattle.model.specs.Image.{request_bytes, types_narrow}
+use Rattle.model.specs.Image.{request_bytes}
 use Rattle.model.specs.Calls as calls
 use Rattle.image.specs.declared.head.Head.{Head}
 use Rattle.image.specs.Heads.{head_of}
@@ -36,7 +36,6 @@ pub record Tracked (head : Head) (region : List ℕ) : Type 0 where
   pub held : region ≡ region_of (requests_in head.pending region) (evicted_in head.evicted region)
   pub few : head.pending + head.evicted ≤ tracked_limit
   pub order : rising id_size (entries record_size head.pending region) ≡ true
-  pub narrow : types_narrow (entries record_size head.pending region) ≡ true
   pub checks : All (λ (r : Request). r.checks + 1 < 2 ^ 32) (requests_in head.pending region)
 
 -- Room for so many bytes of commands at a place, and for the batches of a step.

@@ -48,7 +48,7 @@ ids_worked g downloaded n gone place peer = rw (g.pending, g.evicted, gate_given
 module _ {head : Head} {call : Call} {region : List ℕ} {place : Place} {peer : ℕ} {out : List ℕ} (ids : List ℕ)
     (n : Entered head call region place peer (length ids / id_size * command_size) out)
     {before : Counts} (b : before ≡ unasked head.pending head.evicted place) where
-  pub asks_ids : {stored after out' : List ℕ} {r : Result Counts TrackerError} → call.typeid < 2 ^ 8 → Bytes ids
+  pub asks_ids : {stored after out' : List ℕ} {r : Result Counts TrackerError} → call.typeid < 2 ^ 16 → Bytes ids
       → Asks (eqb call.gate 1) call.clock (ask call.typeid peer (pairs_in stored) (ids_in ids) ∷ []) before region out r after out'
       → {st : State} {c : calls.Call} {view : List ℕ} → Given head region call ids stored view st c → (downloaded : ℕ)
       → Performs place (worked_by st c downloaded (Ids peer)) out r after out'

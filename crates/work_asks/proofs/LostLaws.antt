@@ -6,7 +6,7 @@ use mathlib.Core.List.{List, []}
 use native.Mathlib.Omega.{arith}
 use lib.ListN.{length, take, length-map}
 use lib.Dec.{eqb}
-use Rattle.fields.specs.Facts.{Bytes}
+use Rattle.fields.specs.Facts.{All, Bytes}
 use Rattle.fields.specs.Overwrite.{overwritten}
 use Rattle.fields.specs.Entries.{entries, rising, joined}
 use Rattle.fields.proofs.FilterLaws.{length_kept}
@@ -35,13 +35,13 @@ use Rattle.std.proofs.Common.{Result}
 use Rattle.commands.specs.declared.tracker.TrackerError.{TrackerError}
 use Rattle.work.specs.Worked.{Given, acted_by, count_by, worked_by, unasked, Performs}
 use Rattle.work.proofs.RegionLaws.{Stands, tracked_stands, stands_size, stands_requests, stands_rising}
-use Rattle.work.proofs.RetriedLaws.{tracked_types}
 use Rattle.work.proofs.WorkedLaws.{length_requests, length_evicted, kept_stands, peer_given, clock_given, gate_given}
 use Rattle.work_asks.specs.Asked.{PairsAsks, Asks}
 use Rattle.work_asks.proofs.EntryLaws.{Entered}
 use Rattle.work_asks.proofs.AskedLaws.{asking, first_done}
 use Rattle.work_asks.proofs.PairLaws.{front_is, front_length, front_pairs}
-use Rattle.work_asks.proofs.OrphanLaws.{orphan_pairs, orphan_asks, orphan_asks_lem, orphans_bytes, orphans_wide}
+use Rattle.model.proofs.RecordLaws.{Recorded}
+use Rattle.work_asks.proofs.OrphanLaws.{orphan_pairs, orphan_asks, orphan_asks_lem, orphans_recorded, pairs_bytes, pairs_wide}
 use Rattle.model.specs.Layout.{id_size, most_bytes, pair_size, record_size}
 
 -- ---- what it comes to
@@ -83,8 +83,11 @@ module _ {head : Head} {call : Call} {region : List ℕ} {place : Place} {peer :
   left_stands : {left : ℕ} {table : List ℕ} → Left head region left table → Stands (others head region) (evicted_in head.evicted region) table
   left_stands l = rw l.held lost_stands
 
+  recorded : All Recorded (lost head region)
+  recorded = orphans_recorded head.peer (requests_in head.pending region) (tracked_stands head region n.tracked n.bytes).recorded
+
   wide : Wide pair_size (orphan_pairs (lost head region))
-  wide = orphans_wide head.peer (requests_in head.pending region) (tracked_stands head region n.tracked n.bytes).recorded
+  wide = pairs_wide (lost head region) recorded
 
   module _ {number : ℕ} {room pairs : List ℕ} (gathered : Gathered head region number room pairs) where
     number_is : number ≡ length (orphan_pairs (lost head region))
@@ -104,9 +107,7 @@ module _ {head : Head} {call : Call} {region : List ℕ} {place : Place} {peer :
 
     orphans_front : Bytes (take (number * pair_size) pairs)
     orphans_front =
-        let s = tracked_stands head region n.tracked n.bytes in
-        rw (front_is (orphan_pairs (lost head region)) wide number room pairs number_is gathered.written)
-        (orphans_bytes head.peer (requests_in head.pending region) s.recorded (tracked_types n.tracked n.bytes))
+        rw (front_is (orphan_pairs (lost head region)) wide number room pairs number_is gathered.written) (pairs_bytes (lost head region) recorded)
 
     -- ---- asked for behind the purge
 
@@ -138,7 +139,7 @@ module _ {head : Head} {call : Call} {region : List ℕ} {place : Place} {peer :
           let front : List ℕ = take (number * pair_size) pairs in
           let s = left_stands l in
           let acts : asks_by_type peer (pairs_in stored) (entries_of pair_size front) ≡ orphan_asks peer (pairs_in stored) (lost head region) =
-          ap (asks_by_type peer (pairs_in stored)) orphans_read ∙ orphan_asks_lem peer (pairs_in stored) (lost head region) in
+          ap (asks_by_type peer (pairs_in stored)) orphans_read ∙ orphan_asks_lem peer (pairs_in stored) (lost head region) recorded in
           let long = orphans_long in
           let few = orphans_few in
           rw (lose_ask_worked g downloaded left head.evicted place peer, ← acts)

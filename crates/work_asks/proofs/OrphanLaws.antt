@@ -1,16 +1,15 @@
 -- The pairs of a lost peer's requests, and the asks that they stand for.
-use Prim.Native.Nat.{ℕ, ◌<◌}
+use Prim.Native.Nat.{ℕ}
 use mathlib.Core.Path.{◌≡◌, refl, ap, ◌∙◌}
 use mathlib.Core.Bool.{Bool, true, false, not, cond, ◌&&◌}
 use mathlib.Core.List.{List, [], ◌∷◌, map}
-use native.Mathlib.Omega.{arith}
 use lib.ListN.{length}
 use lib.Dec.{eqb}
 use Rattle.fields.specs.Facts.{All, Bytes}
 use Rattle.fields.specs.Sort.{sorted}
-use Rattle.fields.proofs.AllLaws.{all_map, all_kept, all_both}
+use Rattle.fields.proofs.AllLaws.{all_map, all_kept}
 use Rattle.fields.specs.Entries.{joined}
-use Rattle.fields.proofs.NumberLaws.{bytes_nil, bytes_cons, bytes_append}
+use Rattle.fields.proofs.NumberLaws.{bytes_nil, bytes_append}
 use Rattle.fields.proofs.SortLaws.{all_sorted}
 use Rattle.fields.proofs.EntriesLaws.{Wide}
 use Rattle.model.specs.Protocol.{is_transaction}
@@ -20,7 +19,9 @@ use Rattle.model.specs.Sections.{Item, Batch, join, adjacent, batches_of, item_b
 use Rattle.model.specs.Calls.{pair_bytes}
 use Rattle.model.proofs.RecordLaws.{Recorded}
 use Rattle.request_announced.specs.ByType.{pair_item, asks_by_type}
-use Rattle.model.specs.Layout.{id_size, pair_size}
+use Rattle.model.proofs.ListLaws.{length_pair, pair_is_bytes}
+use Rattle.work_asks.proofs.PairLaws.{item_of_pair}
+use Rattle.model.specs.Layout.{pair_size}
 
 -- ---- all of one peer
 
@@ -66,37 +67,32 @@ orphan_items peer rs = map (λ (r : Request). record { id = r.id; type_id = r.ty
 abbrev pub orphan_asks : ℕ → List Pair → List Request → List Act
 orphan_asks peer stored rs = map (λ (b : Batch). ask b.type_id peer stored b.ids) (batches_of (orphan_items peer rs))
 
-orphan_items_lem : (peer : ℕ) (rs : List Request) → map (pair_item peer) (orphan_pairs rs) ≡ orphan_items peer rs
-orphan_items_lem peer [] = refl
-orphan_items_lem peer (r ∷ rs) = ap (λ (is : List Item). record { id = r.id; type_id = r.type_id; peer = peer } ∷ is) (orphan_items_lem peer rs)
+orphan_items_lem : (peer : ℕ) (rs : List Request) → All Recorded rs → map (pair_item peer) (orphan_pairs rs) ≡ orphan_items peer rs
+orphan_items_lem peer [] w = refl
+orphan_items_lem peer (r ∷ rs) w = rw (item_of_pair peer r.type_id r.id w.0.cells.1.0, orphan_items_lem peer rs w.1)
 
 items_peer : (peer : ℕ) (rs : List Request) → All (λ (i : Item). i.peer ≡ peer) (orphan_items peer rs)
 items_peer peer [] = tt
 items_peer peer (r ∷ rs) = (refl, items_peer peer rs)
 
-pub orphan_asks_lem : (peer : ℕ) (stored : List Pair) (rs : List Request) → asks_by_type peer stored (orphan_pairs rs) ≡ orphan_asks peer stored rs
+pub orphan_asks_lem : (peer : ℕ) (stored : List Pair) (rs : List Request) → All Recorded rs
+    → asks_by_type peer stored (orphan_pairs rs) ≡ orphan_asks peer stored rs
 unfolding asks_by_type
-orphan_asks_lem peer stored rs =
+orphan_asks_lem peer stored rs w =
     let items : List Item = orphan_items peer rs in
-    ap (λ (is : List Item). map (λ (b : Batch). ask b.type_id b.peer stored b.ids) (batches_of is)) (orphan_items_lem peer rs)
+    ap (λ (is : List Item). map (λ (b : Batch). ask b.type_id b.peer stored b.ids) (batches_of is)) (orphan_items_lem peer rs w)
     ∙ asks_peer peer stored (batches_of items) (batches_peer peer items (items_peer peer rs))
 
-pub orphans_bytes : (peer : ℕ) (rs : List Request) → All Recorded rs → All (λ (r : Request). r.type_id < 256) rs
-    → Bytes (joined (orphan_pairs (orphans_of peer rs)))
+pub orphans_recorded : (peer : ℕ) (rs : List Request) → All Recorded rs → All Recorded (orphans_of peer rs)
 unfolding orphans_of
-orphans_bytes peer rs w t =
-    let Q : Request → Type 0 = λ (r : Request). Recorded r × (r.type_id < 256) in
-    go (orphans_of peer rs) (all_kept Q (λ (r : Request). eqb r.peer peer && not (is_transaction r.type_id)) rs
-    (all_both Recorded (λ (r : Request). r.type_id < 256) rs w t))
-  where
-    go : (left : List Request) → All (λ (r : Request). Recorded r × (r.type_id < 256)) left → Bytes (joined (orphan_pairs left))
-    go [] q = bytes_nil
-    go (r ∷ left) q =
-        bytes_append (pair_bytes r.type_id r.id) (joined (orphan_pairs left)) (bytes_cons r.type_id r.id q.0.1 q.0.0.id.bytes) (go left q.1)
+orphans_recorded peer rs w = all_kept Recorded (λ (r : Request). eqb r.peer peer && not (is_transaction r.type_id)) rs w
 
-pub orphans_wide : (peer : ℕ) (rs : List Request) → All Recorded rs → Wide pair_size (orphan_pairs (orphans_of peer rs))
-unfolding orphans_of
-orphans_wide peer rs w =
+pub pairs_bytes : (rs : List Request) → All Recorded rs → Bytes (joined (orphan_pairs rs))
+pairs_bytes [] w = bytes_nil
+pairs_bytes (r ∷ rs) w =
+    bytes_append (pair_bytes r.type_id r.id) (joined (orphan_pairs rs)) (pair_is_bytes r.type_id r.id w.0.id.bytes) (pairs_bytes rs w.1)
+
+pub pairs_wide : (rs : List Request) → All Recorded rs → Wide pair_size (orphan_pairs rs)
+pairs_wide rs w =
     all_map Recorded (λ (x : List ℕ). length x ≡ pair_size) (λ (r : Request). pair_bytes r.type_id r.id)
-    (λ r q. let l : length r.id ≡ id_size = q.id.long in omega arith) (orphans_of peer rs)
-    (all_kept Recorded (λ (r : Request). eqb r.peer peer && not (is_transaction r.type_id)) rs w)
+    (λ r q. length_pair r.type_id r.id q.id.long) rs w

@@ -6,10 +6,19 @@ use native.Mathlib.Omega.{arith}
 use lib.ListN.{length, take}
 use Rattle.fields.specs.Overwrite.{overwritten}
 use Rattle.fields.specs.Entries.{joined}
+use Rattle.fields.proofs.NumberLaws.{from_be_to_be}
 use Rattle.fields.proofs.OverwriteLaws.{front_read_back}
 use Rattle.fields.proofs.EntriesLaws.{Wide, length_joined, entries_joined}
 use Rattle.model.specs.Lists.{entries_of}
-use Rattle.model.specs.Layout.{pair_size}
+use Rattle.model.specs.Protocol.{Id}
+use Rattle.model.specs.Calls.{pair_bytes}
+use Rattle.model.proofs.Well.{WellType}
+use Rattle.request_announced.specs.ByType.{pair_item}
+use Rattle.model.specs.Layout.{pair_size, type_size}
+
+-- a pair read back
+pub item_of_pair : (peer type_id : ℕ) (id : Id) → WellType type_id → pair_item peer (pair_bytes type_id id) ≡ record { id = id; type_id = type_id; peer = peer }
+item_of_pair peer type_id id w = ap (λ (n : ℕ). record { id = id; type_id = n; peer = peer }) (from_be_to_be type_size type_id w)
 
 module _ (ps : List (List ℕ)) (w : Wide pair_size ps) where
   length_pairs : length (joined ps) ≡ length ps * pair_size

@@ -1,5 +1,5 @@
 -- Each work that asks for sections, from what was asked for it.
-use Prim.Native.Nat.{ℕ, ◌+◌, ◌-◌, ◌^◌, ◌≤◌, ◌<◌, min}
+use Prim.Native.Nat.{ℕ, ◌+◌, ◌-◌, ◌*◌, ◌^◌, ◌≤◌, ◌<◌, min}
 use mathlib.Core.Path.{◌≡◌, refl, sym}
 use mathlib.Core.Bool.{true}
 use mathlib.Core.List.{List, [], ◌∷◌}
@@ -39,7 +39,7 @@ use Rattle.work.proofs.WorkedLaws.{length_requests, length_evicted, taken_stands
 use Rattle.work_asks.specs.Asked.{SectionsAsks, Asks}
 use Rattle.work_asks.proofs.EntryLaws.{Entered}
 use Rattle.work_asks.proofs.AskedLaws.{asking, first_done}
-use Rattle.model.specs.Layout.{id_size, most_bytes, record_size}
+use Rattle.model.specs.Layout.{command_size, id_size, most_bytes, record_size}
 
 -- ---- what each comes to
 
@@ -64,7 +64,7 @@ module _ {head : Head} {call : Call} {region ids stored view : List ℕ} {st : S
 -- ---- weights and widths
 
 module _ (view : List ℕ) (f : Bytes view) (fits : view_fits view ≡ true) (chain downloaded peer : ℕ) where
-  window_weight : total act_weight (request_sections_from (view_of view) chain downloaded (some peer)).acts ≤ 27648
+  window_weight : total act_weight (request_sections_from (view_of view) chain downloaded (some peer)).acts ≤ 576 * command_size
   unfolding request_sections_from
   window_weight =
       let items : List Item = (window_within (min (downloaded + window_size) chain - downloaded) (view_of view) peer downloaded).items in

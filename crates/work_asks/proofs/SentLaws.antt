@@ -29,7 +29,7 @@ use Rattle.plan.specs.declared.Plan.{Plan}
 use Rattle.commands.specs.declared.tracker.TrackerError.{TrackerError}
 use Rattle.work.specs.Worked.{Worked, worked_by, fits, performed_as, Performs}
 use Rattle.work_asks.specs.Carried.{announced, carried_by}
-use Rattle.model.specs.Layout.{id_size, most_bytes}
+use Rattle.model.specs.Layout.{command_header, id_size, most_bytes}
 
 -- ---- an announcement
 
@@ -57,7 +57,7 @@ announced_some peer [] h = absurd (lt_irrefl 0 (omega arith))
 announced_some peer (id ∷ ids) h = refl
 
 announcement_long : (batch peer : ℕ) (bytes : List ℕ) → length bytes % id_size ≡ 0
-    → length (command_bytes (record { kind = 2; type_id = 101; batch = batch; peer = peer; ids = ids_in bytes })) ≡ 16 + length bytes
+    → length (command_bytes (record { kind = 2; type_id = 101; batch = batch; peer = peer; ids = ids_in bytes })) ≡ command_header + length bytes
 unfolding command_bytes
 announcement_long batch peer bytes h = rw (joined_ids bytes h) (omega arith)
 
@@ -82,7 +82,7 @@ module _ (announces : Option ℕ) (bytes out : List ℕ) where
 
   pub told : (peer : ℕ) (out' : List ℕ) (end : ℕ) → announces ≡ Some peer → continuation_fits bytes ≡ true → 1 ≤ length bytes
       → out' ≡ overwritten 0 (command_bytes (record { kind = 2; type_id = 101; batch = 0; peer = peer; ids = ids_in bytes })) out
-      → end ≡ 0 + 16 + length bytes
+      → end ≡ 0 + command_header + length bytes
       → Announced out' (record { at = end; batch = 1 })
   unfolding sent_bytes
   told peer out' end p fits some' e n =

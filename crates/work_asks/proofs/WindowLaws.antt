@@ -18,12 +18,12 @@ use Rattle.model.proofs.ArgumentLaws.{view_well}
 use Rattle.request_announced.specs.ByType.{pair_item, asks_by_type}
 use Rattle.heights.specs.Window.{item_pair}
 use Rattle.heights.proofs.MissingLaws.{window_pairs, pairs_wide}
-use Rattle.heights.proofs.ItemLaws.{items_most, window_peer}
+use Rattle.heights.proofs.ItemLaws.{WellRequested, items_well, items_most, window_peer}
 use Rattle.work.specs.declared.Counts.{Counts}
 use Rattle.std.proofs.Common.{Result}
 use Rattle.commands.specs.declared.tracker.TrackerError.{TrackerError}
 use Rattle.work_asks.specs.Asked.{PairsAsks, SectionsAsks, Asks}
-use Rattle.work_asks.proofs.PairLaws.{front_length, front_pairs}
+use Rattle.work_asks.proofs.PairLaws.{item_of_pair, front_length, front_pairs}
 use Rattle.model.specs.Layout.{pair_size}
 
 pub no_pairs_fit : pairs_fit [] ≡ true
@@ -34,12 +34,13 @@ no_pairs : pairs_in [] ≡ []
 unfolding pairs_in
 no_pairs = refl
 
-window_items_lem : (peer : ℕ) (items : List Item) → All (λ (i : Item). i.peer ≡ peer) items → map (pair_item peer) (map item_pair items) ≡ items
+window_items_lem : (peer : ℕ) (items : List Item) → All WellRequested items → All (λ (i : Item). i.peer ≡ peer) items
+    → map (pair_item peer) (map item_pair items) ≡ items
 unfolding item_pair
-window_items_lem peer [] p = refl
-window_items_lem peer (i ∷ items) p =
-    ap (λ (is : List Item). record { id = i.id; type_id = i.type_id; peer = peer } ∷ is) (window_items_lem peer items p.1)
-    ∙ ap (λ (q : ℕ). record { id = i.id; type_id = i.type_id; peer = q } ∷ items) (sym p.0)
+window_items_lem peer [] w p = refl
+window_items_lem peer (i ∷ items) w p =
+    rw (item_of_pair peer i.type_id i.id w.0.type_id, window_items_lem peer items w.1 p.1)
+    (ap (λ (q : ℕ). record { id = i.id; type_id = i.type_id; peer = q } ∷ items) (sym p.0))
 
 -- ---- the window's items
 
@@ -71,9 +72,11 @@ module _ {view : List ℕ} {chain downloaded peer number : ℕ} {room pairs : Li
   window_asks : asks_by_type peer [] window ≡ wanted
   unfolding asks_by_type request_sections_from
   window_asks =
-      let of-peer = window_peer (min (downloaded + window_size) chain - downloaded) (view_of view) peer downloaded in
+      let n : ℕ = min (downloaded + window_size) chain - downloaded in
+      let of-peer = window_peer n (view_of view) peer downloaded in
+      let well = items_well view m.bytes m.fits peer n downloaded in
       ap (λ (is : List Item). map (λ (b : Batch). ask b.type_id b.peer [] b.ids) (batches_of is))
-      (window_items_lem peer (window_items view chain downloaded peer) of-peer)
+      (window_items_lem peer (window_items view chain downloaded peer) well of-peer)
 
   number_is : number ≡ length window
   number_is = m.count ∙ sym (length-map (window_items view chain downloaded peer) item_pair)

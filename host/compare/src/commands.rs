@@ -116,7 +116,7 @@ pub fn quick(seed: Option<u64>) -> Done {
         for keeper in keepers::all() {
             differences::shown(keeper)?;
         }
-        println!("differences: D-1 to D-3 and three overflows are as docs/DIFFERENCES.md says");
+        println!("differences: D-1 to D-4 and three overflows are as docs/DIFFERENCES.md says");
     } else {
         println!("{NO_SOURCE}");
     }

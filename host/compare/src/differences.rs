@@ -4,10 +4,14 @@ use keeper_oracle::{Oracle, Reason, Verdict};
 use keeper_reference::{image, Reference, PLAIN};
 use keeper_streams::build::{missing, syncing, Build, CASES};
 use keeper_streams::{directed, Opening, Script};
-use keeper_values::numbers::{kinds, outcomes};
-use keeper_values::{Answer, Call, Keeper, Mode, State};
+use keeper_values::numbers::{kinds, outcomes, widths};
+use keeper_values::{Answer, Call, Keeper, Mode, State, TypeId};
 use keeper_values::{COMMAND_BYTES, STATE_BYTES};
 use keeper_variants::AS_PUBLISHED;
+
+/// Bytes of a sync info, and of a request of one id.
+const SYNC_INFO: u32 = widths::HEADER as u32;
+const REQUEST_OF_ONE: u32 = SYNC_INFO + widths::ID as u32;
 
 /// Runs a stream on a keeper; the last answer and the state after it.
 fn played(keeper: &dyn Keeper, script: &Script) -> Result<(Answer, State), String> {
@@ -128,6 +132,20 @@ fn d3(keeper: &dyn Keeper) -> Result<(), String> {
     holds("D-3, the Rust is synced", synced)
 }
 
+/// D-4: a type above 255 (F-6), for which the Rust has no room.
+fn d4(keeper: &dyn Keeper) -> Result<(), String> {
+    let script = directed::d4();
+    let (answer, state) = played(keeper, &script)?;
+    let asked = (answer.number, answer.length) == (0, REQUEST_OF_ONE);
+    holds("D-4, asked for", asked)?;
+    let pending: Vec<TypeId> = state.pending.values().map(|r| r.type_id).collect();
+    holds("D-4, the whole type is kept", pending == [300])?;
+    let (verdict, _) = judged(&script, &[])?;
+    let outside = Verdict::OutOfDomain(Reason::WideTypes);
+    holds("D-4, outside the domain", verdict == outside)?;
+    holds("D-4, no such state", Oracle::put(&state).is_none())
+}
+
 /// A sum that is exact here and overflows in the Rust: the step's outcome, and its length in bytes.
 fn overflow(keeper: &dyn Keeper, script: &Script, outcome: u32, length: u32) -> Result<(), String> {
     let (answer, _) = played(keeper, script)?;
@@ -145,7 +163,7 @@ fn our_sum(keeper: &dyn Keeper) -> Result<(), String> {
     let script = Build::put("our + 1", syncing(CASES, 0))
         .tip(6, u32::MAX, 0)
         .done();
-    overflow(keeper, &script, outcomes::CONTINUE, 16)
+    overflow(keeper, &script, outcomes::CONTINUE, SYNC_INFO)
 }
 
 /// `downloaded + 192`: the window ends at the chain height.
@@ -162,7 +180,7 @@ fn window_sum(keeper: &dyn Keeper) -> Result<(), String> {
             c.view = missing(u32::MAX - 190, 1);
         })
         .done();
-    overflow(keeper, &script, outcomes::CONTINUE, 48)
+    overflow(keeper, &script, outcomes::CONTINUE, REQUEST_OF_ONE)
 }
 
 /// Sends counted wrap here; the Rust, built with overflow checks, panics.
@@ -174,7 +192,7 @@ fn sends_counted(keeper: &dyn Keeper) -> Result<(), String> {
     let script = Build::put("sends counted", state)
         .call(kinds::SCHEDULED_TICK, |_| {})
         .done();
-    overflow(keeper, &script, outcomes::CONTINUE, 16)?;
+    overflow(keeper, &script, outcomes::CONTINUE, SYNC_INFO)?;
     let (_, state) = played(keeper, &script)?;
     holds("sends counted wrap", state.sends_counted == 0)
 }
@@ -184,6 +202,7 @@ pub fn shown(keeper: &dyn Keeper) -> Result<(), String> {
     d1(keeper)?;
     d2(keeper)?;
     d3(keeper)?;
+    d4(keeper)?;
     our_sum(keeper)?;
     window_sum(keeper)?;
     sends_counted(keeper)

@@ -97,7 +97,14 @@ fn opening(keeper: &dyn Keeper, rng: &mut Rng) -> Result<(), String> {
     Err(format!("opening of {} bytes", call.length))
 }
 
-/// A random stream with damaged copies of each of its calls.
+/// The image with the first version's number: what the first version wrote, if each type is below 256.
+fn version_1(image: &[u8]) -> Vec<u8> {
+    let mut image = image.to_vec();
+    image[3..5].copy_from_slice(&[0, 1]);
+    image
+}
+
+/// A random stream with damaged copies of each of its calls; in some streams on images of version 1.
 pub fn random(keeper: &dyn Keeper, seed: u64, report: &mut Report) -> Result<(), String> {
     let reference = Reference::plain();
     let mut random = Random::new(seed);
@@ -118,6 +125,7 @@ pub fn random(keeper: &dyn Keeper, seed: u64, report: &mut Report) -> Result<(),
     player.play(&opening_line)?;
     opening(keeper, &mut rng).map_err(|fault| format!("seed {seed}: {fault}"))?;
     report.streams += 1;
+    let older = rng.once_in(4);
     for step in 0..random.length.min(40) {
         let state = player.read()?;
         if state.mode == Mode::Ended {
@@ -125,9 +133,13 @@ pub fn random(keeper: &dyn Keeper, seed: u64, report: &mut Report) -> Result<(),
         }
         let arguments = random.next(&state).to_arguments();
         let kinds = [damage, damage, several, noise, noise];
+        let image = match older {
+            true => version_1(player.image()),
+            false => player.image().to_vec(),
+        };
         for (index, damaged) in kinds.iter().enumerate() {
-            let damaged = damaged(&mut rng, player.image(), &arguments);
-            let answer = compare(keeper, &damaged, player.image())
+            let damaged = damaged(&mut rng, &image, &arguments);
+            let answer = compare(keeper, &damaged, &image)
                 .map_err(|fault| format!("seed {seed}, step {step}, damage {index}: {fault}"))?;
             report.step(state.mode, damaged.arguments.kind, answer.number);
         }

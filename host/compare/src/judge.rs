@@ -3,11 +3,11 @@
 use crate::area::Areas;
 use crate::beside::Beside;
 use crate::report::Report;
-use keeper_oracle::{Observed, Oracle, Reason, Sent, Verdict};
+use keeper_oracle::{holds, takes, Observed, Oracle, Reason, Sent, Verdict, SOURCE_FOUND};
 use keeper_reference::image;
 use keeper_streams::Opening;
 use keeper_values::numbers::{commands, kinds, limits, types};
-use keeper_values::{read_commands, Answer, Call, Command, Id, Keeper, Mode, State};
+use keeper_values::{read_commands, Answer, Call, Command, Id, Keeper, Mode, State, TypeId};
 use std::collections::BTreeSet;
 
 /// A keeper under the oracle's eyes, and others that have to leave the same bytes.
@@ -15,7 +15,8 @@ pub struct Trial<'k> {
     keeper: &'k dyn Keeper,
     areas: Areas,
     beside: Vec<Beside<'k>>,
-    oracle: Oracle,
+    /// None while a type above 255 is pending, which the Rust can't hold (D-4): the keepers go on by themselves.
+    oracle: Option<Oracle>,
     pub state: State,
 }
 
@@ -130,12 +131,13 @@ impl<'k> Trial<'k> {
             } => Oracle::open(*settings, *clock, *height),
             Opening::Put(state) => Oracle::put(state),
         };
-        let Some(oracle) = oracle else {
-            return Ok(None);
-        };
         let areas = Areas::new(keeper, opening)?;
         let state = areas.read()?;
-        same("opened state", oracle.state(), &unordered(&state))?;
+        if let Some(oracle) = &oracle {
+            same("opened state", oracle.state(), &unordered(&state))?;
+        } else if !SOURCE_FOUND || holds(&state) {
+            return Ok(None);
+        }
         let beside = |other: &&'k dyn Keeper| Beside::new(*other, opening, &areas.state);
         let beside = others.iter().map(beside).collect::<Result<_, _>>()?;
         Ok(Some(Self {
@@ -161,7 +163,11 @@ impl<'k> Trial<'k> {
         if let Some(number) = refused_before_the_rust(&before, call) {
             return same("refusal", &Answer::refused(number), &answer);
         }
-        match self.oracle.step(call) {
+        let verdict = match &mut self.oracle {
+            Some(oracle) => oracle.step(call),
+            None => Verdict::OutOfDomain(Reason::WideTypes),
+        };
+        match verdict {
             Verdict::Finished(observed) => {
                 self.finished(call, &answer, &written, &observed)?;
                 report.agreed(call, &self.state, &observed.sends, answer.outcome);
@@ -183,10 +189,18 @@ impl<'k> Trial<'k> {
                         return Err(format!("F-5: headers of another peer\n  keeper {left:?}"));
                     }
                 }
+                if reason == Reason::WideTypes && holds(&before) && takes(call) {
+                    return Err("every type is below 256, and the Rust has no say".to_string());
+                }
+                if answer.number == 0 {
+                    let commands = read_commands(&written).ok_or("the commands end within one")?;
+                    whole_runs(&commands)?;
+                    self.one_image()?;
+                }
                 report.out_of_domain(reason);
-                match Oracle::put(&self.state) {
-                    Some(oracle) => self.oracle = oracle,
-                    None => return Err("the oracle can't be put back".to_string()),
+                self.oracle = Oracle::put(&self.state);
+                if self.oracle.is_none() && holds(&self.state) {
+                    return Err("the oracle can't be put back".to_string());
                 }
             }
         }
@@ -218,20 +232,25 @@ impl<'k> Trial<'k> {
         let sends = shell_sends(commands, &call.fails, observed.state.entry_mark);
         same("sends", &observed.sends, &sends)?;
         whole?;
+        self.one_image()
+    }
+
+    fn one_image(&self) -> Result<(), String> {
         if image::write(&self.state) != self.areas.state {
             return Err("the state area is not the one image of its state".to_string());
         }
         Ok(())
     }
 
-    /// Asks both questions and holds the pairs against what the Rust holds.
+    /// Asks both questions and holds the pairs against what the Rust holds, or what the keeper does where the Rust can't.
     pub fn question(&mut self, report: &mut Report) -> Result<(), String> {
-        let state = self.oracle.state().clone();
+        let oracle = self.oracle.as_ref();
+        let state = oracle.map_or(&self.state, |oracle| oracle.state()).clone();
         let evicted = state.evicted.iter().map(|id| (types::HEADER, *id));
         let owed = state.pending.iter().filter(|(_, request)| {
             Some(request.peer) == state.sync_peer && request.type_id != types::TRANSACTION
         });
-        let mut expected: [BTreeSet<(u8, Id)>; 2] = [
+        let mut expected: [BTreeSet<(TypeId, Id)>; 2] = [
             evicted.collect(),
             owed.map(|(id, request)| (request.type_id, *id)).collect(),
         ];
@@ -246,7 +265,7 @@ impl<'k> Trial<'k> {
             }
             let expected: Vec<u8> = expected
                 .iter()
-                .flat_map(|(type_id, id)| std::iter::once(*type_id).chain(*id))
+                .flat_map(|(type_id, id)| type_id.to_be_bytes().into_iter().chain(*id))
                 .collect();
             same("question", &(0, expected), &(number, written))?;
             report.questions += 1;

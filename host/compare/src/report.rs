@@ -46,7 +46,7 @@ const MAP_MET: [&str; 4] = [
 pub struct Report {
     finished: [[u64; 5]; KINDS],
     refused: [u64; 12],
-    out_of_domain: [u64; 4],
+    out_of_domain: [u64; 5],
     outcomes: [u64; 6],
     met: [u64; MET.len()],
     aimed: [u64; AIMED.len()],
@@ -218,7 +218,7 @@ impl Display for Report {
                 writeln!(out, "| {number} | {count} |")?;
             }
         }
-        let [end, panic, place, headers] = self.out_of_domain;
+        let [end, panic, place, headers, wide] = self.out_of_domain;
         writeln!(out, "\n| outside the oracle's domain | steps |")?;
         writeln!(out, "|---|---|")?;
         writeln!(
@@ -230,6 +230,10 @@ impl Display for Report {
         writeln!(
             out,
             "| an empty header list from another peer than the sync peer (D-3) | {headers} |"
+        )?;
+        writeln!(
+            out,
+            "| a type above 255, pending or in the call (D-4) | {wide} |"
         )?;
         if self.map_calls() > 0 {
             self.maps(out)?;

@@ -45,7 +45,7 @@ fn an_area_too_short_is_not_foretold() {
         pending: 401,
         evicted: 0,
         commands: 2,
-        length: 2 * 16 + 401 * 32,
+        length: 2 * 17 + 401 * 32,
     };
     for keeper in keepers::all() {
         let mut state = image::write(&syncing(CASES, 0));

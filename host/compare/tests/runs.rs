@@ -9,7 +9,7 @@ use keeper_reference::{commands, delivery, steps, sync, Reference, Rules, Run, P
 use keeper_streams::text::Line;
 use keeper_streams::{directed, Script};
 use keeper_values::numbers::{kinds, limits};
-use keeper_values::{read_commands, Id};
+use keeper_values::{read_commands, Id, TypeId};
 use std::collections::BTreeSet;
 use std::iter::once;
 
@@ -94,7 +94,7 @@ fn uncut<T>(run: &mut Run, send: impl FnOnce(&mut Run) -> T) -> T {
     sent
 }
 
-fn counted_on(run: &mut Run, peer: u64, type_id: u8, ids: &[Id]) {
+fn counted_on(run: &mut Run, peer: u64, type_id: TypeId, ids: &[Id]) {
     let written = read_commands(&run.commands.bytes).unwrap_or_default();
     let last = written.last().map_or(0, |last| last.ids.len());
     let room = limits::RUN - last % limits::RUN;
@@ -105,7 +105,7 @@ fn counted_on(run: &mut Run, peer: u64, type_id: u8, ids: &[Id]) {
     run.commands.batches += 1;
 }
 
-fn cut_before_drops(run: &mut Run, peer: u64, type_id: u8, ids: &[Id], stored: sync::Stored) {
+fn cut_before_drops(run: &mut Run, peer: u64, type_id: TypeId, ids: &[Id], stored: sync::Stored) {
     let needed = |ids| sync::needed(run, type_id, ids, stored);
     let mut parts: Vec<Vec<Id>> = commands::runs(ids).into_iter().map(needed).collect();
     parts.retain(|part| run.inputs.gate && !part.is_empty());

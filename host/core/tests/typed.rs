@@ -34,7 +34,7 @@ fn opened(opening: &Opening) -> RequestKeeper {
 fn typed(call: &Call) -> Option<(Step<'_>, Call)> {
     let from = Peer(call.peer);
     let ids = call.ids.as_slice();
-    let modifier_type = ModifierType::from_byte(call.type_id);
+    let modifier_type = ModifierType::from_number(call.type_id);
     let parsed = call.parsed.then_some(SyncInfo {
         tip: call.has_tip.then_some(call.tip),
         continuation: &call.continuation,
@@ -90,7 +90,7 @@ fn view(call: &Call) -> Result<View, Refusal> {
             Row::Absent => view.push_absent()?,
             Row::Present(places) => {
                 let section = |place: &keeper_values::Place| Section {
-                    modifier_type: ModifierType::from_byte(place.type_id),
+                    modifier_type: ModifierType::from_number(place.type_id),
                     id: place.id,
                     stored: place.stored,
                 };
@@ -110,7 +110,7 @@ fn compare(keeper: &mut RequestKeeper, state: &mut Vec<u8>, step: Step<'_>, call
     let pairs = call
         .stored
         .iter()
-        .map(|(t, id)| (ModifierType::from_byte(*t), *id));
+        .map(|(t, id)| (ModifierType::from_number(*t), *id));
     let peers: Vec<Peer> = call.peers.iter().map(|peer| Peer(*peer)).collect();
     let now = Surroundings {
         clock: call.clock,
@@ -162,12 +162,13 @@ fn read_back(finished: &request_keeper::Finished<'_>) -> Vec<u8> {
     for command in finished.commands() {
         let (kind, type_id, ids) = match command.message {
             request_keeper::Message::Request { modifier_type, ids } => {
-                (1, modifier_type.number() as u8, ids)
+                (1, modifier_type.number(), ids)
             }
             request_keeper::Message::Announcement { ids } => (2, 101, ids),
             request_keeper::Message::SyncInfo => (3, 0, [].as_slice()),
         };
-        bytes.extend([kind, type_id]);
+        bytes.push(kind);
+        bytes.extend(type_id.to_be_bytes());
         bytes.extend(command.batch.to_be_bytes());
         bytes.extend(command.to.0.to_be_bytes());
         bytes.extend((ids.len() as u32).to_be_bytes());

@@ -1,7 +1,7 @@
 //! The scenarios that come with the player, by name.
 
 /// Name and text of each.
-pub const SCENARIOS: [(&str, &str); 11] = [
+pub const SCENARIOS: [(&str, &str); 12] = [
     ("a-day", include_str!("../scenarios/a-day.drill")),
     (
         "reorg-eviction-lost-peer",
@@ -23,6 +23,10 @@ pub const SCENARIOS: [(&str, &str); 11] = [
     (
         "a-peer-without-a-chain",
         include_str!("../scenarios/a-peer-without-a-chain.drill"),
+    ),
+    (
+        "a-test-network",
+        include_str!("../scenarios/a-test-network.drill"),
     ),
     (
         "one-block-ahead",

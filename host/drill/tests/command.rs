@@ -38,7 +38,7 @@ fn help_and_version_are_printed_where_asked() {
 
 #[test]
 fn forecasts_are_printed_where_asked() {
-    let forecast = "\n            forecast   finished, outcome Synced, pending 1, evicted 0, commands 1, bytes 48\n";
+    let forecast = "\n            forecast   finished, outcome Synced, pending 1, evicted 0, commands 1, bytes 49\n";
     let plain = run(&["shut-gate"]);
     assert!(plain.status.success() && !text(&plain.stdout).contains("forecast"));
     let shown = run(&["--forecast", "shut-gate"]);

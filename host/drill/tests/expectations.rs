@@ -67,10 +67,10 @@ fn each_kind_is_met_or_not() {
             "forecast finished commands 1",
             "forecast finished commands 2",
         ),
-        ("forecast finished bytes 48", "forecast finished bytes 16"),
+        ("forecast finished bytes 49", "forecast finished bytes 17"),
         (
-            "forecast finished outcome Continue pending 1 evicted 0 commands 1 bytes 48",
-            "forecast finished pending 1 bytes 47",
+            "forecast finished outcome Continue pending 1 evicted 0 commands 1 bytes 49",
+            "forecast finished pending 1 bytes 48",
         ),
     ];
     for (met, unmet) in pairs {

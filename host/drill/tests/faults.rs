@@ -73,7 +73,7 @@ fn each_malformed_line_is_named() {
         ("at 5 lost", "a peer was expected"),
         ("at 5 announced north", "a type (transaction"),
         ("at 5 announced north header", "ids or `none` was expected"),
-        ("at 5 announced north 256 a", "`256` is not a type"),
+        ("at 5 announced north 65536 a", "`65536` is not a type"),
         (
             "at 5 sync-info north",
             "`tip HEIGHT`, `no-tip` or `unparsed` was expected",
@@ -215,7 +215,7 @@ fn bounds_are_named() {
             "at most 18,446,744,073,709,551,615",
         ),
         ("view 18446744073709551616", ": at most "),
-        ("at 5 needed 256 a", "a number up to 255"),
+        ("at 5 needed 65,536 a", "a number up to 65,535"),
         ("ids x1..x9999", "at most 2,000"),
         ("ids x1..x1500 y1..y1500", "at most 2,000 entries"),
         ("ids a123456789012345678901234567890123", "at most 32"),

@@ -11,12 +11,12 @@ fn played(text: &str) -> Played {
     play(&read(text).expect("well formed")).expect("opened")
 }
 
-/// What a step has shown of what a forecast says; a command has 16 bytes, and 32 for each id.
+/// What a step has shown of what a forecast says; a command has 17 bytes, and 32 for each id.
 fn shown(moment: &Moment) -> Option<Forecast> {
     let answer = moment.result.ok()?;
     let bytes = moment.sendings.iter().map(|sending| match &sending.what {
-        Sent::SyncInfo => 16,
-        Sent::Request(_, ids) | Sent::Announcement(ids) => 16 + 32 * ids.len(),
+        Sent::SyncInfo => 17,
+        Sent::Request(_, ids) | Sent::Announcement(ids) => 17 + 32 * ids.len(),
     });
     Some(Forecast {
         outcome: answer.outcome,
@@ -30,7 +30,7 @@ fn shown(moment: &Moment) -> Option<Forecast> {
 #[test]
 fn each_forecast_is_what_its_step_shows() {
     let long = "ids x001..x401\nopen 0 0\npeers 4\nat 0 start\nat 1000 pick\nat 900 check\nexpect refused 4\n\
-                at 1000 announced 4 header x001..x401\nexpect forecast finished pending 401 commands 2 bytes 12,864\n";
+                at 1000 announced 4 header x001..x401\nexpect forecast finished pending 401 commands 2 bytes 12,866\n";
     for text in SCENARIOS.map(|(_, text)| text).into_iter().chain([long]) {
         let played = played(text);
         assert!(played.as_expected(), "{}", timeline::timeline(&played));
@@ -84,12 +84,12 @@ fn a_wrong_figure_is_told() {
         (
             "at 2000 scheduled-tick",
             "forecast finished commands 2",
-            "finished, outcome Continue, pending 0, evicted 0, commands 1, bytes 16",
+            "finished, outcome Continue, pending 0, evicted 0, commands 1, bytes 17",
         ),
         (
             "at 2000 scheduled-tick",
             "forecast refused 9",
-            "finished, outcome Continue, pending 0, evicted 0, commands 1, bytes 16",
+            "finished, outcome Continue, pending 0, evicted 0, commands 1, bytes 17",
         ),
         (
             "at 500 check",

@@ -33,8 +33,8 @@ def advance(state, height, view):
     """Rule 5: past each next height whose header is present and whose sections are all stored."""
     first = int.from_bytes(view[:4], "big")
     while state["downloaded"] < height:
-        start = 4 + 103 * (state["downloaded"] + 1 - first)
-        row = view[start:start + 103] if start >= 4 else b""
+        start = 4 + 106 * (state["downloaded"] + 1 - first)
+        row = view[start:start + 106] if start >= 4 else b""
         if not row:
             raise Refused(9)
         if row[0] == 255 or not all(row[34 + 34 * place] for place in range(row[0])):
@@ -77,7 +77,7 @@ for line in sys.stdin:
     elif head == "step":
         try:
             state, commands = step(state, settings, words)
-            length = 16 * len(commands)
+            length = 17 * len(commands)
             print(f"= 0 0 0 0 0 0 0 0 {length}", *commands, state_line(state), sep="\n", flush=True)
         except Refused as refused:
             print(f"= {refused} 0 0 0 0 0 0 0 0", flush=True)

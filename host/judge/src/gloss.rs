@@ -1,9 +1,10 @@
 //! A call in words: its kind, its clock, and what the step reads of the rest.
 
 use crate::names::{type_name, Names};
-use crate::stream::{entries, id, view_places, Call, Opening, VIEW_HEAD, VIEW_ROW};
+use crate::stream::{entries, id, view_pairs, Call, Opening, VIEW_HEAD, VIEW_ROW};
 use crate::value::listed;
 use keeper_values::numbers::kinds::{self, *};
+use keeper_values::numbers::widths::{ID, PAIR, PEER};
 use keeper_values::Arguments;
 
 pub fn opening(opening: &Opening) -> String {
@@ -65,7 +66,7 @@ fn peers(bytes: &[u8]) -> String {
             .iter()
             .fold(0, |peer, byte| peer << 8 | u64::from(*byte))
     };
-    let peers: Vec<String> = entries(bytes, 8)
+    let peers: Vec<String> = entries(bytes, PEER)
         .map(|bytes| peer(bytes).to_string())
         .collect();
     listed(&peers, 0)
@@ -73,13 +74,13 @@ fn peers(bytes: &[u8]) -> String {
 
 fn ids(bytes: &[u8], names: &Names) -> String {
     listed(
-        &names.ids(&entries(bytes, 32).filter_map(id).collect::<Vec<_>>()),
+        &names.ids(&entries(bytes, ID).filter_map(id).collect::<Vec<_>>()),
         0,
     )
 }
 
 fn stored(bytes: &[u8], names: &Names) -> String {
-    let pairs = entries(bytes, 33).filter_map(|pair| names.pair(pair));
+    let pairs = entries(bytes, PAIR).filter_map(|pair| names.pair(pair));
     listed(&pairs.collect::<Vec<_>>(), 0)
 }
 
@@ -93,9 +94,9 @@ fn rows(view: &[u8], names: &Names) -> String {
             return "absent".to_string();
         }
         let alone = [head, row].concat();
-        let places = view_places(&alone).into_iter().filter_map(|at| {
-            let stored = alone.get(at + 32) == Some(&1);
-            let pair = names.pair(alone.get(at - 1..at + 32)?)?;
+        let places = view_pairs(&alone).into_iter().filter_map(|at| {
+            let stored = alone.get(at + PAIR) == Some(&1);
+            let pair = names.pair(alone.get(at..at + PAIR)?)?;
             Some(if stored { format!("+{pair}") } else { pair })
         });
         format!("[{}]", places.collect::<Vec<_>>().join(" "))

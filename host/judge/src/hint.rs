@@ -43,7 +43,8 @@ fn check(field: Field, part: Option<&str>) -> Option<&'static str> {
              retried with stamp = this clock\""
         }
         (Field::Forgotten, _) => {
-            "delivery.rs: \"an expired transaction is forgotten, its checks uncounted\""
+            "delivery.rs: \"an expired transaction is forgotten, its checks uncounted\"; a type is compared \
+             whole: 258 is no transaction (document 02, F-6)"
         }
         (Field::Fresh | Field::Evicted, _) => {
             "delivery.rs: \"The next check hands that list out whole as fresh\"; rule 6: \"No peer \
@@ -156,7 +157,8 @@ fn of_kind(kind: u8) -> Option<&'static str> {
         kinds::REORG => "rule 8, and rules 5 and 4",
         kinds::ANNOUNCED => {
             "rule 7: \"Announced headers, sections and transactions use rule 3, to the sender\"; \
-             document 02, F-5, for an empty header list; rule 3: \"gate shut, nothing. Drop ids \
+             document 02, F-5, for an empty header list; F-6: \"no other type is requested from an \
+             announcement\"; rule 3: \"gate shut, nothing. Drop ids \
              pending before the call, then stored ones. Mark the rest, then send\"; entry to synced \
              runs rule 4"
         }

@@ -3,7 +3,7 @@
 
 use crate::stream::{Call, Opening};
 use keeper_values::numbers::{kinds, types};
-use keeper_values::{Arguments, Call as Values, Id, Mode, Request, State};
+use keeper_values::{Arguments, Call as Values, Id, Mode, Request, State, TypeId};
 use std::collections::BTreeMap;
 
 /// Steps from an opening.
@@ -29,7 +29,7 @@ fn step(kind: u8, clock: u64, fill: impl FnOnce(&mut Values)) -> Call {
     Call::Step(Box::new(call.to_arguments()))
 }
 
-fn announced(kind: u8, clock: u64, peer: u64, type_id: u8, ids: Vec<Id>) -> Call {
+fn announced(kind: u8, clock: u64, peer: u64, type_id: TypeId, ids: Vec<Id>) -> Call {
     step(kind, clock, |call| {
         call.peer = peer;
         call.type_id = type_id;
@@ -38,7 +38,7 @@ fn announced(kind: u8, clock: u64, peer: u64, type_id: u8, ids: Vec<Id>) -> Call
 }
 
 /// The pending ids by stamp, then peer and type, as they can be entered together.
-fn groups(state: &State) -> BTreeMap<(u64, u64, u8), Vec<Id>> {
+fn groups(state: &State) -> BTreeMap<(u64, u64, TypeId), Vec<Id>> {
     let mut groups = BTreeMap::<_, Vec<Id>>::new();
     for (
         id,
@@ -59,18 +59,12 @@ fn groups(state: &State) -> BTreeMap<(u64, u64, u8), Vec<Id>> {
 }
 
 /// Steps that enter these ids: an announcement, or for a type that announcements pass over one needed modifier each.
-fn enter(clock: u64, peer: u64, type_id: u8, ids: Vec<Id>) -> Vec<Call> {
-    match type_id {
-        types::TRANSACTION
-        | types::HEADER
-        | types::BLOCK_TRANSACTIONS
-        | types::AD_PROOFS
-        | types::EXTENSION => vec![announced(kinds::ANNOUNCED, clock, peer, type_id, ids)],
-        _ => ids
-            .into_iter()
-            .map(|id| announced(kinds::NEEDED, clock, peer, type_id, vec![id]))
-            .collect(),
+fn enter(clock: u64, peer: u64, type_id: TypeId, ids: Vec<Id>) -> Vec<Call> {
+    if types::KNOWN.contains(&type_id) {
+        return vec![announced(kinds::ANNOUNCED, clock, peer, type_id, ids)];
     }
+    let needed = |id| announced(kinds::NEEDED, clock, peer, type_id, vec![id]);
+    ids.into_iter().map(needed).collect()
 }
 
 pub fn lead(state: &State) -> Lead {

@@ -2,7 +2,7 @@
 
 use keeper_streams::text::hex;
 use keeper_values::numbers::{outcomes, types};
-use keeper_values::Id;
+use keeper_values::{Id, TypeId};
 use std::collections::BTreeSet;
 
 /// Ids by their last digits, as many as tell them apart.
@@ -33,7 +33,8 @@ impl Names {
 
     /// A type and an id, as stored pairs hold them.
     pub fn pair(&self, pair: &[u8]) -> Option<String> {
-        let (type_id, id) = pair.split_first()?;
+        let (type_id, id) = pair.split_first_chunk()?;
+        let type_id = TypeId::from_be_bytes(*type_id);
         Some(format!("{type_id}:{}", self.id(&id.try_into().ok()?)))
     }
 
@@ -42,7 +43,7 @@ impl Names {
     }
 }
 
-pub fn type_name(type_id: u8) -> String {
+pub fn type_name(type_id: TypeId) -> String {
     let name = match type_id {
         types::TRANSACTION => "transaction",
         types::HEADER => "header",

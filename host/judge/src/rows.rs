@@ -4,6 +4,7 @@ use crate::names::{outcome, Names};
 use crate::value::Value;
 use keeper_streams::text::Line;
 use keeper_values::numbers::commands;
+use keeper_values::numbers::widths::{PAIR, TYPE};
 use keeper_values::{Command, Id, Request, State};
 use std::collections::BTreeMap;
 
@@ -170,7 +171,7 @@ fn number_facts(numbers: &[u32]) -> Facts {
 
 fn pairs_value(bytes: &[u8], names: &Names) -> Value {
     let part = || "part of a pair".to_string();
-    let pairs = bytes.chunks(33);
+    let pairs = bytes.chunks(PAIR);
     list(
         pairs
             .map(|pair| names.pair(pair).unwrap_or_else(part))
@@ -237,8 +238,8 @@ pub fn ids(answer: &[Line]) -> Vec<Id> {
             Line::Command(command) => ids.extend(&command.ids),
             Line::State(state) => ids.extend(state.pending.keys().chain(&state.evicted)),
             Line::Pairs(bytes) => {
-                let pairs = bytes.chunks_exact(33);
-                ids.extend(pairs.filter_map(|pair| Id::try_from(&pair[1..]).ok()));
+                let pairs = bytes.chunks_exact(PAIR);
+                ids.extend(pairs.filter_map(|pair| Id::try_from(&pair[TYPE..]).ok()));
             }
             _ => {}
         }

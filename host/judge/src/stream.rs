@@ -3,6 +3,7 @@
 
 use keeper_streams::text::Line;
 use keeper_values::numbers::kinds;
+use keeper_values::numbers::widths::{ID, PAIR, PLACE, ROW, TYPE};
 use keeper_values::{Arguments, Id, Settings};
 
 #[derive(Debug, Clone, Copy, PartialEq, Eq)]
@@ -89,8 +90,8 @@ impl Stream {
         for call in &self.calls {
             let Call::Step(step) = call else { continue };
             let places = view_ids(&step.view);
-            let lists = entries(&step.ids, 32).chain(entries(&step.continuation, 32));
-            let stored = entries(&step.stored, 33).map(|pair| &pair[1..]);
+            let lists = entries(&step.ids, ID).chain(entries(&step.continuation, ID));
+            let stored = entries(&step.stored, PAIR).map(|pair| &pair[TYPE..]);
             ids.extend(lists.chain(stored).chain(places).filter_map(id));
         }
         ids
@@ -182,26 +183,25 @@ pub fn id(bytes: &[u8]) -> Option<Id> {
     bytes.try_into().ok()
 }
 
-/// Bytes of a view before its rows, of a row, and of a place in it.
+/// Bytes of a view before its rows, and of a row.
 pub const VIEW_HEAD: usize = 4;
-pub const VIEW_ROW: usize = 103;
-pub const VIEW_PLACE: usize = 34;
+pub const VIEW_ROW: usize = ROW;
 
-/// Where the ids of a view's used places begin.
-pub fn view_places(view: &[u8]) -> Vec<usize> {
+/// Where the used places of a view begin: each with its type and id.
+pub fn view_pairs(view: &[u8]) -> Vec<usize> {
     let mut places = Vec::new();
     let rows = view.len().saturating_sub(VIEW_HEAD) / VIEW_ROW;
     for row in (0..rows).map(|row| VIEW_HEAD + row * VIEW_ROW) {
         let used = if view[row] <= 3 { view[row] } else { 0 };
-        places.extend((0..usize::from(used)).map(|place| row + 2 + VIEW_PLACE * place));
+        places.extend((0..usize::from(used)).map(|place| row + 1 + PLACE * place));
     }
     places
 }
 
 fn view_ids(view: &[u8]) -> impl Iterator<Item = &[u8]> {
-    view_places(view)
+    view_pairs(view)
         .into_iter()
-        .filter_map(|at| view.get(at..at + 32))
+        .filter_map(|at| view.get(at + TYPE..at + PAIR))
 }
 
 #[cfg(test)]

@@ -13,7 +13,7 @@ const MET: [u32; 7] = [0, 4, 5, 6, 9, 10, 11];
 
 /// Whether only bytes, a state, a map or a forecast show the fault that no pupil's keeper meets.
 fn not_asked(variant: &Variant) -> bool {
-    const PLACES: [&str; 9] = [
+    const PLACES: [&str; 10] = [
         "refusal 1",
         "refusal 2",
         "refusal 3",
@@ -23,6 +23,7 @@ fn not_asked(variant: &Variant) -> bool {
         "order of refusals",
         keeper_variants::MAP,
         keeper_variants::FORECAST,
+        keeper_variants::VERSIONS,
     ];
     const FLAGS: [&str; 2] = [
         "flags of a sync info are looked at in a sync info only",

@@ -102,6 +102,17 @@ fn taking_any_peer_for_the_sync_peer() {
 }
 
 #[test]
+fn knowing_a_type_by_its_low_byte() {
+    caught(
+        "type-by-its-low-byte",
+        &[
+            "from peer 1, type 258, ids ..0001",
+            "F-6: \"no other type is requested from an announcement\"",
+        ],
+    );
+}
+
+#[test]
 fn the_right_ones_pass() {
     for right in ["none", "core"] {
         let (verdict, report) = judged(&shipped(right), &few_streams());

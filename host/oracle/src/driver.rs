@@ -1,12 +1,13 @@
 //! One step: lay out its inputs, arm one wake, run the Rust up to its next parking place, read it off.
 
 use crate::delivery::{DeliveryControl, DeliveryData};
+use crate::domain::byte;
 use crate::parked::Parked;
 use crate::quiet;
 use crate::scene::{self, Scene, Stop};
 use crate::standins::{Chain, Store, Transport, Validator};
 use crate::state::{probe, HeaderSync, SyncConfig};
-use crate::{Observed, Reason, Verdict};
+use crate::{holds, takes, Observed, Reason, Verdict};
 use enr_p2p::protocol::messages::ProtocolMessage;
 use enr_p2p::protocol::peer::ProtocolEvent;
 use enr_p2p::types::PeerId;
@@ -103,9 +104,9 @@ impl Oracle {
     }
 
     /// A machine brought to the parking place of this state, with its fields put in. `None` where the Rust has no such
-    /// place: both marks at once.
+    /// place, both marks at once, or no such type.
     pub fn put(state: &State) -> Option<Self> {
-        if state.progress_mark && state.entry_mark {
+        if state.progress_mark && state.entry_mark || !holds(state) {
             return None;
         }
         let mut oracle = Self::open(state.settings, 0, 0)?;
@@ -162,6 +163,9 @@ impl Oracle {
 
     /// Why the Rust has no say in this step, where that is known beforehand.
     fn outside(&self, call: &Call) -> Option<Reason> {
+        if !takes(call) {
+            return Some(Reason::WideTypes);
+        }
         if call.kind == kinds::END_OF_STREAM && self.stop == Some(Stop::Pick) {
             return Some(Reason::EndWithoutPick);
         }
@@ -245,7 +249,7 @@ impl Oracle {
         tokio::driver::arm(timer);
         match call.kind {
             kinds::NEEDED => self.control.push(DeliveryControl::NeedModifier {
-                type_id: call.type_id,
+                type_id: byte(call.type_id),
                 id: call.ids.first().copied().unwrap_or_default(),
             }),
             kinds::REORG => self.control.push(DeliveryControl::Reorg {
@@ -275,7 +279,7 @@ impl Oracle {
         let message = |message| Some(Some(ProtocolEvent::Message { peer_id, message }));
         match call.kind {
             kinds::ANNOUNCED => message(ProtocolMessage::Inv {
-                modifier_type: call.type_id,
+                modifier_type: byte(call.type_id),
                 ids: call.ids.clone(),
             }),
             kinds::SYNC_INFO => message(ProtocolMessage::SyncInfo { body: vec![1] }),
@@ -284,11 +288,11 @@ impl Oracle {
                 1 => message(ProtocolMessage::Peers { body: Vec::new() }),
                 2 => message(ProtocolMessage::ModifierResponse { body: Vec::new() }),
                 3 => message(ProtocolMessage::Unknown {
-                    code: call.type_id,
+                    code: byte(call.type_id),
                     body: Vec::new(),
                 }),
                 _ => message(ProtocolMessage::ModifierRequest {
-                    modifier_type: call.type_id,
+                    modifier_type: byte(call.type_id),
                     ids: call.ids.clone(),
                 }),
             },

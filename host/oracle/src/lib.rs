@@ -3,9 +3,11 @@
 //!
 //! Where the source is not at hand the crate still builds, and `Oracle` can't be made.
 
+mod domain;
 mod tracker;
 mod verdict;
 
+pub use domain::{holds, takes};
 pub use tracker::{Maps, Tracker};
 pub use verdict::{Observed, Reason, Sent, Verdict};
 

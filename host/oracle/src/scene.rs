@@ -3,7 +3,7 @@
 use crate::{Sent, FUNCTIONS};
 use enr_p2p::protocol::peer::ProtocolEvent;
 use keeper_values::numbers::{commands, types};
-use keeper_values::{Call, Command, Id};
+use keeper_values::{Call, Command, Id, TypeId};
 use std::cell::RefCell;
 use std::panic::Location;
 
@@ -48,7 +48,7 @@ pub struct Batches {
 #[derive(Debug, Clone, Copy, PartialEq, Eq)]
 enum BatchKey {
     List(u32),
-    Retry(u64, u8),
+    Retry(u64, TypeId),
     Alone,
 }
 
@@ -92,7 +92,7 @@ impl Scene {
                 if std::mem::take(&mut self.batches.list_sent) {
                     self.batches.list += 1;
                 }
-                !self.in_window && self.call.stored.contains(&(type_id, *id))
+                !self.in_window && self.call.stored.contains(&(type_id.into(), *id))
             }
             _ => {
                 self.surprise = Some("a flag was asked from an unknown place");
@@ -111,6 +111,7 @@ impl Scene {
         ids: Vec<Id>,
         failed: bool,
     ) {
+        let type_id = TypeId::from(type_id);
         let key = match (function, kind) {
             ("request_announced", commands::REQUEST) => {
                 self.batches.list_sent = true;

@@ -1,5 +1,6 @@
 //! The original's three traits, answered from the scene.
 
+use crate::domain::byte;
 use crate::scene::{self, Scene, Stop};
 use crate::traits::{SyncChain, SyncStore, SyncTransport};
 use enr_chain::{BlockId, ChainError, Header, SyncInfo};
@@ -8,7 +9,7 @@ use enr_p2p::protocol::peer::ProtocolEvent;
 use enr_p2p::types::PeerId;
 use ergo_validation::{Applied, BlockValidator, Parameters, StatePersistence, ValidationError};
 use keeper_values::numbers::commands;
-use keeper_values::{Id, Row};
+use keeper_values::{Id, Place, Row};
 use std::error::Error;
 use std::future::{poll_fn, ready, Future};
 use std::panic::Location;
@@ -129,6 +130,11 @@ impl SyncStore for Store {
     }
 }
 
+/// A section as the Rust's header lists it.
+fn place(place: &Place) -> (u8, Id, bool) {
+    (byte(place.type_id), place.id, place.stored)
+}
+
 impl SyncChain for Chain {
     async fn chain_height(&self) -> u32 {
         scene::with(|scene| scene.call.height)
@@ -142,7 +148,7 @@ impl SyncChain for Chain {
         scene::with(|scene| match scene.call.view.row(height) {
             Some(Row::Present(places)) => Some(Header::with_sections(
                 height,
-                places.iter().map(|p| (p.type_id, p.id, p.stored)).collect(),
+                places.iter().map(place).collect(),
             )),
             Some(Row::Absent) => None,
             None => {

@@ -1,6 +1,6 @@
 //! The original's tracker by its own operations on whole lists, to be timed.
 
-use keeper_values::Id;
+use keeper_values::{Id, TypeId};
 use std::collections::HashSet;
 
 /// The maps in which it holds what is pending.
@@ -19,7 +19,7 @@ pub trait Tracker {
     /// The ids that are not pending, as `request_announced` picks them.
     fn wanted(&self, ids: &[Id]) -> Vec<Id>;
 
-    fn mark_requested(&mut self, ids: &[Id], peer: u64, type_id: u8);
+    fn mark_requested(&mut self, ids: &[Id], peer: u64, type_id: TypeId);
 
     /// `mark_received` of each.
     fn mark_received(&mut self, ids: &[Id]);

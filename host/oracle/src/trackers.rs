@@ -1,9 +1,10 @@
 //! The original's tracker with ordered maps and as it was published.
 
+use crate::domain::byte;
 use crate::tracker::{Maps, Open, Tracker};
 use crate::{delivery, delivery_as_published};
 use enr_p2p::types::PeerId;
-use keeper_values::Id;
+use keeper_values::{Id, TypeId};
 use std::collections::{BTreeMap, HashMap};
 use tokio::time::Duration;
 
@@ -20,8 +21,8 @@ macro_rules! tracker_with {
                 wanted
             }
 
-            fn mark_requested(&mut self, ids: &[Id], peer: u64, type_id: u8) {
-                self.mark_requested(ids, PeerId(peer), type_id);
+            fn mark_requested(&mut self, ids: &[Id], peer: u64, type_id: TypeId) {
+                self.mark_requested(ids, PeerId(peer), byte(type_id));
             }
 
             fn mark_received(&mut self, ids: &[Id]) {

@@ -43,4 +43,6 @@ pub enum Reason {
     NoSuchPlace,
     /// D-3 (F-5): an empty header list from another peer than the sync peer.
     EmptyHeaders,
+    /// D-4 (F-6): a type above 255, pending or in the call.
+    WideTypes,
 }

@@ -55,7 +55,7 @@ pub fn search(read: Read, cutting: &[&str]) -> Searched {
                 searched.faults.push(format!("{place}: {}", line.trim()));
             }
             // `f::<32>(..)` is a call of `f`.
-            let code = code.replace("::<", "<");
+            let code = opened(&code.replace("::<", "<"));
             for path in paths(&code) {
                 if SUMS_OF_THE_LIBRARY.contains(&path) {
                     continue;
@@ -99,6 +99,19 @@ fn names_division(code: &str) -> bool {
         .any(|part| PARTS_OF_NAMES.contains(&part))
 }
 
+/// A `use` with one list in braces as a `use` of each name; any other line as it is.
+fn opened(code: &str) -> String {
+    let list = code.trim().strip_prefix("use ");
+    let parts = list.and_then(|list| list.strip_suffix("};")?.split_once("::{"));
+    match parts {
+        Some((path, names)) if !names.contains(['{', '}']) => names
+            .split(", ")
+            .map(|name| format!("use {path}::{name};"))
+            .collect(),
+        _ => code.to_string(),
+    }
+}
+
 /// The paths of a line of code. `ghost use` names definitions, where no code runs.
 fn paths(code: &str) -> Vec<&str> {
     if code.trim_start().starts_with("ghost use") {
@@ -110,7 +123,7 @@ fn paths(code: &str) -> Vec<&str> {
 }
 
 /// The files that a path in a file may lead to: `a::b::f` to the module `b` of crate `a`, `a::f` to the crate's root, and
-/// either to a module of its last name. Lists in braces and stars lead to none, so that they are noticed.
+/// either to a module of its last name. Lists within lists and stars lead to none, so that they are noticed.
 fn led(read: Read, file: &str, path: &str) -> Vec<String> {
     let (name, item) = path.split_once("::").unwrap_or_default();
     if name.is_empty() || item.split("::").any(str::is_empty) {

@@ -104,7 +104,7 @@ fn calls_are_followed_all_the_way() {
         (CUT, "crate::chunk::next(ids);\nput(ids);"),
         (
             "crates/cut/src/chunk.rt",
-            "use sizes::RUN;\nghost use Prim::Nat;\n// fields::none()",
+            "use sizes::{RUN, runs::MOST};\nghost use Prim::Nat;\n// fields::none()",
         ),
         ("crates/cut/src/other.rt", "uncalled / 2"),
         ("crates/sizes/src/lib.rt", "fields::bytes::write(out, 400)"),
@@ -113,6 +113,7 @@ fn calls_are_followed_all_the_way() {
             "out[0] = n >> 8;\nout[1] = n % 256;",
         ),
         ("crates/fields/src/lib.rt", "uncalled / 2"),
+        ("crates/sizes/src/runs.rt", "400"),
     ];
     let searched = searched_in(&files);
     let expected = ["crates/fields/src/bytes.rt:2: out[1] = n % 256;"];
@@ -122,6 +123,7 @@ fn calls_are_followed_all_the_way() {
         CUT,
         "crates/fields/src/bytes.rt",
         "crates/sizes/src/lib.rt",
+        "crates/sizes/src/runs.rt",
     ];
     assert_eq!(Vec::from_iter(searched.files), expected);
 }
@@ -139,7 +141,8 @@ fn a_path_that_leads_nowhere_is_told() {
         ("crate::chunk::next(ids)", "crate::chunk::next"),
         ("chunk::next(ids)", "chunk::next"),
         ("use sizes::gone::RUN;", "sizes::gone::RUN"),
-        ("use sizes::{RUN, WIDTH};", "sizes::"),
+        ("use sizes::{RUN, gone::WIDTH};", "sizes::gone::WIDTH"),
+        ("use sizes::{RUN, {WIDTH}};", "sizes::"),
         ("use sizes::*;", "sizes::"),
         ("u64::from(n)", "u64::from"),
     ] {

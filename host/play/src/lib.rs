@@ -98,7 +98,7 @@ impl<'k> Player<'k> {
                 self.keep(area, number)?;
                 let mut lines = vec![Line::Answer(vec![number])];
                 if number == 0 {
-                    lines.push(state_line(self.read()?));
+                    lines.push(self.whole_state()?);
                 }
                 return Ok(lines);
             }
@@ -171,12 +171,17 @@ impl<'k> Player<'k> {
         let commands = read_commands(written).ok_or("the commands end within one")?;
         lines.extend(commands.into_iter().map(Line::Command));
         self.keep(area, 0)?;
+        lines.push(self.whole_state()?);
+        Ok(lines)
+    }
+
+    /// What a finished call left: the one image of a state.
+    fn whole_state(&self) -> Result<Line, String> {
         let state = self.read()?;
         if image::write(&state) != self.state {
             return Err("the state area is not the one image of its state".to_string());
         }
-        lines.push(state_line(state));
-        Ok(lines)
+        Ok(state_line(state))
     }
 
     fn ask(&mut self, flag: u8) -> Result<Vec<Line>, String> {

@@ -2,7 +2,7 @@
 
 use crate::Run;
 use keeper_values::numbers::types;
-use keeper_values::{Id, Request, Settings};
+use keeper_values::{Id, Request, Settings, TypeId};
 use std::collections::BTreeMap;
 
 /// "Expired: clock − stamp >= timeout."
@@ -11,7 +11,7 @@ pub fn expired(settings: &Settings, clock: u64, stamp: u64) -> bool {
 }
 
 /// "an expired transaction is forgotten"
-pub fn forgotten_when_undelivered(type_id: u8) -> bool {
+pub fn forgotten_when_undelivered(type_id: TypeId) -> bool {
     type_id == types::TRANSACTION
 }
 
@@ -29,7 +29,7 @@ pub fn retried_stamp(_: &Settings, clock: u64, _: u64) -> u64 {
 #[derive(Debug, Clone, PartialEq, Eq)]
 pub struct Retry {
     pub id: Id,
-    pub type_id: u8,
+    pub type_id: TypeId,
     pub failed_peer: u64,
 }
 
@@ -73,7 +73,7 @@ pub fn check_timeouts(run: &mut Run) -> Check {
     check
 }
 
-pub fn mark_requested(run: &mut Run, ids: &[Id], peer: u64, type_id: u8) {
+pub fn mark_requested(run: &mut Run, ids: &[Id], peer: u64, type_id: TypeId) {
     for id in ids {
         let request = Request {
             peer,
@@ -109,8 +109,8 @@ pub fn schedule_rerequest(run: &mut Run, ids: &[Id]) {
 }
 
 /// "drops that peer's ids and gives back the non-transactions", by type.
-pub fn purge_peer(run: &mut Run, peer: u64) -> BTreeMap<u8, Vec<Id>> {
-    let mut orphans = BTreeMap::<u8, Vec<Id>>::new();
+pub fn purge_peer(run: &mut Run, peer: u64) -> BTreeMap<TypeId, Vec<Id>> {
+    let mut orphans = BTreeMap::<TypeId, Vec<Id>>::new();
     run.state.pending.retain(|id, request| {
         if request.peer == peer && request.type_id != types::TRANSACTION {
             orphans.entry(request.type_id).or_default().push(*id);

@@ -4,7 +4,8 @@ use crate::commands::Commands;
 use crate::inputs::Inputs;
 use crate::{image, Refusal, Rules, Run};
 use keeper_values::numbers::{kinds, limits, types};
-use keeper_values::{Answer, Arguments, Id, Mode, Settings, State, COMMAND_BYTES, STATE_BYTES};
+use keeper_values::{Answer, Arguments, Id, Mode, Settings, State, TypeId};
+use keeper_values::{COMMAND_BYTES, STATE_BYTES};
 use std::collections::{BTreeMap, BTreeSet};
 
 pub fn state_length_fits(length: usize) -> bool {
@@ -40,8 +41,9 @@ pub fn open(rules: &Rules, state: &mut [u8], settings: Settings, clock: u64, hei
     if !(rules.state_length_fits)(state.len()) {
         return 1;
     }
-    let image = image::write(&(rules.opened)(settings, clock, height));
-    state.copy_from_slice(&image);
+    let opened = (rules.opened)(settings, clock, height);
+    let area = (rules.rewritten)(state, &opened);
+    state.copy_from_slice(&area);
     0
 }
 
@@ -154,7 +156,8 @@ pub fn step(rules: &Rules, state: &mut [u8], commands: &mut [u8], call: &Argumen
     });
     match finished {
         Ok((after, written, answer)) => {
-            state.copy_from_slice(&image::write(&after));
+            let area = (rules.rewritten)(state, &after);
+            state.copy_from_slice(&area);
             commands[..written.len()].copy_from_slice(&written);
             answer
         }
@@ -163,7 +166,7 @@ pub fn step(rules: &Rules, state: &mut [u8], commands: &mut [u8], call: &Argumen
 }
 
 /// "each evicted id as a header, or each non-transaction id pending from the sync peer [..] no sync peer, no pairs"
-pub fn pairs(state: &State, flag: u8) -> BTreeSet<(u8, Id)> {
+pub fn pairs(state: &State, flag: u8) -> BTreeSet<(TypeId, Id)> {
     let Some(sync_peer) = state.sync_peer else {
         return BTreeSet::new();
     };
@@ -189,7 +192,7 @@ pub fn question(rules: &Rules, state: &[u8], commands: &mut [u8], flag: u8) -> (
     };
     let mut written = Vec::new();
     for (type_id, id) in asked {
-        written.push(type_id);
+        written.extend(type_id.to_be_bytes());
         written.extend(id);
     }
     commands[..written.len()].copy_from_slice(&written);

@@ -1,18 +1,15 @@
 //! F-3: what a step would need. The step on a copy of the state, with a command area of its own; its figures alone are kept.
 
 use crate::{entries, Rules};
+use keeper_values::numbers::widths::{HEADER, ID};
 use keeper_values::{Answer, Arguments, Forecast, COMMAND_BYTES};
 
-/// Bytes of a command before its ids; the last four of them say how many ids there are.
-const HEAD: usize = 16;
-const ID: usize = 32;
-
-/// "the number of commands": each is passed over by the count of its ids.
+/// "the number of commands": each is passed over by the count of its ids, the last four bytes of its header.
 pub fn count_commands(written: &[u8]) -> u32 {
     let mut commands = 0;
     let mut rest = written;
-    while let Some((head, after)) = rest.split_first_chunk::<HEAD>() {
-        let [.., a, b, c, d] = *head;
+    while let Some((header, after)) = rest.split_first_chunk::<HEADER>() {
+        let [.., a, b, c, d] = *header;
         let ids = u32::from_be_bytes([a, b, c, d]) as usize;
         // Only a faulty variant says more than there are.
         rest = after.get(ID * ids..).unwrap_or_default();

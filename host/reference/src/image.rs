@@ -1,16 +1,19 @@
-//! The state area (docs/LAYOUT.md, "State area, version 1"): the tests of 2, reading and writing.
+//! The state area (docs/LAYOUT.md, "State area, version 2"): the tests of 2, reading and writing. An area of version 1 is read
+//! as well, and version 2 written.
 
 use crate::Rules;
+use keeper_values::numbers::widths::{ID, PEER, RECORD, TYPE};
 use keeper_values::numbers::{limits, types};
-use keeper_values::{Id, Mode, Request, Settings, State, STATE_BYTES};
+use keeper_values::{Id, Mode, Request, Settings, State, TypeId, STATE_BYTES};
 
 const MARK: &[u8] = b"EDT";
-const VERSION: u64 = 1;
+const VERSION: u16 = 2;
+/// Before F-6: a type took the low byte of its field, the high one was unused.
+const BYTE_TYPES: u16 = 1;
 const STALLED: usize = 512;
 const REGION: usize = 2_560;
-const RECORD: usize = 54;
-const ID: usize = 32;
-const PEER: usize = 8;
+/// The place of a record's type.
+const TYPE_AT: usize = ID + PEER;
 
 pub(crate) fn number(bytes: &[u8], at: usize, width: usize) -> u64 {
     bytes[at..at + width]
@@ -56,7 +59,7 @@ fn id(bytes: &[u8]) -> Id {
 fn request(record: &[u8]) -> Request {
     Request {
         peer: number(record, 32, 8),
-        type_id: record[41],
+        type_id: number(record, TYPE_AT, TYPE) as TypeId,
         stamp: number(record, 42, 8),
         checks: number32(record, 50),
     }
@@ -75,8 +78,18 @@ pub fn mark_fits(area: &[u8]) -> bool {
     area.starts_with(MARK)
 }
 
+fn version(area: &[u8]) -> u16 {
+    number(area, 3, 2) as u16
+}
+
+/// "A version 1 image is still accepted [..] any other version is number 2 as before."
 pub fn version_fits(area: &[u8]) -> bool {
-    number(area, 3, 2) == VERSION
+    matches!(version(area), BYTE_TYPES | VERSION)
+}
+
+/// In version 1 the high byte of each type is unused.
+pub fn high_bytes_fit(area: &[u8]) -> bool {
+    version(area) != BYTE_TYPES || records(area).all(|record| record[TYPE_AT] == 0)
 }
 
 pub fn mode_fits(area: &[u8]) -> bool {
@@ -130,7 +143,7 @@ pub fn checks_fit(area: &[u8]) -> bool {
     })
 }
 
-/// Zero: the sync peer where there is none, what is kept for later, places beyond a count, types' high bytes.
+/// Zero: the sync peer where there is none, what is kept for later, places beyond a count.
 pub fn unused_zero(area: &[u8]) -> bool {
     let sync_peer =
         Mode::from_number(area[5]).is_some_and(Mode::has_sync_peer) || zero(&area[48..56]);
@@ -138,7 +151,6 @@ pub fn unused_zero(area: &[u8]) -> bool {
     sync_peer
         && zero(&area[74..STALLED])
         && zero(&area[STALLED + PEER * stalled_count(area)..REGION])
-        && records(area).all(|record| record[40] == 0)
         && area.get(region).is_none_or(zero)
 }
 
@@ -156,6 +168,7 @@ pub fn read(rules: &Rules, area: &[u8]) -> Option<State> {
         rules.ids_rise,
         rules.stamps_fit,
         rules.checks_fit,
+        rules.high_bytes_fit,
         rules.unused_zero,
     ];
     if !tests.iter().all(|test| test(area)) {
@@ -188,7 +201,7 @@ pub fn write(state: &State) -> Vec<u8> {
     let mut area = vec![0; STATE_BYTES];
     let mut put = |at: usize, bytes: &[u8]| area[at..at + bytes.len()].copy_from_slice(bytes);
     put(0, MARK);
-    put(3, &(VERSION as u16).to_be_bytes());
+    put(3, &VERSION.to_be_bytes());
     put(5, &[state.mode.number()]);
     put(6, &[u8::from(state.progress_mark)]);
     put(7, &[u8::from(state.entry_mark)]);
@@ -213,7 +226,7 @@ pub fn write(state: &State) -> Vec<u8> {
         let at = REGION + RECORD * index;
         put(at, id);
         put(at + 32, &request.peer.to_be_bytes());
-        put(at + 40, &u16::from(request.type_id).to_be_bytes());
+        put(at + TYPE_AT, &request.type_id.to_be_bytes());
         put(at + 42, &request.stamp.to_be_bytes());
         put(at + 50, &request.checks.to_be_bytes());
     }
@@ -221,4 +234,9 @@ pub fn write(state: &State) -> Vec<u8> {
         put(STATE_BYTES - ID * (index + 1), id);
     }
     area
+}
+
+/// What opening and every finished step leave: the newest version, whichever the area had before.
+pub fn rewritten(_before: &[u8], state: &State) -> Vec<u8> {
+    write(state)
 }

@@ -1,14 +1,10 @@
 //! The lists and the view lent to a call: the tests of 6, 7 and 8, and reading them.
 
 use keeper_values::numbers::limits;
-use keeper_values::{Arguments, Id, Place, Row};
+use keeper_values::numbers::widths::{ID, PAIR, PEER, PLACE, ROW, TYPE};
+use keeper_values::{Arguments, Id, Place, Row, TypeId};
 use std::collections::BTreeSet;
 
-const ID: usize = 32;
-const PEER: usize = 8;
-const PAIR: usize = 33;
-const ROW: usize = 103;
-const PLACE: usize = 34;
 const ABSENT: u8 = 255;
 
 fn entries_fit(bytes: &[u8], width: usize, most: usize) -> bool {
@@ -58,7 +54,7 @@ pub fn row_fits(row: &[u8]) -> bool {
         _ => return false,
     };
     let (places, unused) = row[1..].split_at(used * PLACE);
-    places.chunks_exact(PLACE).all(|place| place[33] <= 1) && unused.iter().all(|b| *b == 0)
+    places.chunks_exact(PLACE).all(|place| place[PAIR] <= 1) && unused.iter().all(|b| *b == 0)
 }
 
 /// A step's arguments, once they have passed the tests.
@@ -68,14 +64,14 @@ pub struct Inputs<'a> {
     pub gate: bool,
     pub height: u32,
     pub peer: u64,
-    pub type_id: u8,
+    pub type_id: TypeId,
     pub fork: u32,
     pub parsed: bool,
     /// The peer's tip; it and the continuation ids are read only if parsing worked.
     pub tip: Option<u32>,
     pub ids: Vec<Id>,
     pub continuation: Vec<Id>,
-    pub stored: BTreeSet<(u8, Id)>,
+    pub stored: BTreeSet<(TypeId, Id)>,
     pub peers: Vec<u64>,
     view: &'a [u8],
 }
@@ -84,6 +80,11 @@ fn id(bytes: &[u8]) -> Id {
     let mut id = [0; ID];
     id.copy_from_slice(bytes);
     id
+}
+
+/// The type that a pair or a place begins with.
+fn type_id(bytes: &[u8]) -> TypeId {
+    TypeId::from_be_bytes([bytes[0], bytes[1]])
 }
 
 impl<'a> Inputs<'a> {
@@ -105,7 +106,7 @@ impl<'a> Inputs<'a> {
             stored: arguments
                 .stored
                 .chunks_exact(PAIR)
-                .map(|pair| (pair[0], id(&pair[1..])))
+                .map(|pair| (type_id(pair), id(&pair[TYPE..])))
                 .collect(),
             peers: arguments.peers.chunks_exact(PEER).map(peer).collect(),
             view: &arguments.view,
@@ -127,9 +128,9 @@ pub fn row(view: &[u8], height: u32) -> Option<Row> {
     }
     let places = row[1..].chunks_exact(PLACE).take(usize::from(row[0]));
     let place = |place: &[u8]| Place {
-        type_id: place[0],
-        id: id(&place[1..33]),
-        stored: place[33] == 1,
+        type_id: type_id(place),
+        id: id(&place[TYPE..PAIR]),
+        stored: place[PAIR] == 1,
     };
     Some(Row::Present(places.map(place).collect()))
 }

@@ -1,4 +1,4 @@
-//! Every decision of the reference as a field. [`PLAIN`] is document 01 with F-1 to F-4; a variant is
+//! Every decision of the reference as a field. [`PLAIN`] is document 01 with F-1 to F-6; a variant is
 //! `Rules { one: .., ..PLAIN }`.
 
 use crate::delivery::{Check, Retry};
@@ -8,7 +8,7 @@ use crate::steps::Outcome;
 use crate::sync::Stored;
 use crate::{commands, delivery, entries, forecast, image, inputs, map, steps, sync};
 use crate::{Refusal, Run};
-use keeper_values::{Arguments, Forecast, Id, Mode, Row, Settings, State};
+use keeper_values::{Arguments, Forecast, Id, Mode, Row, Settings, State, TypeId};
 use std::collections::{BTreeMap, BTreeSet};
 use std::ops::RangeInclusive;
 
@@ -32,7 +32,7 @@ macro_rules! rules {
 type AreaTest = fn(&[u8]) -> bool;
 type ListTest = fn(&[u8]) -> bool;
 type Step = fn(&mut Run) -> Outcome;
-type Orphans = BTreeMap<u8, Vec<Id>>;
+type Orphans = BTreeMap<TypeId, Vec<Id>>;
 type Heights = RangeInclusive<u64>;
 
 rules! {
@@ -46,7 +46,9 @@ rules! {
         ids_rise: AreaTest,
         stamps_fit: AreaTest,
         checks_fit: AreaTest,
+        high_bytes_fit: AreaTest,
         unused_zero: AreaTest,
+        rewritten: fn(&[u8], &State) -> Vec<u8>,
     }
     inputs {
         ids_fit: ListTest,
@@ -66,11 +68,11 @@ rules! {
         failure_fits: fn(&State, u8) -> bool,
         arguments_fit: fn(&Rules, &State, &Arguments) -> Result<(), Refusal>,
         result_fits: fn(&Before, &State) -> Result<(), Refusal>,
-        pairs: fn(&State, u8) -> BTreeSet<(u8, Id)>,
+        pairs: fn(&State, u8) -> BTreeSet<(TypeId, Id)>,
     }
     commands {
         runs: fn(&[Id]) -> Vec<&[Id]>,
-        requests: fn(&mut Run, u64, u8, &[Id]),
+        requests: fn(&mut Run, u64, TypeId, &[Id]),
     }
     forecast {
         count_commands: fn(&[u8]) -> u32,
@@ -78,11 +80,11 @@ rules! {
     }
     delivery {
         expired: fn(&Settings, u64, u64) -> bool,
-        forgotten_when_undelivered: fn(u8) -> bool,
+        forgotten_when_undelivered: fn(TypeId) -> bool,
         given_up: fn(&Settings, u32) -> bool,
         retried_stamp: fn(&Settings, u64, u64) -> u64,
         check_timeouts: fn(&mut Run) -> Check,
-        mark_requested: fn(&mut Run, &[Id], u64, u8),
+        mark_requested: fn(&mut Run, &[Id], u64, TypeId),
         mark_retried: fn(&mut Run, &[Id], u64),
         mark_received: fn(&mut Run, &[Id]),
         schedule_rerequest: fn(&mut Run, &[Id]),
@@ -93,15 +95,15 @@ rules! {
         select_peer: fn(&mut State, &[u64]) -> Option<u64>,
         throttled: fn(&State, u64) -> bool,
         send_sync_info: fn(&mut Run, u64) -> bool,
-        needed: fn(&Run, u8, &[Id], Stored) -> Vec<Id>,
-        request_announced: fn(&mut Run, u64, u8, &[Id], Stored),
+        needed: fn(&Run, TypeId, &[Id], Stored) -> Vec<Id>,
+        request_announced: fn(&mut Run, u64, TypeId, &[Id], Stored),
         window_end: fn(u32, u32) -> u32,
         window: fn(&Run) -> Result<Orphans, Refusal>,
         request_next_sections: fn(&mut Run) -> Result<(), Refusal>,
         complete: fn(&Row) -> bool,
         advance_downloaded_height: fn(&mut Run) -> Result<(), Refusal>,
         retry_target: fn(&[u64], &[u64], u64) -> u64,
-        retry_batches: fn(&Run, &[Retry]) -> Vec<(u64, u8, Vec<Id>)>,
+        retry_batches: fn(&Run, &[Retry]) -> Vec<(u64, TypeId, Vec<Id>)>,
         send_retries: fn(&mut Run, &[Retry]),
         send_fresh: fn(&mut Run, &[Id]),
         handle_delivery_check: fn(&mut Run),

@@ -3,7 +3,7 @@
 use crate::delivery::Retry;
 use crate::{Refusal, Run};
 use keeper_values::numbers::{limits, types};
-use keeper_values::{Id, Place, Row, State};
+use keeper_values::{Id, Place, Row, State, TypeId};
 use std::collections::BTreeMap;
 
 /// By what rule 3 knows a stored id.
@@ -41,7 +41,7 @@ pub fn send_sync_info(run: &mut Run, peer: u64) -> bool {
 }
 
 /// Rule 3: "Drop ids pending before the call, then stored ones."
-pub fn needed(run: &Run, type_id: u8, ids: &[Id], stored: Stored) -> Vec<Id> {
+pub fn needed(run: &Run, type_id: TypeId, ids: &[Id], stored: Stored) -> Vec<Id> {
     let kept = |id: &&Id| {
         let known = stored == Stored::ByPairs && run.inputs.stored.contains(&(type_id, **id));
         !run.state.pending.contains_key(*id) && !known
@@ -50,7 +50,7 @@ pub fn needed(run: &Run, type_id: u8, ids: &[Id], stored: Stored) -> Vec<Id> {
 }
 
 /// Rule 3: "Mark the rest, then send".
-pub fn request_announced(run: &mut Run, peer: u64, type_id: u8, ids: &[Id], stored: Stored) {
+pub fn request_announced(run: &mut Run, peer: u64, type_id: TypeId, ids: &[Id], stored: Stored) {
     if !run.inputs.gate {
         return;
     }
@@ -68,9 +68,9 @@ pub fn window_end(downloaded: u32, height: u32) -> u32 {
 }
 
 /// Rule 4: the places to ask for, from downloaded + 1 "up to the first absent header", by type.
-pub fn window(run: &Run) -> Result<BTreeMap<u8, Vec<Id>>, Refusal> {
+pub fn window(run: &Run) -> Result<BTreeMap<TypeId, Vec<Id>>, Refusal> {
     let end = (run.rules.window_end)(run.state.downloaded, run.inputs.height);
-    let mut missing = BTreeMap::<u8, Vec<Id>>::new();
+    let mut missing = BTreeMap::<TypeId, Vec<Id>>::new();
     let mut height = run.state.downloaded;
     while height < end {
         height += 1;
@@ -132,9 +132,9 @@ pub fn retry_target(stalled: &[u64], peers: &[u64], failed: u64) -> u64 {
     other.copied().unwrap_or(failed)
 }
 
-/// Rule 6: "Batches go by target, then type".
-pub fn retry_batches(run: &Run, retries: &[Retry]) -> Vec<(u64, u8, Vec<Id>)> {
-    let mut batches = BTreeMap::<(u64, u8), Vec<Id>>::new();
+/// Rule 6: "Batches go by target, then type", the whole of it.
+pub fn retry_batches(run: &Run, retries: &[Retry]) -> Vec<(u64, TypeId, Vec<Id>)> {
+    let mut batches = BTreeMap::<(u64, TypeId), Vec<Id>>::new();
     for retry in retries {
         let (stalled, peers) = (&run.state.stalled, &run.inputs.peers);
         let target = (run.rules.retry_target)(stalled, peers, retry.failed_peer);

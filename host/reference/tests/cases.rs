@@ -2,7 +2,9 @@
 
 use keeper_reference::{delivery, image, steps, sync, Reference, PLAIN};
 use keeper_values::numbers::{kinds, outcomes};
-use keeper_values::{Answer, Call, Keeper, Mode, Place, Request, Row, Settings, State, View};
+use keeper_values::{
+    Answer, Call, Keeper, Mode, Place, Request, Row, Settings, State, TypeId, View,
+};
 
 const SETTINGS: Settings = Settings {
     timeout: 10_000,
@@ -55,7 +57,7 @@ fn check(state: &State, clock: u64) -> (Answer, State) {
     (answer, state)
 }
 
-fn one_pending(settings: Settings, type_id: u8) -> State {
+fn one_pending(settings: Settings, type_id: TypeId) -> State {
     let request = Request {
         peer: 4,
         type_id,

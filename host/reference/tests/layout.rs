@@ -35,7 +35,7 @@ fn holding(mode: Mode) -> State {
 #[test]
 fn opened_core() {
     let header = bytes(
-        "45 44 54 00 01 00 00 00  00 00 00 00 00 00 03 e8
+        "45 44 54 00 02 00 00 00  00 00 00 00 00 00 03 e8
          00 00 27 10 00 00 00 64  00 00 00 c8 00 00 ea 60
          00 00 00 00 00 00 03 e8  00 00 00 00 00 00 03 e8
          00 00 00 00 00 00 00 00  00 00 00 00 00 00 00 05",
@@ -92,14 +92,14 @@ fn lists_and_view() {
         ..Call::default()
     };
     let arguments = call.to_arguments();
-    assert_eq!(arguments.stored, [vec![0x66], vec![0xbb; 32]].concat());
+    assert_eq!(arguments.stored, [vec![0, 0x66], vec![0xbb; 32]].concat());
     assert_eq!(
         arguments.peers,
         bytes("00 00 00 00 00 00 00 04  00 00 00 00 00 00 00 05")
     );
-    let mut view = bytes("00 00 01 91  01 66");
+    let mut view = bytes("00 00 01 91  01 00 66");
     view.extend([0xcc; 32]);
-    view.extend([0; 69]);
+    view.extend([0; 71]);
     assert_eq!(arguments.view, view);
 }
 
@@ -126,12 +126,14 @@ fn commands() {
         ..Call::default()
     };
     let answer = Reference::plain().step(&mut state, &mut commands, &call.to_arguments());
-    assert_eq!(answer.numbers(), [0, 0, 0, 0, 0, 0, 1, 0, 64]);
-    let mut written = bytes("01 65 00 00  00 00 00 00 00 00 00 07  00 00 00 01");
+    assert_eq!(answer.numbers(), [0, 0, 0, 0, 0, 0, 1, 0, 66]);
+    let mut written = bytes("01 00 65 00 00  00 00 00 00 00 00 00 07  00 00 00 01");
     written.extend([0xdd; 32]);
-    written.extend(bytes("03 00 00 01  00 00 00 00 00 00 00 09  00 00 00 00"));
-    assert_eq!(commands[..64], written);
-    assert!(commands[64..].iter().all(|byte| *byte == 0x5a));
+    written.extend(bytes(
+        "03 00 00 00 01  00 00 00 00 00 00 00 09  00 00 00 00",
+    ));
+    assert_eq!(commands[..66], written);
+    assert!(commands[66..].iter().all(|byte| *byte == 0x5a));
 }
 
 #[test]
@@ -141,10 +143,10 @@ fn question() {
     let mut commands = vec![0x5a; 65_536];
     let area = image::write(&state);
     let answer = Reference::plain().question(&area, &mut commands, 0);
-    assert_eq!(answer, (0, 66));
-    let pairs = [vec![0x65], vec![0x11; 32], vec![0x65], vec![0xee; 32]].concat();
-    assert_eq!(commands[..66], pairs);
-    assert!(commands[66..].iter().all(|byte| *byte == 0x5a));
+    assert_eq!(answer, (0, 68));
+    let pair = |byte| [vec![0, 0x65], vec![byte; 32]].concat();
+    assert_eq!(commands[..68], [pair(0x11), pair(0xee)].concat());
+    assert!(commands[68..].iter().all(|byte| *byte == 0x5a));
     assert_eq!(Reference::plain().question(&area, &mut commands, 2), (5, 0));
 }
 

@@ -108,7 +108,7 @@ struct request_keeper_answer request_keeper_step(
     uint8_t gate,        /* 1: modifiers may be requested */
     uint32_t height,     /* chain height */
     uint64_t peer,       /* the sender of a message, or the peer that was lost */
-    uint8_t typeid_,     /* modifier type of the ids */
+    uint16_t typeid_,    /* modifier type of the ids */
     uint32_t fork,       /* fork point of a reorg */
     uint8_t parsed,      /* 1: the sync info could be parsed */
     uint8_t hastip,      /* 1: it has a tip */
@@ -127,7 +127,7 @@ struct request_keeper_foretold request_keeper_forecast(
     uint8_t gate,
     uint32_t height,
     uint64_t peer,
-    uint8_t typeid_,
+    uint16_t typeid_,
     uint32_t fork,
     uint8_t parsed,
     uint8_t hastip,

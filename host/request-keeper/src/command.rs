@@ -2,7 +2,8 @@ use crate::hex::{count, HexList};
 use crate::{Id, ModifierType, Peer};
 use std::fmt::{self, Debug, Display, Formatter};
 
-const HEADER: usize = 16;
+/// Bytes before the ids: kind, type, batch, peer, count.
+const HEADER: usize = 17;
 
 /// Something to send.
 #[derive(Debug, Clone, Copy, PartialEq, Eq)]
@@ -92,7 +93,7 @@ impl<'a> Iterator for Commands<'a> {
     /// The core writes whole commands of three kinds and no others; at anything else the commands end.
     fn next(&mut self) -> Option<Command<'a>> {
         let (header, after) = self.rest.split_first_chunk::<HEADER>()?;
-        let [kind, modifier_type, b0, b1, p0, p1, p2, p3, p4, p5, p6, p7, count @ ..] = *header;
+        let [kind, t0, t1, b0, b1, p0, p1, p2, p3, p4, p5, p6, p7, count @ ..] = *header;
         let length = usize::try_from(u32::from_be_bytes(count))
             .ok()?
             .checked_mul(32)?;
@@ -100,7 +101,7 @@ impl<'a> Iterator for Commands<'a> {
         let (ids, _) = bytes.as_chunks::<32>();
         let message = match kind {
             1 => Message::Request {
-                modifier_type: ModifierType::from_byte(modifier_type),
+                modifier_type: ModifierType::of_bytes([t0, t1]),
                 ids,
             },
             2 => Message::Announcement { ids },

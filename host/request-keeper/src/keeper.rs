@@ -58,7 +58,9 @@ impl RequestKeeper {
         Ok(keeper)
     }
 
-    /// The keeper that [`as_bytes`](Self::as_bytes) stored. Other bytes are refused by the core's own test of an image.
+    /// The keeper that [`as_bytes`](Self::as_bytes) stored, by this version of the crate or by one before it. Other bytes are
+    /// refused by the core's own test of an image. What an older version stored is kept as it is up to the first finished
+    /// step.
     pub fn from_bytes(image: &[u8]) -> Result<Self, Refusal> {
         let mut keeper = Self::with_state(image.into());
         keeper.question(Question::Check)?;
@@ -118,16 +120,16 @@ impl RequestKeeper {
     /// assert_eq!(keeper.forecast(Step::Pick, &now), Err(Refusal::WrongStep));
     /// let _ = keeper.step(Step::Start, &now)?;
     ///
-    /// // A pick would send one sync info, of 16 bytes.
+    /// // A pick would send one sync info, of 17 bytes.
     /// let forecast = keeper.forecast(Step::Pick, &now)?;
     /// assert_eq!((forecast.outcome, forecast.pending), (Outcome::Continue, 0));
-    /// assert_eq!((forecast.commands, forecast.command_bytes), (1, 16));
+    /// assert_eq!((forecast.commands, forecast.command_bytes), (1, 17));
     ///
     /// // The step then shows the same.
     /// let picked = keeper.step(Step::Pick, &now)?;
     /// assert_eq!((picked.answer.outcome, picked.answer.pending), (Outcome::Continue, 0));
     /// assert_eq!(picked.commands().count(), 1);
-    /// assert_eq!(picked.commands().as_bytes().len(), 16);
+    /// assert_eq!(picked.commands().as_bytes().len(), 17);
     /// # Ok::<(), Refusal>(())
     /// ```
     pub fn forecast(&self, step: Step<'_>, now: &Surroundings<'_>) -> Result<Forecast, Refusal> {

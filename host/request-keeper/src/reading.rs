@@ -35,12 +35,12 @@ impl PendingRequest {
     fn read(record: &[u8]) -> Option<Self> {
         let (id, rest) = record.split_first_chunk()?;
         let (peer, rest) = rest.split_first_chunk()?;
-        let ([_, modifier_type], rest) = rest.split_first_chunk()?;
+        let (modifier_type, rest) = rest.split_first_chunk()?;
         let (stamp, rest) = rest.split_first_chunk()?;
         Some(Self {
             id: *id,
             peer: Peer(u64::from_be_bytes(*peer)),
-            modifier_type: ModifierType::from_byte(*modifier_type),
+            modifier_type: ModifierType::of_bytes(*modifier_type),
             stamp: u64::from_be_bytes(*stamp),
             checks: u32::from_be_bytes(*rest.first_chunk()?),
         })

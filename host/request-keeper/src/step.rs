@@ -70,7 +70,7 @@ impl<'a> Step<'a> {
             Self::Pick => Arguments { kind: 2, ..none },
             Self::NeededModifier { modifier_type, id } => Arguments {
                 kind: 3,
-                typeid: modifier_type.byte(),
+                typeid: modifier_type.number(),
                 ids: id,
                 ..none
             },
@@ -86,7 +86,7 @@ impl<'a> Step<'a> {
             } => Arguments {
                 kind: 5,
                 peer: from.0,
-                typeid: modifier_type.byte(),
+                typeid: modifier_type.number(),
                 ids: ids.as_flattened(),
                 ..none
             },

@@ -1,8 +1,10 @@
+use crate::modifier_type::TYPE;
 use crate::{Hex, Id, ModifierType, Peer, View};
 use std::collections::BTreeSet;
 use std::fmt::{self, Debug, Display, Formatter};
 
-pub(crate) const PAIR: usize = 33;
+/// A type and an id.
+pub(crate) const PAIR: usize = TYPE + 32;
 
 /// What the node says of itself in a call.
 ///
@@ -70,7 +72,7 @@ impl StoredPairs {
     }
 
     fn push(&mut self, modifier_type: ModifierType, id: &Id) {
-        self.bytes.push(modifier_type.byte());
+        self.bytes.extend_from_slice(&modifier_type.bytes());
         self.bytes.extend_from_slice(id);
     }
 }
@@ -144,8 +146,8 @@ impl<'a> Iterator for Pairs<'a> {
 
     fn next(&mut self) -> Option<Self::Item> {
         let (pair, rest) = self.rest.split_first_chunk::<PAIR>()?;
-        let (modifier_type, id) = pair.split_first()?;
+        let (modifier_type, id) = pair.split_first_chunk()?;
         self.rest = rest;
-        Some((ModifierType::from_byte(*modifier_type), id.try_into().ok()?))
+        Some((ModifierType::of_bytes(*modifier_type), id.try_into().ok()?))
     }
 }

@@ -1,7 +1,10 @@
+use crate::surroundings::PAIR;
 use crate::{Id, ModifierType, Refusal, WindowMap};
 
 const FIRST: usize = 4;
-const ROW: usize = 103;
+/// A place of a row: type, id, and whether it is stored.
+pub(crate) const PLACE: usize = PAIR + 1;
+const ROW: usize = 1 + MOST_SECTIONS * PLACE;
 pub(crate) const ABSENT: u8 = 255;
 const MOST_SECTIONS: usize = 3;
 /// Heights that are requested at a time, and that a map has.
@@ -171,7 +174,7 @@ impl View {
         let end = self.bytes.len() + ROW;
         self.bytes.push(count);
         for section in sections {
-            self.bytes.push(section.modifier_type.byte());
+            self.bytes.extend_from_slice(&section.modifier_type.bytes());
             self.bytes.extend_from_slice(&section.id);
             self.bytes.push(u8::from(section.stored));
         }
@@ -214,7 +217,7 @@ mod tests {
         let mut view = View::from_height(7);
         for rows in 0..50 {
             assert_eq!(view.rows(), rows);
-            assert_eq!(view.as_bytes().len(), 4 + 103 * rows);
+            assert_eq!(view.as_bytes().len(), 4 + 106 * rows);
             assert_eq!(view.push_absent(), Ok(()));
         }
         assert_eq!(View::EMPTY.rows(), 0);

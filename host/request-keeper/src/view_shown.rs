@@ -1,10 +1,8 @@
 //! Views and sections as people read them: all of it, or in a few words.
 
-use crate::view::ABSENT;
+use crate::view::{ABSENT, PLACE};
 use crate::{Hex, ModifierType, Section, View};
 use std::fmt::{self, Debug, Display, Formatter};
-
-const PLACE: usize = 34;
 
 impl Debug for Section {
     fn fmt(&self, out: &mut Formatter<'_>) -> fmt::Result {
@@ -53,9 +51,9 @@ impl Debug for Row<'_> {
             _ => return out.write_str("absent"),
         };
         let section = |place: &[u8]| {
-            let (modifier_type, rest) = place.split_first()?;
+            let (modifier_type, rest) = place.split_first_chunk()?;
             Some(Section {
-                modifier_type: ModifierType::from_byte(*modifier_type),
+                modifier_type: ModifierType::of_bytes(*modifier_type),
                 id: *rest.first_chunk()?,
                 stored: place.last() == Some(&1),
             })

@@ -11,6 +11,10 @@
 #define SEVEN UINT64_C(0x0700000000000007)
 #define EIGHT UINT64_C(0x0800000000000008)
 
+/* Bytes of a view's row, and of one of its three places: type, id, stored. */
+#define PLACE (2 + 32 + 1)
+#define ROW (1 + 3 * PLACE)
+
 static uint8_t state[REQUEST_KEEPER_STATE_BYTES];
 static uint8_t commands[REQUEST_KEEPER_COMMAND_BYTES];
 
@@ -33,10 +37,26 @@ static struct list ids(uint8_t first, uint8_t count) {
     return list;
 }
 
-static struct list pair(uint8_t type, uint8_t id) {
+static void add_type(struct list *list, uint16_t type) {
+    add(list, (uint8_t)(type >> 8), 1);
+    add(list, (uint8_t)type, 1);
+}
+
+static struct list pair(uint16_t type, uint8_t id) {
     struct list list = {.length = 0};
-    add(&list, type, 1);
+    add_type(&list, type);
     add(&list, id, 32);
+    return list;
+}
+
+/* One id as three types. */
+static struct list pairs(uint16_t first, uint16_t second, uint16_t third, uint8_t id) {
+    struct list list = {.length = 0};
+    uint16_t types[3] = {first, second, third};
+    for (int index = 0; index < 3; index++) {
+        add_type(&list, types[index]);
+        add(&list, id, 32);
+    }
     return list;
 }
 
@@ -59,12 +79,12 @@ static struct list view(uint8_t first) {
 }
 
 /* A row of one section. */
-static void row(struct list *view, uint8_t type, uint8_t id, uint8_t stored) {
+static void row(struct list *view, uint16_t type, uint8_t id, uint8_t stored) {
     add(view, 1, 1);
-    add(view, type, 1);
+    add_type(view, type);
     add(view, id, 32);
     add(view, stored, 1);
-    add(view, 0, 68);
+    add(view, 0, ROW - 1 - PLACE);
 }
 
 static void hex(size_t length) {
@@ -92,7 +112,7 @@ struct call {
     uint8_t gate;
     uint32_t height;
     uint64_t peer;
-    uint8_t type;
+    uint16_t type;
     uint32_t fork;
     uint8_t parsed;
     uint8_t hastip;
@@ -137,18 +157,18 @@ static struct call at(uint8_t kind, uint64_t after) {
                         .gate = 1,
                         .height = 1,
                         .peer = UINT64_C(0x0900000000000009),
-                        .type = 77,
+                        .type = 0x4d02,
                         .fork = 2,
                         .tip = 3,
                         .ids = ids(0x21, 1),
                         .continuation = ids(0x22, 2),
-                        .stored = pair(99, 0x23),
+                        .stored = pair(0x6302, 0x23),
                         .peers = peers(UINT64_C(0x0a0000000000000a), UINT64_C(0x0b0000000000000b)),
                         .view = view(200)};
     return call;
 }
 
-static struct call announced(uint64_t after, uint8_t type, uint8_t first, uint8_t count) {
+static struct call announced(uint64_t after, uint16_t type, uint8_t first, uint8_t count) {
     struct call call = at(REQUEST_KEEPER_ANNOUNCED, after);
     call.peer = SENDER;
     call.type = type;
@@ -218,19 +238,21 @@ static void reorg(void) {
     call.peers = peers(EIGHT, SEVEN);
     call.view = view(4);
     row(&call.view, 108, 0x44, 1);
-    row(&call.view, 108, 0x55, 0);
+    row(&call.view, 0x6c66, 0x55, 0);
     step(call);
     call = at(REQUEST_KEEPER_RECEIVED, 24000);
     call.height = 5;
     call.ids = ids(0x55, 1);
     call.view = view(5);
-    row(&call.view, 108, 0x55, 1);
+    row(&call.view, 0x6c66, 0x55, 1);
     step(call);
     call = at(REQUEST_KEEPER_NEEDED_MODIFIER, 25000);
-    call.type = 104;
+    call.type = 0x6865;
     call.ids = ids(0x91, 1);
     step(call);
+    question(1);
     call = at(REQUEST_KEEPER_LOST_PEER, 26000);
+    call.stored = pairs(0x65, 0x68, 0x6568, 0x91);
     call.peer = SEVEN;
     call.peers = peers(EIGHT, 0);
     step(call);
@@ -249,7 +271,6 @@ static void ends(void) {
 
 #define DOWNLOADED UINT32_C(0x01020304)
 #define CHAIN_HEIGHT (DOWNLOADED + 194)
-#define ROW 103
 
 static uint8_t map[REQUEST_KEEPER_MAP_BYTES];
 
@@ -270,8 +291,9 @@ static void add_row(uint8_t count, uint8_t stored) {
     memset(row, 0, ROW);
     row[0] = count;
     for (int place = 0; count <= 3 && place < count; place++) {
-        memset(row + 1 + 34 * place, 102, 33);
-        row[34 + 34 * place] = stored >> place & 1;
+        uint8_t *bytes = row + 1 + PLACE * place;
+        memset(bytes, 102, PLACE - 1);
+        bytes[PLACE - 1] = stored >> place & 1;
     }
     rows_length += ROW;
 }
@@ -337,8 +359,10 @@ static void map_lengths(void) {
     size_t less = sizeof map - 1;
     passable(less);
     window();
+    size_t end = 4 + ROW;
     uint32_t first = fill(less, 3), second = slide(less, 2, 3);
-    uint32_t third = fill(sizeof map, 106), fourth = slide(sizeof map, 2, 106), fifth = fill(sizeof map, 107);
+    uint32_t third = fill(sizeof map, end - 1), fourth = slide(sizeof map, 2, end - 1);
+    uint32_t fifth = fill(sizeof map, end);
     printf("[%" PRIu32 ", %" PRIu32 ", %" PRIu32 ", %" PRIu32 ", %" PRIu32 "]\n", first, second, third, fourth, fifth);
 }
 

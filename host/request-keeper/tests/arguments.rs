@@ -8,7 +8,7 @@ use request_keeper::{
     Answer, Id, Mode, ModifierType, Outcome, Question, Refusal, Step, Surroundings, SyncInfo,
 };
 use scenario::{at, command, id, ids, row, view, Scenario};
-use scenario::{BASE, BLOCK, EIGHT, EXTENSION, HEADER, SENDER, SEVEN};
+use scenario::{BASE, BLOCK, EIGHT, EXTENSION, HEADER, NEEDED, SECTION, SENDER, SEVEN};
 use std::path::Path;
 use std::process::Command;
 
@@ -93,7 +93,7 @@ fn sync_infos(scenario: &mut Scenario) {
 /// A check whose numbers all differ, and both questions before it.
 fn checks(scenario: &mut Scenario) {
     let announce = |scenario: &mut Scenario, after, modifier_type: ModifierType, ids: &[Id]| {
-        let request = command(1, modifier_type.number() as u8, 0, SENDER, ids);
+        let request = command(1, modifier_type.number(), 0, SENDER, ids);
         scenario.writes(announcement(modifier_type, ids), at(after), &[request]);
     };
     let now = Surroundings {
@@ -136,23 +136,20 @@ fn checks(scenario: &mut Scenario) {
 
 /// A reorg and what comes after: fork point, chain height, view, peers; received and needed ids; the peer that is lost.
 fn reorg(scenario: &mut Scenario) {
-    let rows = view(
-        4,
-        &[row(EXTENSION, 0x44, true), row(EXTENSION, 0x55, false)],
-    );
+    let rows = view(4, &[row(EXTENSION, 0x44, true), row(SECTION, 0x55, false)]);
     let now = Surroundings {
         chain_height: 5,
         peers: &[EIGHT, SEVEN],
         view: &rows,
         ..at(23_000)
     };
-    let request = command(1, 108, 0, EIGHT, &[id(0x55)]);
+    let request = command(1, 0x6c66, 0, EIGHT, &[id(0x55)]);
     let answer = scenario.writes(Step::Reorg { fork_point: 3 }, now, &[request]);
     assert_eq!(
         (answer.pending, scenario.keeper.downloaded_height()),
         (1, 4)
     );
-    let rows = view(5, &[row(EXTENSION, 0x55, true)]);
+    let rows = view(5, &[row(SECTION, 0x55, true)]);
     let now = Surroundings {
         chain_height: 5,
         view: &rows,
@@ -165,16 +162,22 @@ fn reorg(scenario: &mut Scenario) {
         (0, 5)
     );
     let needed = Step::NeededModifier {
-        modifier_type: ModifierType::AD_PROOFS,
+        modifier_type: NEEDED,
         id: &id(0x91),
     };
-    let request = command(1, 104, 0, SEVEN, &[id(0x91)]);
+    let request = command(1, 0x6865, 0, SEVEN, &[id(0x91)]);
     scenario.writes(needed, at(25_000), &[request]);
+    assert_eq!(scenario.field(2_600, 2), 0x6865);
+    // Stored as a type that either of its bytes is, and of one that has them turned about: it is asked for again.
+    scenario.asks(Question::LostPeer, &[(NEEDED, id(0x91))]);
+    let others = [0x65, 0x68, 0x6568].map(|number| (ModifierType::from_number(number), id(0x91)));
+    let stored = others.into_iter().collect();
     let now = Surroundings {
         peers: &[EIGHT],
+        stored: &stored,
         ..at(26_000)
     };
-    let request = command(1, 104, 0, EIGHT, &[id(0x91)]);
+    let request = command(1, 0x6865, 0, EIGHT, &[id(0x91)]);
     let answer = scenario.writes(Step::LostPeer { peer: SEVEN }, now, &[request]);
     assert_eq!(answer.outcome, Outcome::SyncPeerGone);
 }

@@ -1,8 +1,10 @@
 //! What can be read off a keeper is what the steps have put there.
 
 use request_keeper::{
-    Id, ModifierType, Outcome, Peer, PendingRequest, RequestKeeper, Settings, Step, Surroundings,
+    Id, Mode, ModifierType, Outcome, Peer, PendingRequest, Question, Refusal, RequestKeeper,
+    Settings, Step, Surroundings,
 };
+use std::collections::BTreeSet;
 
 const SETTINGS: Settings = Settings {
     timeout: 10_000,
@@ -107,4 +109,50 @@ fn stalled_peers_in_the_order_of_joining() {
         Outcome::Stalled
     );
     assert_eq!(keeper.stalled().collect::<Vec<_>>(), PEERS);
+}
+
+/// As the core of version 0.6 left it (host/fixed/version-1): types of one byte.
+const STORED_BY_0_6: &[u8] = include_bytes!("../../fixed/version-1/synced-full.bin");
+
+#[test]
+fn what_version_0_6_stored_is_restored() {
+    let mut keeper = RequestKeeper::from_bytes(STORED_BY_0_6).expect("a stored keeper");
+    assert!(keeper.as_bytes() == STORED_BY_0_6, "as it was stored");
+    assert_eq!(
+        (keeper.mode(), keeper.sync_peer()),
+        (Mode::Synced, Some(Peer(7)))
+    );
+    assert_eq!(
+        (keeper.pending().count(), keeper.evicted().count()),
+        (124, 900)
+    );
+    assert_eq!(keeper.stalled().count(), 256);
+    let types: BTreeSet<u16> = keeper.pending().map(|r| r.modifier_type.number()).collect();
+    assert_eq!(
+        Vec::from_iter(types),
+        [0, 2, 3, 101, 102, 103, 104, 108, 255]
+    );
+
+    let (before, clock) = (keeper.pending().collect::<Vec<_>>(), keeper.last_clock());
+    let refused = keeper.step(Step::Start, &now(clock)).map(|_| ());
+    assert_eq!(refused, Err(Refusal::WrongStep));
+    assert!(keeper.as_bytes() == STORED_BY_0_6, "a refusal leaves it");
+
+    step(&mut keeper, Step::OtherMessage, clock);
+    assert_eq!(keeper.as_bytes()[3..5], [0, 2]);
+    assert_eq!(keeper.pending().collect::<Vec<_>>(), before);
+}
+
+/// A type of two bytes, on order and asked for again, is told whole.
+#[test]
+fn types_of_two_bytes() {
+    let mut keeper = with_requests();
+    let modifier_type = ModifierType::from_number(0x0266);
+    let id = &[0xcc; 32];
+    let needed = Step::NeededModifier { modifier_type, id };
+    step(&mut keeper, needed, 5_000);
+    let on_order = keeper.pending().last().expect("the last id");
+    assert_eq!((on_order.id, on_order.modifier_type), (*id, modifier_type));
+    let pairs = keeper.question(Question::LostPeer).expect("well formed");
+    assert_eq!(pairs.collect::<Vec<_>>(), [(modifier_type, id)]);
 }

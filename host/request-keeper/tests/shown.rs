@@ -146,6 +146,10 @@ fn in_a_few_words() {
             ModifierType::from_byte(77).to_string(),
             "type 77".to_string(),
         ),
+        (
+            ModifierType::from_number(358).to_string(),
+            "type 358".to_string(),
+        ),
         (Mode::Synced.to_string(), "synced".to_string()),
         (
             Outcome::SyncPeerGone.to_string(),

@@ -6,7 +6,7 @@ use crate::times::time;
 use keeper_oracle::{set_clock, tracker, Maps, Tracker};
 use keeper_reference::image;
 use keeper_values::numbers::{kinds, types};
-use keeper_values::{Call, Id, Row, State};
+use keeper_values::{Call, Id, Row, State, TypeId};
 use std::collections::hash_map::DefaultHasher;
 use std::collections::{BTreeMap, HashSet};
 use std::hash::{Hash, Hasher};
@@ -64,8 +64,8 @@ fn filled(state: &State, maps: Maps) -> Option<Box<dyn Tracker>> {
 }
 
 /// The lists that rule 3 gets in this step.
-fn listed(call: &Call) -> BTreeMap<u8, Vec<Id>> {
-    let mut lists: BTreeMap<u8, Vec<Id>> = BTreeMap::new();
+fn listed(call: &Call) -> BTreeMap<TypeId, Vec<Id>> {
+    let mut lists: BTreeMap<TypeId, Vec<Id>> = BTreeMap::new();
     for row in &call.view.rows {
         let Row::Present(places) = row else { continue };
         for place in places {
@@ -82,7 +82,7 @@ fn track(
     call: &Call,
     stalled: &HashSet<u64>,
     tracker: &mut dyn Tracker,
-    lists: &BTreeMap<u8, Vec<Id>>,
+    lists: &BTreeMap<TypeId, Vec<Id>>,
 ) {
     match call.kind {
         kinds::RECEIVED => tracker.mark_received(&call.ids),
@@ -115,8 +115,8 @@ pub fn time_tracker(case: &Case, prepared: &Prepared, maps: Maps) -> Option<(Dur
 }
 
 /// The pairs that a question asks for, as plain Rust would find them.
-fn pairs(state: &State, flag: u8) -> Vec<(u8, Id)> {
-    let mut pairs: Vec<(u8, Id)> = if flag == 0 {
+fn pairs(state: &State, flag: u8) -> Vec<(TypeId, Id)> {
+    let mut pairs: Vec<(TypeId, Id)> = if flag == 0 {
         let header = |id: &Id| (types::HEADER, *id);
         state.evicted.iter().map(header).collect()
     } else {
@@ -146,6 +146,7 @@ pub fn time_plain(case: &Case, prepared: &Prepared) -> Option<Duration> {
                 & image::ids_rise(area)
                 & image::stamps_fit(area)
                 & image::checks_fit(area)
+                & image::high_bytes_fit(area)
                 & image::unused_zero(area)
         })),
         _ => None,

@@ -7,6 +7,7 @@ use crate::data::{
 };
 use crate::ids::Ids;
 use keeper_values::numbers::kinds;
+use keeper_values::numbers::widths::RECORD;
 use keeper_values::{Call, State, STATE_BYTES};
 
 /// Steps that leave the tracker alone: a message of no concern.
@@ -56,7 +57,7 @@ pub fn refused() -> Vec<Case> {
         }),
         Case::refused("2, last id out of order", 2, |ids| {
             let mut prepared = message(ids);
-            prepared.image.bytes_mut()[2_560 + 54 * 1_023] = 0;
+            prepared.image.bytes_mut()[2_560 + RECORD * 1_023] = 0;
             prepared
         }),
         Case::refused("4, clock runs back", 4, |ids| {

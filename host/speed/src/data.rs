@@ -1,7 +1,7 @@
 //! States and calls with given ids.
 
 use keeper_values::numbers::{kinds, types};
-use keeper_values::{Call, Id, Mode, Place, Request, Row, Settings, State, View};
+use keeper_values::{Call, Id, Mode, Place, Request, Row, Settings, State, TypeId, View};
 use std::collections::BTreeMap;
 
 pub const CLOCK: u64 = 1_000_000;
@@ -92,13 +92,13 @@ pub fn with_ids(kind: u8, ids: Vec<Id>) -> Call {
 
 /// A section tick whose window lists these ids, three to a height, none stored.
 pub fn window(ids: &[Id]) -> Call {
-    const TYPES: [u8; 3] = [
+    const TYPES: [TypeId; 3] = [
         types::BLOCK_TRANSACTIONS,
         types::AD_PROOFS,
         types::EXTENSION,
     ];
     let places = |ids: &[Id]| {
-        let place = |(type_id, id): (&u8, &Id)| Place {
+        let place = |(type_id, id): (&TypeId, &Id)| Place {
             type_id: *type_id,
             id: *id,
             stored: false,

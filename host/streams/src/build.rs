@@ -2,7 +2,7 @@
 
 use crate::{Opening, Script};
 use keeper_values::numbers::kinds;
-use keeper_values::{Call, Id, Mode, Place, Request, Row, Settings, State, View};
+use keeper_values::{Call, Id, Mode, Place, Request, Row, Settings, State, TypeId, View};
 use std::collections::BTreeMap;
 
 /// Document 01's cases: timeout 10,000, limit 2, no throttle, stall 60,000.
@@ -25,7 +25,7 @@ pub fn ids(first: u16, count: u16) -> Vec<Id> {
     (first..first + count).map(id).collect()
 }
 
-pub fn place(type_id: u8, number: u16, stored: bool) -> Place {
+pub fn place(type_id: TypeId, number: u16, stored: bool) -> Place {
     Place {
         type_id,
         id: id(number),
@@ -137,7 +137,7 @@ impl Build {
     }
 
     /// Ids of a type announced by a peer.
-    pub fn announce(self, peer: u64, type_id: u8, ids: Vec<Id>) -> Self {
+    pub fn announce(self, peer: u64, type_id: TypeId, ids: Vec<Id>) -> Self {
         self.call(kinds::ANNOUNCED, |c| {
             c.peer = peer;
             c.type_id = type_id;

@@ -2,6 +2,7 @@
 //! too short, out of order. A keeper has to answer each with a number, and nothing may change.
 
 use crate::rng::Rng;
+use keeper_values::numbers::widths::{ID, PAIR, PEER, PLACE, RECORD, ROW};
 use keeper_values::{Arguments, COMMAND_BYTES, STATE_BYTES};
 
 /// A call on areas of any length, on an image with some bytes overwritten.
@@ -67,7 +68,7 @@ fn fault(rng: &mut Rng, image: &[u8], damaged: &mut Damaged) {
 }
 
 fn lengths(rng: &mut Rng, damaged: &mut Damaged) {
-    let length = rng.pick(&[0, 1, 65_535, 65_537, 65_536 + 54, 131_072]);
+    let length = rng.pick(&[0, 1, 65_535, 65_537, 65_536 + RECORD, 131_072]);
     if rng.once_in(2) {
         damaged.state_length = length;
     } else {
@@ -84,11 +85,11 @@ fn poke(rng: &mut Rng, image: &[u8]) -> (usize, Vec<u8>) {
     let byte = rng.draw() as u8;
     let pending = number(image, 70);
     let evicted = number(image, 72);
-    let record = 2_560 + 54 * rng.index(pending.max(1));
-    let free = 2_560 + 54 * pending;
+    let record = 2_560 + RECORD * rng.index(pending.max(1));
+    let free = 2_560 + RECORD * pending;
     let clock = u64::from_be_bytes(std::array::from_fn(|index| image[8 + index]));
     let later = clock.saturating_add(rng.below(2)).to_be_bytes().to_vec();
-    match rng.below(24) {
+    match rng.below(28) {
         0 => (rng.index(5), vec![byte]),
         1 => (5, vec![rng.below(7) as u8]),
         2 => (rng.range(6, 7) as usize, vec![rng.below(3) as u8]),
@@ -102,21 +103,29 @@ fn poke(rng: &mut Rng, image: &[u8]) -> (usize, Vec<u8>) {
         10 => (74 + rng.index(438), vec![byte]),
         11 => (512 + rng.index(2_048), vec![byte]),
         12 => (free + rng.index(STATE_BYTES - free), vec![byte]),
-        13 => (STATE_BYTES - 1 - rng.index(32 * evicted + 33), vec![byte]),
+        13 => (
+            STATE_BYTES - 1 - rng.index(ID * evicted + ID + 1),
+            vec![byte],
+        ),
         // Two records change places, or one stands twice.
         14 if pending > 1 => {
-            let at = 2_560 + 54 * rng.index(pending - 1);
-            let mut bytes = image[at..at + 108].to_vec();
-            bytes.rotate_left(54);
+            let at = 2_560 + RECORD * rng.index(pending - 1);
+            let mut bytes = image[at..at + 2 * RECORD].to_vec();
+            bytes.rotate_left(RECORD);
             (at, bytes)
         }
         15 if pending > 1 => {
-            let at = 2_560 + 54 * rng.index(pending - 1);
-            (at + 54, image[at..at + 54].to_vec())
+            let at = 2_560 + RECORD * rng.index(pending - 1);
+            (at + RECORD, image[at..at + RECORD].to_vec())
         }
-        16 => (record + rng.index(32), vec![byte]),
+        16 => (record + rng.index(ID), vec![byte]),
         17 => (record + 40, vec![byte]),
         18 => (record + 41, vec![rng.pick(&[2, 101, byte])]),
+        // Another version.
+        23..=25 => (
+            3,
+            vec![rng.once_in(6).into(), rng.pick(&[0, 1, 1, 1, 2, 3, 255])],
+        ),
         19 => (record + 42, later),
         20 => {
             let limit = u32::from_be_bytes(std::array::from_fn(|index| image[20 + index]));
@@ -165,22 +174,22 @@ fn length(rng: &mut Rng, list: &mut Vec<u8>, width: usize, most: usize) {
 
 fn ids(rng: &mut Rng, call: &mut Arguments) {
     match rng.below(4) {
-        0 | 1 => length(rng, &mut call.ids, 32, 1_024),
-        2 => length(rng, &mut call.continuation, 32, 400),
+        0 | 1 => length(rng, &mut call.ids, ID, 1_024),
+        2 => length(rng, &mut call.continuation, ID, 400),
         _ => {
             call.kind = 3;
-            call.ids.resize(32 * rng.index(3), 7);
+            call.ids.resize(ID * rng.index(3), 7);
         }
     }
 }
 
 fn stored(rng: &mut Rng, list: &mut Vec<u8>) {
-    let pairs = list.len() / 33;
+    let pairs = list.len() / PAIR;
     match rng.below(4) {
-        0 => length(rng, list, 33, 1_024),
-        1 if pairs > 1 => list.rotate_left(33),
+        0 => length(rng, list, PAIR, 1_024),
+        1 if pairs > 1 => list.rotate_left(PAIR),
         2 if pairs > 0 => {
-            let last = list[33 * (pairs - 1)..33 * pairs].to_vec();
+            let last = list[PAIR * (pairs - 1)..PAIR * pairs].to_vec();
             list.extend(last);
         }
         // Rising pairs, up to the limit and one above.
@@ -188,8 +197,8 @@ fn stored(rng: &mut Rng, list: &mut Vec<u8>) {
             let count = rng.range(1_024, 1_025) as u16;
             list.clear();
             for number in 0..count {
-                list.push(101);
-                list.extend([0; 30]);
+                list.extend([0, 101]);
+                list.extend([0; ID - 2]);
                 list.extend(number.to_be_bytes());
             }
         }
@@ -197,12 +206,12 @@ fn stored(rng: &mut Rng, list: &mut Vec<u8>) {
 }
 
 fn peers(rng: &mut Rng, list: &mut Vec<u8>) {
-    length(rng, list, 8, 128);
+    length(rng, list, PEER, 128);
 }
 
 pub(crate) fn view(rng: &mut Rng, view: &mut Vec<u8>) {
-    let rows = view.len().saturating_sub(4) / 103;
-    let row = 4 + 103 * rng.index(rows.max(1));
+    let rows = view.len().saturating_sub(4) / ROW;
+    let row = 4 + ROW * rng.index(rows.max(1));
     match rng.below(8) {
         0 => view.truncate(rng.index(5)),
         1 => view.push(0),
@@ -214,10 +223,10 @@ pub(crate) fn view(rng: &mut Rng, view: &mut Vec<u8>) {
             let first = (u32::MAX - rows as u32).saturating_add(rng.below(3) as u32);
             view[..4].copy_from_slice(&first.to_be_bytes());
         }
-        _ if rows == 0 => view.extend([9; 103]),
+        _ if rows == 0 => view.extend([9; ROW]),
         4 => view[row] = rng.pick(&[0, 1, 2, 3, 4, 5, 254, 255]),
-        5 => view[row + 34 * rng.range(1, 3) as usize] = rng.below(3) as u8,
-        6 => view[row + 1 + rng.index(102)] = rng.draw() as u8,
+        5 => view[row + PLACE * rng.range(1, 3) as usize] = rng.below(3) as u8,
+        6 => view[row + 1 + rng.index(ROW - 1)] = rng.draw() as u8,
         _ => view[row] = rng.draw() as u8,
     }
 }

@@ -11,10 +11,12 @@ mod messages;
 mod peers;
 mod runs;
 mod shapes;
+mod types;
 
 pub use delivery::d2;
 pub use headers::d3;
 pub use peers::d1;
+pub use types::d4;
 
 /// All directed streams.
 pub fn scripts() -> Vec<Script> {
@@ -26,5 +28,6 @@ pub fn scripts() -> Vec<Script> {
     scripts.extend(heights::scripts());
     scripts.extend(limits::scripts());
     scripts.extend(shapes::scripts());
+    scripts.extend(types::scripts());
     scripts
 }

@@ -19,13 +19,18 @@ pub struct Hostile {
 }
 
 impl Hostile {
-    /// As lines of a stream.
+    /// As lines of a stream; damaged areas are asked a question too.
     pub fn lines(&self) -> Vec<Line> {
         let mut lines = vec![
             Line::Stream(self.name.clone()),
             Line::Put(Box::new(self.state.clone())),
         ];
-        lines.extend(Line::modifiers(&self.damaged));
+        let modifiers = Line::modifiers(&self.damaged);
+        if !modifiers.is_empty() {
+            lines.extend(modifiers.clone());
+            lines.push(Line::Ask(1));
+        }
+        lines.extend(modifiers);
         lines.push(Line::Step(Box::new(self.damaged.arguments.clone()), vec![]));
         lines
     }
@@ -120,6 +125,7 @@ impl Cases {
 pub fn cases() -> Vec<Hostile> {
     let mut cases = Cases(Vec::new());
     areas::areas(&mut cases);
+    areas::versions(&mut cases);
     areas::image(&mut cases);
     calls::calls(&mut cases);
     calls::lists(&mut cases);

@@ -13,6 +13,7 @@ pub mod rng;
 pub mod shapes;
 mod stalling;
 pub mod text;
+pub mod version_1;
 mod world;
 
 use keeper_values::{Call, Settings, State};

@@ -14,6 +14,7 @@ pub use random::RandomMap;
 
 use crate::build::id;
 use crate::text::Line;
+use keeper_values::numbers::widths::{PLACE, ROW};
 use keeper_values::numbers::{limits, types};
 use keeper_values::{MapCall, Place, Row, View, MAP_BYTES};
 
@@ -234,15 +235,15 @@ fn malformed_views(first: u32) -> Vec<(&'static str, Vec<u8>)> {
         ("a part of a row", part),
         ("a count of four", changed(0, 4)),
         ("a count of 254", changed(0, 254)),
-        ("a stored byte of two", changed(34, 2)),
+        ("a stored byte of two", changed(PLACE, 2)),
         (
             "a stored byte of 255 in the second row",
-            changed(103 + 68, 255),
+            changed(ROW + 2 * PLACE, 255),
         ),
-        ("an unused place that is not zero", changed(35, 1)),
-        ("the last byte of a row", changed(102, 1)),
-        ("an absent header with a place", changed(2 * 103 + 1, 1)),
-        ("an absent header with a last byte", changed(3 * 103 - 1, 1)),
+        ("an unused place that is not zero", changed(PLACE + 1, 1)),
+        ("the last byte of a row", changed(ROW - 1, 1)),
+        ("an absent header with a place", changed(2 * ROW + 1, 1)),
+        ("an absent header with a last byte", changed(3 * ROW - 1, 1)),
         ("a row past height 2^32 - 1", view(u32::MAX, &[17, 17])),
     ]
 }

@@ -2,6 +2,7 @@
 
 use crate::damage::Damaged;
 use crate::rng::Rng;
+use keeper_values::numbers::widths;
 use keeper_values::{Arguments, Settings, STATE_BYTES};
 
 pub fn bytes(rng: &mut Rng, length: usize) -> Vec<u8> {
@@ -61,16 +62,16 @@ pub fn noise(rng: &mut Rng, good_image: &[u8], good: &Arguments) -> Damaged {
             0 => call.kind = rng.below(18) as u8,
             1 => call.clock = clock.saturating_add(rng.draw() >> rng.below(64)),
             2 => call.height = number(rng),
-            3 => (call.peer, call.type_id) = (rng.draw(), rng.draw() as u8),
+            3 => (call.peer, call.type_id) = (rng.draw(), rng.draw() as u16),
             4 => (call.fork, call.tip) = (number(rng), number(rng)),
-            5 => call.ids = list(rng, 32, 1_024),
-            6 => call.continuation = list(rng, 32, 400),
-            7 => call.stored = list(rng, 33, 1_024),
-            _ => call.peers = list(rng, 8, 128),
+            5 => call.ids = list(rng, widths::ID, 1_024),
+            6 => call.continuation = list(rng, widths::ID, 400),
+            7 => call.stored = list(rng, widths::PAIR, 1_024),
+            _ => call.peers = list(rng, widths::PEER, 128),
         }
     }
     if rng.once_in(8) {
-        call.view = list(rng, 103, 200);
+        call.view = list(rng, widths::ROW, 200);
     }
     if rng.once_in(8) {
         [call.gate, call.parsed, call.has_tip] = [(); 3].map(|()| rng.draw() as u8 % 4);

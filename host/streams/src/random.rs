@@ -5,7 +5,7 @@ use crate::stalling::Stalling;
 use crate::world::World;
 use crate::Opening;
 use keeper_values::numbers::kinds;
-use keeper_values::{Call, Id, Mode, Request, State};
+use keeper_values::{Call, Id, Mode, Request, State, TypeId};
 use std::collections::BTreeSet;
 
 pub struct Random {
@@ -56,6 +56,11 @@ impl Random {
 
     pub fn opening(&self) -> &Opening {
         &self.opening
+    }
+
+    /// Whether types of two bytes are met in it.
+    pub fn is_wide(&self) -> bool {
+        self.world.wide
     }
 
     /// The next call, given what the keeper holds.
@@ -222,7 +227,7 @@ fn continuation(rng: &mut Rng) -> u64 {
 }
 
 /// What is stored, as far as a list may say.
-fn stored(rng: &mut Rng, world: &World) -> BTreeSet<(u8, Id)> {
+fn stored(rng: &mut Rng, world: &World) -> BTreeSet<(TypeId, Id)> {
     if world.agreeing || rng.once_in(2) {
         return world.stored.clone();
     }

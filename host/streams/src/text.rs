@@ -1,6 +1,7 @@
 //! The text form of a stream, one line a call and its answer below (`fixed/README.md` says it for a reader).
 
 use crate::damage::Damaged;
+use keeper_values::numbers::widths;
 use keeper_values::{Answer, Arguments, Command, Id, MapCall, Mode, Request, Settings, State};
 use keeper_values::{COMMAND_BYTES, STATE_BYTES};
 
@@ -71,7 +72,7 @@ fn fields(state: &State) -> String {
     for (id, request) in &state.pending {
         pending.extend(id);
         pending.extend(request.peer.to_be_bytes());
-        pending.extend(u16::from(request.type_id).to_be_bytes());
+        pending.extend(request.type_id.to_be_bytes());
         pending.extend(request.stamp.to_be_bytes());
         pending.extend(request.checks.to_be_bytes());
     }
@@ -279,7 +280,7 @@ impl Words<'_> {
 
     fn ids(&mut self) -> Option<Vec<Id>> {
         let bytes = self.bytes()?;
-        let ids = bytes.chunks(32).map(|id| id.try_into().ok());
+        let ids = bytes.chunks(widths::ID).map(|id| id.try_into().ok());
         ids.collect()
     }
 
@@ -314,17 +315,17 @@ impl Words<'_> {
             pending: Default::default(),
             evicted: Vec::new(),
         };
-        for peer in self.bytes()?.chunks(8) {
+        for peer in self.bytes()?.chunks(widths::PEER) {
             state
                 .stalled
                 .push(u64::from_be_bytes(peer.try_into().ok()?));
         }
         state.evicted = self.ids()?;
-        for record in self.bytes()?.chunks(54) {
-            let record: [u8; 54] = record.try_into().ok()?;
+        for record in self.bytes()?.chunks(widths::RECORD) {
+            let record: [u8; widths::RECORD] = record.try_into().ok()?;
             let request = Request {
                 peer: u64::from_be_bytes(record[32..40].try_into().ok()?),
-                type_id: record[41],
+                type_id: u16::from_be_bytes([record[40], record[41]]),
                 stamp: u64::from_be_bytes(record[42..50].try_into().ok()?),
                 checks: u32::from_be_bytes(record[50..].try_into().ok()?),
             };

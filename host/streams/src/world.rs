@@ -3,28 +3,28 @@
 use crate::rng::Rng;
 use crate::shapes::Shape;
 use keeper_values::numbers::types;
-use keeper_values::{Id, Place, Row, Settings, View};
+use keeper_values::{Id, Place, Row, Settings, TypeId, View};
 use std::collections::BTreeSet;
 
-const KNOWN: [u8; 5] = [
-    types::TRANSACTION,
-    types::HEADER,
-    types::BLOCK_TRANSACTIONS,
-    types::AD_PROOFS,
-    types::EXTENSION,
+/// Types of two bytes, and 255: those around a byte's end and those that end in a known type's low byte (F-6). 258 comes more
+/// often: all that is said of transactions is not said of it.
+const WIDE: [TypeId; 13] = [
+    255, 256, 257, 258, 258, 258, 300, 301, 357, 358, 360, 364, 65_535,
 ];
 
 pub struct World {
     pub ids: Vec<Id>,
     pub peers: Vec<u64>,
     pub settings: Settings,
-    pub stored: BTreeSet<(u8, Id)>,
+    pub stored: BTreeSet<(TypeId, Id)>,
     /// In the oracle's domain the flags of a view agree with the pairs; some streams let them differ.
     pub agreeing: bool,
     /// All headers present, all sections missing: whole windows are seen.
     pub solid: bool,
     /// Many peers, nearly all of them stalled.
     pub crowded: bool,
+    /// Types of two bytes are met: outside the oracle's domain.
+    pub wide: bool,
     pub chain_height: u32,
     /// Changes with each reorg, so that heights get other sections.
     pub branch: u64,
@@ -100,6 +100,7 @@ impl World {
             agreeing: !rng.once_in(4),
             solid,
             crowded,
+            wide: rng.once_in(8),
             chain_height: start.saturating_add(rng.below(4) as u32),
             branch: rng.draw(),
             listed,
@@ -114,11 +115,13 @@ impl World {
         self.peers[rng.index(self.peers.len())]
     }
 
-    pub fn type_id(&self, rng: &mut Rng) -> u8 {
+    pub fn type_id(&self, rng: &mut Rng) -> TypeId {
         match rng.below(12) {
-            0 => rng.draw() as u8,
+            0 if self.wide => rng.draw() as TypeId,
+            0 => rng.draw() as TypeId & 255,
             1 => rng.pick(&[0, 1, 3, 100, 103, 105, 107, 109, 255]),
-            _ => rng.pick(&KNOWN),
+            2..=4 if self.wide => rng.pick(&WIDE),
+            _ => rng.pick(&types::KNOWN),
         }
     }
 

@@ -1,4 +1,4 @@
-use crate::{MapCall, Settings};
+use crate::{MapCall, Settings, TypeId};
 
 /// Length of the state area.
 pub const STATE_BYTES: usize = 65_536;
@@ -14,7 +14,7 @@ pub struct Arguments {
     pub gate: u8,
     pub height: u32,
     pub peer: u64,
-    pub type_id: u8,
+    pub type_id: TypeId,
     pub fork: u32,
     pub parsed: u8,
     pub has_tip: u8,

@@ -1,10 +1,11 @@
-use crate::{Arguments, Id};
+use crate::numbers::widths;
+use crate::{Arguments, Id, TypeId};
 use std::collections::BTreeSet;
 
 /// A section of a block, as a view row lists it.
 #[derive(Debug, Clone, Copy, PartialEq, Eq)]
 pub struct Place {
-    pub type_id: u8,
+    pub type_id: TypeId,
     pub id: Id,
     pub stored: bool,
 }
@@ -20,13 +21,13 @@ pub enum Row {
 
 impl Row {
     fn write(&self, bytes: &mut Vec<u8>) {
-        let end = bytes.len() + 103;
+        let end = bytes.len() + widths::ROW;
         match self {
             Row::Absent => bytes.push(255),
             Row::Present(places) => {
                 bytes.push(places.len() as u8);
                 for place in places {
-                    bytes.push(place.type_id);
+                    bytes.extend(place.type_id.to_be_bytes());
                     bytes.extend_from_slice(&place.id);
                     bytes.push(u8::from(place.stored));
                 }
@@ -66,14 +67,14 @@ pub struct Call {
     pub gate: bool,
     pub height: u32,
     pub peer: u64,
-    pub type_id: u8,
+    pub type_id: TypeId,
     pub fork: u32,
     pub parsed: bool,
     pub has_tip: bool,
     pub tip: u32,
     pub ids: Vec<Id>,
     pub continuation: Vec<Id>,
-    pub stored: BTreeSet<(u8, Id)>,
+    pub stored: BTreeSet<(TypeId, Id)>,
     pub peers: Vec<u64>,
     pub view: View,
     /// Which of the sends that the shell tries in this step fail, counted from 0. The core never learns of them.
@@ -82,9 +83,9 @@ pub struct Call {
 
 impl Call {
     pub fn to_arguments(&self) -> Arguments {
-        let mut stored = Vec::with_capacity(self.stored.len() * 33);
+        let mut stored = Vec::with_capacity(self.stored.len() * widths::PAIR);
         for (type_id, id) in &self.stored {
-            stored.push(*type_id);
+            stored.extend(type_id.to_be_bytes());
             stored.extend_from_slice(id);
         }
         Arguments {

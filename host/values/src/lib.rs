@@ -12,4 +12,4 @@ pub use arguments::{Answer, Arguments, Forecast, Keeper, COMMAND_BYTES, STATE_BY
 pub use call::{Call, Place, Row, View};
 pub use command::{read_commands, Command};
 pub use map::{MapCall, MAP_BYTES};
-pub use state::{Id, Mode, Request, Settings, State};
+pub use state::{Id, Mode, Request, Settings, State, TypeId};

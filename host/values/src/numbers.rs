@@ -2,11 +2,38 @@
 
 /// Modifier types of Ergo's protocol.
 pub mod types {
-    pub const TRANSACTION: u8 = 2;
-    pub const HEADER: u8 = 101;
-    pub const BLOCK_TRANSACTIONS: u8 = 102;
-    pub const AD_PROOFS: u8 = 104;
-    pub const EXTENSION: u8 = 108;
+    use crate::TypeId;
+
+    pub const TRANSACTION: TypeId = 2;
+    pub const HEADER: TypeId = 101;
+    pub const BLOCK_TRANSACTIONS: TypeId = 102;
+    pub const AD_PROOFS: TypeId = 104;
+    pub const EXTENSION: TypeId = 108;
+
+    pub const KNOWN: [TypeId; 5] = [
+        TRANSACTION,
+        HEADER,
+        BLOCK_TRANSACTIONS,
+        AD_PROOFS,
+        EXTENSION,
+    ];
+}
+
+/// Bytes of what crosses the boundary, and of a pending record.
+pub mod widths {
+    pub const ID: usize = 32;
+    pub const PEER: usize = 8;
+    pub const TYPE: usize = 2;
+    /// A stored pair: type and id.
+    pub const PAIR: usize = TYPE + ID;
+    /// A place of a row: type, id, and whether it is stored.
+    pub const PLACE: usize = PAIR + 1;
+    /// A row: a count, and three places.
+    pub const ROW: usize = 1 + 3 * PLACE;
+    /// A command before its ids: kind, type, batch, peer, count.
+    pub const HEADER: usize = 1 + TYPE + 2 + PEER + 4;
+    /// A pending record: id, peer, type, stamp, checks.
+    pub const RECORD: usize = ID + PEER + TYPE + 8 + 4;
 }
 
 /// Step kinds.

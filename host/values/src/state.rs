@@ -3,6 +3,9 @@ use std::collections::BTreeMap;
 /// A modifier id.
 pub type Id = [u8; 32];
 
+/// A modifier type.
+pub type TypeId = u16;
+
 #[derive(Debug, Clone, Copy, PartialEq, Eq)]
 pub enum Mode {
     New,
@@ -52,7 +55,7 @@ pub struct Settings {
 #[derive(Debug, Clone, Copy, PartialEq, Eq)]
 pub struct Request {
     pub peer: u64,
-    pub type_id: u8,
+    pub type_id: TypeId,
     pub stamp: u64,
     pub checks: u32,
 }

@@ -2,6 +2,7 @@
 
 use crate::{variant, Variant};
 use keeper_reference::{entries, image, Refusal, Rules, PLAIN};
+use keeper_values::numbers::widths::{ID, RECORD};
 use keeper_values::{Mode, COMMAND_BYTES, STATE_BYTES};
 
 pub fn variants() -> Vec<Variant> {
@@ -124,22 +125,8 @@ pub fn variants() -> Vec<Variant> {
                     let count =
                         |at: usize| usize::from(u16::from_be_bytes([area[at], area[at + 1]]));
                     let mut area = area.to_vec();
-                    let free = 2_560 + 54 * count(70)..STATE_BYTES - 32 * count(72);
+                    let free = 2_560 + RECORD * count(70)..STATE_BYTES - ID * count(72);
                     area[free].fill(0);
-                    image::unused_zero(&area)
-                },
-                ..PLAIN
-            },
-        ),
-        two(
-            "a type's high byte is not looked at",
-            Rules {
-                unused_zero: |area| {
-                    let count = usize::from(u16::from_be_bytes([area[70], area[71]]));
-                    let mut area = area.to_vec();
-                    for record in 0..count {
-                        area[2_600 + 54 * record] = 0;
-                    }
                     image::unused_zero(&area)
                 },
                 ..PLAIN

@@ -2,6 +2,7 @@
 
 use crate::{variant, Variant};
 use keeper_reference::{entries, inputs, steps, Refusal, Rules, PLAIN};
+use keeper_values::numbers::widths::{PAIR, PLACE, ROW};
 use keeper_values::numbers::{kinds, limits};
 use keeper_values::Mode;
 
@@ -111,7 +112,7 @@ pub fn variants() -> Vec<Variant> {
             "a stored pair may stand twice",
             Rules {
                 stored_fits: |pairs| {
-                    let mut once: Vec<&[u8]> = pairs.chunks(33).collect();
+                    let mut once: Vec<&[u8]> = pairs.chunks(PAIR).collect();
                     once.dedup();
                     inputs::stored_fits(&once.concat())
                 },
@@ -122,7 +123,7 @@ pub fn variants() -> Vec<Variant> {
             "the order of stored pairs is not looked at",
             Rules {
                 stored_fits: |pairs| {
-                    pairs.len().is_multiple_of(33) && pairs.len() <= 33 * limits::STORED
+                    pairs.len().is_multiple_of(PAIR) && pairs.len() <= PAIR * limits::STORED
                 },
                 ..PLAIN
             },
@@ -148,8 +149,8 @@ pub fn variants() -> Vec<Variant> {
             Rules {
                 view_fits: |view| match view.split_first_chunk::<4>() {
                     Some((_, rows)) => {
-                        rows.len().is_multiple_of(103)
-                            && rows.chunks_exact(103).all(inputs::row_fits)
+                        rows.len().is_multiple_of(ROW)
+                            && rows.chunks_exact(ROW).all(inputs::row_fits)
                     }
                     None => false,
                 },
@@ -163,7 +164,7 @@ pub fn variants() -> Vec<Variant> {
                     let first = view
                         .first_chunk::<4>()
                         .map(|first| u32::from_be_bytes(*first));
-                    let rows = view.len().saturating_sub(4) / 103;
+                    let rows = view.len().saturating_sub(4) / ROW;
                     inputs::view_fits(view)
                         && first.is_some_and(|first| u64::from(first) + (rows as u64) < 1 << 32)
                 },
@@ -181,8 +182,8 @@ pub fn variants() -> Vec<Variant> {
             "only the first row is looked at",
             Rules {
                 view_fits: |view| {
-                    inputs::view_fits(&view[..view.len().min(107)])
-                        && (view.len() - 4).is_multiple_of(103)
+                    inputs::view_fits(&view[..view.len().min(4 + ROW)])
+                        && (view.len() - 4).is_multiple_of(ROW)
                 },
                 ..PLAIN
             },
@@ -192,8 +193,8 @@ pub fn variants() -> Vec<Variant> {
             Rules {
                 view_fits: |view| {
                     let mut view = view.to_vec();
-                    for row in view.get_mut(4..).unwrap_or_default().chunks_exact_mut(103) {
-                        for flag in [34, 68, 102] {
+                    for row in view.get_mut(4..).unwrap_or_default().chunks_exact_mut(ROW) {
+                        for flag in [PLACE, 2 * PLACE, 3 * PLACE] {
                             row[flag] = if row[flag] == 2 { 1 } else { row[flag] };
                         }
                     }
@@ -207,9 +208,9 @@ pub fn variants() -> Vec<Variant> {
             Rules {
                 view_fits: |view| {
                     let mut view = view.to_vec();
-                    for row in view.iter_mut().skip(4).collect::<Vec<_>>().chunks_mut(103) {
-                        let used = 34 * usize::from(*row[0]) + 1;
-                        if *row[0] <= 3 && row.len() == 103 {
+                    for row in view.iter_mut().skip(4).collect::<Vec<_>>().chunks_mut(ROW) {
+                        let used = PLACE * usize::from(*row[0]) + 1;
+                        if *row[0] <= 3 && row.len() == ROW {
                             row[used..].iter_mut().for_each(|byte| **byte = 0);
                         }
                     }

@@ -4,6 +4,7 @@ use crate::{variant, Variant};
 use keeper_reference::sync::{self, Stored};
 use keeper_reference::{delivery, Rules, PLAIN};
 use keeper_values::numbers::types;
+use keeper_values::TypeId;
 
 pub fn variants() -> Vec<Variant> {
     let fault = |fault, rules| variant("rule 6", fault, rules);
@@ -45,7 +46,7 @@ pub fn variants() -> Vec<Variant> {
             Rules {
                 retry_batches: |run, retries| {
                     let batches = sync::retry_batches(run, retries);
-                    let single = |(target, type_id, ids): (u64, u8, Vec<_>)| {
+                    let single = |(target, type_id, ids): (u64, TypeId, Vec<_>)| {
                         ids.into_iter().map(move |id| (target, type_id, vec![id]))
                     };
                     batches.into_iter().flat_map(single).collect()

@@ -2,8 +2,10 @@
 
 use crate::{variant, Variant, FORECAST};
 use keeper_reference::{entries, forecast, image, Rules, PLAIN};
-use keeper_values::numbers::commands;
+use keeper_values::numbers::{commands, widths};
 use keeper_values::{read_commands, Arguments, Forecast};
+
+const HEADER: u32 = widths::HEADER as u32;
 
 pub fn variants() -> Vec<Variant> {
     [counts(), lengths(), refusals()].concat()
@@ -87,7 +89,7 @@ fn lengths() -> Vec<Variant> {
                 let infos = infos.count() as u32;
                 let figures = forecast::figures(rules, &answer, &written);
                 Forecast {
-                    length: figures.length - 16 * infos,
+                    length: figures.length - HEADER * infos,
                     ..figures
                 }
             },
@@ -97,7 +99,7 @@ fn lengths() -> Vec<Variant> {
             |rules, state, call| {
                 let figures = forecast::forecast(rules, state, call);
                 Forecast {
-                    length: figures.length - 16 * figures.commands,
+                    length: figures.length - HEADER * figures.commands,
                     ..figures
                 }
             },

@@ -3,7 +3,7 @@
 use crate::{variant, Variant};
 use keeper_reference::sync::{self, Stored};
 use keeper_reference::{Refusal, Rules, PLAIN};
-use keeper_values::Row;
+use keeper_values::{Row, TypeId};
 
 pub fn variants() -> Vec<Variant> {
     let four = |fault, rules| variant("rule 4", fault, rules);
@@ -35,7 +35,7 @@ pub fn variants() -> Vec<Variant> {
             Rules {
                 window: |run| {
                     let end = sync::window_end(run.state.downloaded, run.inputs.height);
-                    let mut missing = std::collections::BTreeMap::<u8, Vec<_>>::new();
+                    let mut missing = std::collections::BTreeMap::<TypeId, Vec<_>>::new();
                     for height in run.state.downloaded..end {
                         if let Row::Present(places) = run.read(height + 1)? {
                             for place in places.iter().filter(|place| !place.stored) {

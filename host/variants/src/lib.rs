@@ -16,6 +16,8 @@ mod results;
 mod runs;
 mod targets;
 mod ticks;
+mod types;
+mod versions;
 
 use keeper_reference::{Reference, Rules};
 pub use targets::AS_PUBLISHED;
@@ -34,6 +36,12 @@ pub const RUNS: &str = "F-4";
 
 /// The place of those that take an empty header list wrongly.
 pub const HEADERS: &str = "F-5";
+
+/// The place of those that take a type of two bytes wrongly.
+pub const TYPES: &str = "F-6";
+
+/// The place of those that take an image's version wrongly.
+pub const VERSIONS: &str = "F-6, versions";
 
 /// A keeper with one fault.
 #[derive(Clone, Copy)]
@@ -72,6 +80,8 @@ pub fn all() -> Vec<Variant> {
         forecasts::variants(),
         runs::variants(),
         headers::variants(),
+        types::variants(),
+        versions::variants(),
     ]
     .concat()
 }

@@ -4,10 +4,12 @@ use crate::{variant, Variant};
 use keeper_reference::steps::{self, sync_peer};
 use keeper_reference::sync::{self, Stored};
 use keeper_reference::{Rules, Run, PLAIN};
+use keeper_values::numbers::widths::HEADER;
 use keeper_values::numbers::{outcomes, types};
+use keeper_values::TypeId;
 
 /// Announced ids are asked for, but not those of a type.
-fn announced_but(run: &mut Run, type_id: u8) -> steps::Outcome {
+fn announced_but(run: &mut Run, type_id: TypeId) -> steps::Outcome {
     if run.inputs.type_id == type_id {
         return Ok(outcomes::CONTINUE);
     }
@@ -185,10 +187,10 @@ pub fn variants() -> Vec<Variant> {
                     let sender = run.inputs.peer;
                     let outcome = steps::sync_info(run)?;
                     let end = run.commands.bytes.len();
-                    if outcome == outcomes::CONTINUE && end >= 16 {
-                        let reply = &mut run.commands.bytes[end - 16..];
+                    if outcome == outcomes::CONTINUE && end >= HEADER {
+                        let reply = &mut run.commands.bytes[end - HEADER..];
                         if reply[0] == 3 && asked != Some(sender) {
-                            reply[4..12].copy_from_slice(&asked.unwrap_or(0).to_be_bytes());
+                            reply[5..13].copy_from_slice(&asked.unwrap_or(0).to_be_bytes());
                         }
                     }
                     Ok(outcome)
@@ -226,9 +228,9 @@ pub fn variants() -> Vec<Variant> {
                     let outcome = steps::sync_info(run)?;
                     let bytes = &mut run.commands.bytes;
                     if outcome == outcomes::CONTINUE && run.commands.batches == 2 {
-                        bytes.rotate_right(16);
-                        bytes[3] = 0;
-                        bytes[19] = 1;
+                        bytes.rotate_right(HEADER);
+                        bytes[4] = 0;
+                        bytes[HEADER + 4] = 1;
                     }
                     Ok(outcome)
                 },

@@ -3,7 +3,7 @@
 use crate::{variant, Variant, RUNS};
 use keeper_reference::{commands, Rules, Run, PLAIN};
 use keeper_values::numbers::limits;
-use keeper_values::Id;
+use keeper_values::{Id, TypeId};
 use std::collections::BTreeSet;
 
 /// Cuts a list in another way.
@@ -12,7 +12,7 @@ fn cut(fault: &'static str, runs: fn(&[Id]) -> Vec<&[Id]>) -> Variant {
 }
 
 /// Writes the requests of a list in another way.
-fn written(fault: &'static str, requests: fn(&mut Run, u64, u8, &[Id])) -> Variant {
+fn written(fault: &'static str, requests: fn(&mut Run, u64, TypeId, &[Id])) -> Variant {
     variant(RUNS, fault, Rules { requests, ..PLAIN })
 }
 
@@ -64,7 +64,7 @@ pub fn variants() -> Vec<Variant> {
                 let header = run.commands.bytes.len();
                 commands::requests(run, peer, type_id, ids);
                 let count = (ids.len() as u32).to_be_bytes();
-                run.commands.bytes[header + 12..header + 16].copy_from_slice(&count);
+                run.commands.bytes[header + 13..header + 17].copy_from_slice(&count);
             },
         ),
     ]

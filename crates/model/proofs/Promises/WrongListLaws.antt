@@ -56,43 +56,43 @@ module _ (size most : ℕ) (bytes : List ℕ) (positive : 0 < size) where
 
 -- two neighbours of which the first does not come before the second
 abbrev OutOfOrder : List ℕ → ℕ → Type 0
-OutOfOrder bytes i = ((i + 2) * 33 ≤ length bytes) × (before (entry 33 i bytes) (entry 33 (suc i) bytes) ≡ false)
+OutOfOrder bytes i = ((i + 2) * 34 ≤ length bytes) × (before (entry 34 i bytes) (entry 34 (suc i) bytes) ≡ false)
 
-module _ (bytes : List ℕ) (fits : list_fits 33 1024 bytes ≡ true) where
+module _ (bytes : List ℕ) (fits : list_fits 34 1024 bytes ≡ true) where
   abbrev pairs : List (List ℕ)
   pairs = entries_of pair_size bytes
 
   abbrev n : ℕ
   n = length bytes / pair_size
 
-  evenly : length bytes ≡ n * 33
+  evenly : length bytes ≡ n * 34
   unfolding list_fits
-  evenly = whole 33 (length bytes) (eqb-true (length bytes % 33) 0 (and_left (eqb (length bytes % 33) 0) (leb (length bytes) (1024 * 33)) fits))
+  evenly = whole 34 (length bytes) (eqb-true (length bytes % 34) 0 (and_left (eqb (length bytes % 34) 0) (leb (length bytes) (1024 * 34)) fits))
 
-  pair_at : (i : ℕ) → i < n → take 33 (get_or pairs i []) ≡ entry 33 i bytes
+  pair_at : (i : ℕ) → i < n → take 34 (get_or pairs i []) ≡ entry 34 i bytes
   unfolding entry
-  pair_at i l = rw (entries_at 33 n i bytes l) (entry_front 33 i 33 bytes (omega arith))
+  pair_at i l = rw (entries_at 34 n i bytes l) (entry_front 34 i 34 bytes (omega arith))
 
   same_order : (i : ℕ) → suc i < n
-      → before (take 33 (get_or pairs i [])) (take 33 (get_or pairs (suc i) [])) ≡ before (entry 33 i bytes) (entry 33 (suc i) bytes)
+      → before (take 34 (get_or pairs i [])) (take 34 (get_or pairs (suc i) [])) ≡ before (entry 34 i bytes) (entry 34 (suc i) bytes)
   same_order i l = rw (pair_at i (omega arith), pair_at (suc i) l)
 
   out_of_order : Somewhere (Unordered pair_size pairs) → Somewhere (OutOfOrder bytes)
   out_of_order s =
-      let c : length pairs ≡ n = length_entries 33 n bytes in
-      let d : length bytes ≡ n * 33 = evenly in
+      let c : length pairs ≡ n = length_entries 34 n bytes in
+      let d : length bytes ≡ n * 34 = evenly in
       let l : suc s.0 < n = omega arith in
       (s.0, (omega arith, sym (same_order s.0 l) ∙ s.1.1))
 
   unordered : Somewhere (OutOfOrder bytes) → Somewhere (Unordered pair_size pairs)
   unordered s =
-      let c : length pairs ≡ n = length_entries 33 n bytes in
-      let d : length bytes ≡ n * 33 = evenly in
+      let c : length pairs ≡ n = length_entries 34 n bytes in
+      let d : length bytes ≡ n * 34 = evenly in
       let l : suc s.0 < n = omega arith in
       (s.0, (omega arith, same_order s.0 l ∙ s.1.1))
 
   order_tells : Tells (rising pair_size pairs) (Somewhere (OutOfOrder bytes))
-  order_tells = tells_as out_of_order unordered (rising_tells 33 pairs)
+  order_tells = tells_as out_of_order unordered (rising_tells 34 pairs)
 
 -- ---- all lists of a call
 
@@ -108,7 +108,7 @@ module _ (s : Seen) where
   abbrev BadIdsAsTested : Type 0
   BadIdsAsTested =
       (BadList 32 1024 s.call.ids ⊎ ((s.call.kind ≡ 3) × (length s.call.ids ≡ 32 → ⊥)))
-      ⊎ (BadList 32 400 s.call.continuation ⊎ (BadList 33 1024 s.call.stored ⊎ Somewhere (OutOfOrder s.call.stored)))
+      ⊎ (BadList 32 400 s.call.continuation ⊎ (BadList 34 1024 s.call.stored ⊎ Somewhere (OutOfOrder s.call.stored)))
 
   bad_ids : BadIdsAsTested → BadIds s
   bad_ids =
@@ -130,7 +130,7 @@ module _ (s : Seen) where
       (both_tell (list_tells 32 1024 s.call.ids (omega arith)) (λ e. one_tells s.call.kind (length s.call.ids)))
       (λ e.
       both_tell (list_tells 32 400 s.call.continuation (omega arith))
-      (λ e. both_tell (list_tells 33 1024 s.call.stored (omega arith)) (λ f. order_tells s.call.stored f))))
+      (λ e. both_tell (list_tells 34 1024 s.call.stored (omega arith)) (λ f. order_tells s.call.stored f))))
 
   pub peers_tell : Tells (peers_fit s.call.peers) (BadPeers s)
   unfolding peers_fit

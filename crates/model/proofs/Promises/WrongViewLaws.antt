@@ -38,9 +38,9 @@ places_used row (Places.absent e) = rw (eq-eqb (get_or row 0 0) 255 e)
 places_used row (Places.counted n) = rw (ne_eqb (get_or row 0 0) 255 n)
 
 -- the tests of lists, as tests of every element
-flags_every : (places : List (List ℕ)) → flags_fit places ≡ every (λ (place : List ℕ). leb (get_or place 33 0) 1) places
+flags_every : (places : List (List ℕ)) → flags_fit places ≡ every (λ (place : List ℕ). leb (get_or place 34 0) 1) places
 flags_every [] = refl
-flags_every (place ∷ places) = ap (λ (t : Bool). leb (get_or place 33 0) 1 && t) (flags_every places)
+flags_every (place ∷ places) = ap (λ (t : Bool). leb (get_or place 34 0) 1 && t) (flags_every places)
 
 rows_every : (rows : List (List ℕ)) → rows_fit rows ≡ every row_fits rows
 rows_every [] = refl
@@ -50,33 +50,33 @@ zero_every : (bytes : List ℕ) → all_zero bytes ≡ every (λ (byte : ℕ). e
 zero_every [] = refl
 zero_every (byte ∷ bytes) = ap (λ (t : Bool). eqb byte 0 && t) (zero_every bytes)
 
-module _ (row : List ℕ) (long : length row ≡ 103) where
+module _ (row : List ℕ) (long : length row ≡ 106) where
   abbrev used : ℕ
   used = used_places row
 
   abbrev BadFlagAt : ℕ → Type 0
-  BadFlagAt i = (i < used) × (1 < get_or row (i * 34 + 34) 0)
+  BadFlagAt i = (i < used) × (1 < get_or row (i * 35 + 35) 0)
 
   abbrev UsedAt : ℕ → Type 0
-  UsedAt i = (used * 34 < i) × (i < 103) × (get_or row i 0 ≡ 0 → ⊥)
+  UsedAt i = (used * 35 < i) × (i < 106) × (get_or row i 0 ≡ 0 → ⊥)
 
-  place_flag : (i : ℕ) → get_or (entry 34 i (drop 1 row)) 33 0 ≡ get_or row (i * 34 + 34) 0
+  place_flag : (i : ℕ) → get_or (entry 35 i (drop 1 row)) 34 0 ≡ get_or row (i * 35 + 35) 0
   unfolding entry
   place_flag i =
-      let n : 1 + (i * 34 + 33) ≡ i * 34 + 34 = omega arith in
-      rw (get_or-take 34 (drop (i * 34) (drop 1 row)) 33 0 (omega arith), get_or-drop, get_or-drop, n)
+      let n : 1 + (i * 35 + 34) ≡ i * 35 + 35 = omega arith in
+      rw (get_or-take 35 (drop (i * 35) (drop 1 row)) 34 0 (omega arith), get_or-drop, get_or-drop, n)
 
-  flags_tell : Tells (flags_fit (entries 34 used (drop 1 row))) (Somewhere BadFlagAt)
+  flags_tell : Tells (flags_fit (entries 35 used (drop 1 row))) (Somewhere BadFlagAt)
   flags_tell =
-      rw (flags_every (entries 34 used (drop 1 row)))
-      (entries_tell (λ (place : List ℕ). leb (get_or place 33 0) 1) 34 used (drop 1 row) (λ i. 1 < get_or row (i * 34 + 34) 0)
-      (λ i l. rw (place_flag i) (le_tells (get_or row (i * 34 + 34) 0) 1)))
+      rw (flags_every (entries 35 used (drop 1 row)))
+      (entries_tell (λ (place : List ℕ). leb (get_or place 34 0) 1) 35 used (drop 1 row) (λ i. 1 < get_or row (i * 35 + 35) 0)
+      (λ i l. rw (place_flag i) (le_tells (get_or row (i * 35 + 35) 0) 1)))
 
   -- past the used places
-  unused_tells : Tells (all_zero (drop (1 + used * 34) row)) (Somewhere UsedAt)
+  unused_tells : Tells (all_zero (drop (1 + used * 35) row)) (Somewhere UsedAt)
   unused_tells =
-      let from : ℕ = 1 + used * 34 in
-      let c : length (drop from row) ≡ 103 - from = length-drop from row ∙ ap (λ (n : ℕ). n - from) long in
+      let from : ℕ = 1 + used * 35 in
+      let c : length (drop from row) ≡ 106 - from = length-drop from row ∙ ap (λ (n : ℕ). n - from) long in
       rw (zero_every (drop from row))
       (tells_as
       (λ s. (from + s.0, (omega arith, omega arith, s.1.1)))
@@ -110,44 +110,44 @@ module _ (bytes : List ℕ) where
   rows = row_count bytes
 
   abbrev HasRows : ℕ → Type 0
-  HasRows n = length bytes ≡ 4 + n * 103
+  HasRows n = length bytes ≡ 4 + n * 106
 
   row_count_lem : (n : ℕ) → HasRows n → n ≡ rows
   unfolding row_count
   row_count_lem n e =
-      let m : length bytes - 4 ≡ n * 103 = omega arith in
-      sym (mul-div_cancel n (omega arith)) ∙ ap (λ (m : ℕ). m / 103) (sym m)
+      let m : length bytes - 4 ≡ n * 106 = omega arith in
+      sym (mul-div_cancel n (omega arith)) ∙ ap (λ (m : ℕ). m / 106) (sym m)
 
   -- the first height, then whole rows
   abbrev whole_rows : Bool
-  whole_rows = leb 4 (length bytes) && eqb ((length bytes - 4) % 103) 0
+  whole_rows = leb 4 (length bytes) && eqb ((length bytes - 4) % 106) 0
 
   has_rows_lem : whole_rows ≡ true → HasRows rows
   unfolding row_count
   has_rows_lem e =
-      let rest = eqb ((length bytes - 4) % 103) 0 in
+      let rest = eqb ((length bytes - 4) % 106) 0 in
       let l : 4 ≤ length bytes = leb-true 4 (length bytes) (and_left (leb 4 (length bytes)) rest e) in
-      let w = whole 103 (length bytes - 4) (eqb-true ((length bytes - 4) % 103) 0 (and_right (leb 4 (length bytes)) rest e)) in
+      let w = whole 106 (length bytes - 4) (eqb-true ((length bytes - 4) % 106) 0 (and_right (leb 4 (length bytes)) rest e)) in
       omega arith
 
   rows_whole : Somewhere HasRows → whole_rows ≡ true
   rows_whole w =
-      let l : length bytes ≡ 4 + w.0 * 103 = w.1 in
-      let m : length bytes - 4 ≡ w.0 * 103 = omega arith in
-      let z : (length bytes - 4) % 103 ≡ 0 = ap (λ (n : ℕ). n % 103) m ∙ mul-mod_left w.0 103 in
-      rw (le-leb 4 (length bytes) (omega arith), eq-eqb ((length bytes - 4) % 103) 0 z)
+      let l : length bytes ≡ 4 + w.0 * 106 = w.1 in
+      let m : length bytes - 4 ≡ w.0 * 106 = omega arith in
+      let z : (length bytes - 4) % 106 ≡ 0 = ap (λ (n : ℕ). n % 106) m ∙ mul-mod_left w.0 106 in
+      rw (le-leb 4 (length bytes) (omega arith), eq-eqb ((length bytes - 4) % 106) 0 z)
 
   size_tells : Tells whole_rows (Somewhere HasRows → ⊥)
   size_tells = tells_not whole_rows (λ e. (rows, has_rows_lem e)) rows_whole
 
   abbrev BadRowAt : ℕ → Type 0
-  BadRowAt i = BadRow (entry 103 i (drop 4 bytes))
+  BadRowAt i = BadRow (entry 106 i (drop 4 bytes))
 
-  rows_tell : HasRows rows → Tells (rows_fit (entries 103 rows (drop 4 bytes))) (Somewhere (λ i. (i < rows) × BadRowAt i))
+  rows_tell : HasRows rows → Tells (rows_fit (entries 106 rows (drop 4 bytes))) (Somewhere (λ i. (i < rows) × BadRowAt i))
   rows_tell has =
-      rw (rows_every (entries 103 rows (drop 4 bytes)))
-      (entries_tell row_fits 103 rows (drop 4 bytes) BadRowAt
-      (λ i l. row_tells (entry 103 i (drop 4 bytes)) (length_entry 103 i (drop 4 bytes) (simp length-drop (omega arith)))))
+      rw (rows_every (entries 106 rows (drop 4 bytes)))
+      (entries_tell row_fits 106 rows (drop 4 bytes) BadRowAt
+      (λ i l. row_tells (entry 106 i (drop 4 bytes)) (length_entry 106 i (drop 4 bytes) (simp length-drop (omega arith)))))
 
   -- of so many rows, one past the last height or a bad one
   abbrev BadRows : ℕ → Type 0
@@ -159,8 +159,8 @@ module _ (bytes : List ℕ) where
   tested_tells : Tells (view_fits bytes) BadViewAsTested
   unfolding view_fits first_height
   tested_tells =
-      tells_joined (leb 4 (length bytes)) (eqb ((length bytes - 4) % 103) 0)
-      (leb (first_height bytes + rows) (2 ^ 32) && rows_fit (entries 103 rows (drop 4 bytes)))
+      tells_joined (leb 4 (length bytes)) (eqb ((length bytes - 4) % 106) 0)
+      (leb (first_height bytes + rows) (2 ^ 32) && rows_fit (entries 106 rows (drop 4 bytes)))
       (both_tell size_tells
       (λ e.
       tells_as (λ w. (rows, (has_rows_lem e, w))) (λ w. subst BadRows (row_count_lem w.0 w.1.0) w.1.1)

@@ -36,10 +36,10 @@ pub data BadIds (s : Seen) : Type 0 where
   -- a needed modifier is one id
   not_one : s.call.kind ≡ Numbers.needed_modifier → (length s.call.ids ≡ 32 → ⊥) → BadIds s
   continuation : BadList 32 400 s.call.continuation → BadIds s
-  stored : BadList 33 1024 s.call.stored → BadIds s
+  stored : BadList 34 1024 s.call.stored → BadIds s
   -- a pair that does not come before the next one
   order :
-      (i : ℕ) → (i + 2) * 33 ≤ length s.call.stored → before (entry 33 i s.call.stored) (entry 33 (suc i) s.call.stored) ≡ false
+      (i : ℕ) → (i + 2) * 34 ≤ length s.call.stored → before (entry 34 i s.call.stored) (entry 34 (suc i) s.call.stored) ≡ false
       → BadIds s
 
 -- 7: "peer list of bad length or size"
@@ -54,14 +54,14 @@ pub data Places (row : List ℕ) : ℕ → Type 0 where
 -- "count 0 to 3 or 255 (header absent), then three places of type, id, stored 0 or 1; unused places zero"
 pub data BadRow (row : List ℕ) : Type 0 where
   count : (n : ℕ) → Places row n → 3 < n → BadRow row
-  flag : (n i : ℕ) → Places row n → i < n → 1 < get_or row (i * 34 + 34) 0 → BadRow row
-  unused : (n i : ℕ) → Places row n → n * 34 < i → i < 103 → (get_or row i 0 ≡ 0 → ⊥) → BadRow row
+  flag : (n i : ℕ) → Places row n → i < n → 1 < get_or row (i * 35 + 35) 0 → BadRow row
+  unused : (n i : ℕ) → Places row n → n * 35 < i → i < 106 → (get_or row i 0 ≡ 0 → ⊥) → BadRow row
 
 -- 8: "malformed row or length"
 pub data BadView (view : List ℕ) : Type 0 where
-  size : ((rows : ℕ) → length view ≡ 4 + rows * 103 → ⊥) → BadView view
-  past_end : (rows : ℕ) → length view ≡ 4 + rows * 103 → 2 ^ 32 < field 0 4 view + rows → BadView view
-  row : (rows i : ℕ) → length view ≡ 4 + rows * 103 → i < rows → BadRow (entry 103 i (drop 4 view)) → BadView view
+  size : ((rows : ℕ) → length view ≡ 4 + rows * 106 → ⊥) → BadView view
+  past_end : (rows : ℕ) → length view ≡ 4 + rows * 106 → 2 ^ 32 < field 0 4 view + rows → BadView view
+  row : (rows i : ℕ) → length view ≡ 4 + rows * 106 → i < rows → BadRow (entry 106 i (drop 4 view)) → BadView view
 
 -- ---- 9, by the heights that a step reads
 

@@ -6,10 +6,10 @@ use Rattle.model.specs.Promises.Numbers
 use Rattle.model.specs.Promises.Words.{Seen, Counted}
 use Rattle.model.specs.Promises.Pending.{Overdue, Forgotten, Abandoned, Retried}
 
--- the bytes of some commands: 16 each, and 32 an id
+-- the bytes of some commands: 17 each, and 32 an id
 abbrev pub bytes_of : List Command → ℕ
 bytes_of [] = 0
-bytes_of (c ∷ commands) = 16 + 32 * length c.ids + bytes_of commands
+bytes_of (c ∷ commands) = 17 + 32 * length c.ids + bytes_of commands
 
 pub record Told (s : Seen) : Type 0 where
   pub pending : s.answer.pending ≡ length s.after.pending

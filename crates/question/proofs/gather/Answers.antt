@@ -1,7 +1,7 @@
 -- By what is asked for: `evicted_gathered`, `pending_gathered`.
 use native.Mathlib.Omega.{arith}
 use Rattle.question.proofs.QuestionLaws.{Area, evicted_few, evicted_counted, evicted_gathered}
-use Rattle.question.proofs.QuestionLaws.{pending_few, pending_long, types_narrow_lem, pending_gathered}
+use Rattle.question.proofs.QuestionLaws.{pending_few, pending_long, pending_gathered}
 use Rattle.question.proofs.gather.Goals.{Start}
 use Rattle.question.proofs.gather.Goals as goal
 
@@ -24,7 +24,7 @@ pub orphans-requires : goal.orphans-requires
 orphans-requires c =
     let s = (goal.at.orphans-requires c).Start in
     let area = its-area s in
-    record { record_size_in_bounds = (pending_long area, omega (arith, pending_few area, s.requires.head_value)); table_value = types_narrow_lem area }
+    (pending_long area, omega (arith, pending_few area, s.requires.head_value))
 
 pub returns-then-lost : goal.returns-then-lost
 returns-then-lost c =

@@ -1,6 +1,6 @@
 -- Sorted by ten bytes is sorted by target, then type (`sorted_sendings`).
 use native.Mathlib.Omega.{arith}
-use Rattle.retries.proofs.GroupLaws.{Sorting, sorted_asked, sorted_within, sorted_length, sorted_ids, sorted_room, sorted_sendings}
+use Rattle.retries.proofs.GroupLaws.{Sorting, sorted_asked, sorted_length, sorted_ids, sorted_room, sorted_sendings}
 use Rattle.retries.proofs.put_retries.Goals.{After-sort}
 use Rattle.retries.proofs.put_retries.Goals as goal
 
@@ -9,7 +9,7 @@ sorting : (c : After-sort) → Sorting c.args.table.now c.args.places.now c.sort
 sorting c = record { bytes = λ i. omega (arith, c.type_inv.table i); asked = c.requires.all; order = c.sort.ensures }
 
 pub gather-requires-clause-all : goal.gather-requires-clause-all
-gather-requires-clause-all c = sorted_within (sorting (goal.at.gather-requires-clause-all c).After-sort)
+gather-requires-clause-all c = sorted_asked (sorting (goal.at.gather-requires-clause-all c).After-sort)
 
 pub put_batches-requires : goal.put_batches-requires
 put_batches-requires c =

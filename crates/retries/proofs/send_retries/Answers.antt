@@ -2,7 +2,7 @@
 use Rattle.std.proofs.Common.{◌≡◌, length, arith}
 use Rattle.std.proofs.lemmas.Bool.Decides.{nat_tests}
 use Rattle.std.proofs.lemmas.List.{nil_from_length}
-use Rattle.retries.proofs.SentLaws.{asked_both, nothing_sent, unsent, none_sent, sent}
+use Rattle.retries.proofs.SentLaws.{nothing_sent, unsent, none_sent, sent}
 use Rattle.retries.proofs.send_retries.Goals as goal
 
 pub returns-then-not-gate : goal.returns-then-not-gate
@@ -17,9 +17,6 @@ returns-then-is_empty c =
     let none : length a.places.now ≡ 0 = grind (arith, nat_tests) in
     let whole = nothing_sent a.place a.out.now (none_sent a.gate a.table.now a.places.now (nil_from_length _ none)) in
     record { out_after = whole.0; value = whole.1 }
-
-pub put_retries-requires-clause-all : goal.put_retries-requires-clause-all
-put_retries-requires-clause-all c = asked_both c.args.table.now c.args.places.now c.requires.all c.requires.all_2
 
 pub returns : goal.returns
 returns c =

@@ -204,7 +204,7 @@ pub fn modifier_type(word: &str) -> Result<ModifierType, String> {
     let number = || super::words::number(word).and_then(ModifierType::new);
     known.map(|(_, found)| *found).or_else(number).ok_or_else(|| {
         format!(
-            "`{word}` is not a type: expected transaction, header, block, proofs, extension or a number up to 255"
+            "`{word}` is not a type: expected transaction, header, block, proofs, extension or a number up to 65,535"
         )
     })
 }

@@ -13,7 +13,7 @@ use std::thread::sleep;
 use std::time::Duration;
 
 /// A word for each mistake of the class, and the fault by which `keeper_variants` knows it.
-const CLASS: [(&str, &str); 6] = [
+const CLASS: [(&str, &str); 7] = [
     ("older-stamp", "a retry keeps its older stamp"),
     (
         "no-check-behind-a-shut-gate",
@@ -31,6 +31,10 @@ const CLASS: [(&str, &str); 6] = [
     (
         "synced-by-any-peer",
         "an empty header list is Synced, from any peer",
+    ),
+    (
+        "type-by-its-low-byte",
+        "an announced type is known by its low byte",
     ),
 ];
 

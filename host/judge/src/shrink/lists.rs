@@ -2,16 +2,17 @@
 
 use super::{Shrinker, ROUGH};
 use crate::stream::{Call, VIEW_HEAD, VIEW_ROW};
+use keeper_values::numbers::widths::{ID, PAIR, PEER};
 use keeper_values::Arguments;
 
 type ListOf = fn(&mut Arguments) -> &mut Vec<u8>;
 
 /// The lists of a step: where its entries begin, and how wide they are.
 const LISTS: [(ListOf, usize, usize); 5] = [
-    (|step| &mut step.ids, 0, 32),
-    (|step| &mut step.continuation, 0, 32),
-    (|step| &mut step.stored, 0, 33),
-    (|step| &mut step.peers, 0, 8),
+    (|step| &mut step.ids, 0, ID),
+    (|step| &mut step.continuation, 0, ID),
+    (|step| &mut step.stored, 0, PAIR),
+    (|step| &mut step.peers, 0, PEER),
     (|step| &mut step.view, VIEW_HEAD, VIEW_ROW),
 ];
 

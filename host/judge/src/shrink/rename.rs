@@ -1,6 +1,7 @@
 //! Ids and peers by small numbers, in their order.
 
-use crate::stream::{id, view_places, Call, Stream};
+use crate::stream::{id, view_pairs, Call, Stream};
+use keeper_values::numbers::widths::{ID, PAIR, TYPE};
 use keeper_values::Id;
 use std::collections::{BTreeMap, BTreeSet};
 
@@ -20,15 +21,15 @@ pub fn ids(stream: &Stream) -> Stream {
     let mut renamed = stream.clone();
     for call in &mut renamed.calls {
         let Call::Step(step) = call else { continue };
-        let lists = step.ids.chunks_exact_mut(32);
+        let lists = step.ids.chunks_exact_mut(ID);
         lists
-            .chain(step.continuation.chunks_exact_mut(32))
+            .chain(step.continuation.chunks_exact_mut(ID))
             .for_each(rename);
         step.stored
-            .chunks_exact_mut(33)
-            .for_each(|pair| rename(&mut pair[1..]));
-        for at in view_places(&step.view) {
-            if let Some(bytes) = step.view.get_mut(at..at + 32) {
+            .chunks_exact_mut(PAIR)
+            .for_each(|pair| rename(&mut pair[TYPE..]));
+        for at in view_pairs(&step.view) {
+            if let Some(bytes) = step.view.get_mut(at + TYPE..at + PAIR) {
                 rename(bytes);
             }
         }

@@ -1,6 +1,7 @@
 //! A child module of the original's delivery.rs, so that its private fields can be read and put.
 
 use super::{CheckResult, DeliveryTracker, PendingRequest};
+use crate::domain::byte;
 use enr_p2p::types::PeerId;
 use keeper_values::{Id, Request};
 use std::collections::BTreeMap;
@@ -9,7 +10,7 @@ use tokio::time::Instant;
 pub fn pending(tracker: &DeliveryTracker) -> BTreeMap<Id, Request> {
     let request = |request: &PendingRequest| Request {
         peer: request.peer.0,
-        type_id: request.type_id,
+        type_id: request.type_id.into(),
         stamp: request.requested_at.as_millis(),
         checks: request.checks,
     };
@@ -27,7 +28,7 @@ pub fn evicted(tracker: &DeliveryTracker) -> Vec<Id> {
 pub fn put(tracker: &mut DeliveryTracker, pending: &BTreeMap<Id, Request>, evicted: &[Id]) {
     let request = |request: &Request| PendingRequest {
         peer: PeerId(request.peer),
-        type_id: request.type_id,
+        type_id: byte(request.type_id),
         requested_at: Instant::from_millis(request.stamp),
         checks: request.checks,
     };

@@ -7,6 +7,8 @@ use std::fmt::Write;
 const DOWNLOADED: u32 = 0x0102_0304;
 /// Two heights above the window.
 const CHAIN_HEIGHT: u32 = DOWNLOADED + 194;
+/// Of the first row.
+const ROW_END: usize = 4 + 106;
 
 /// A map, and what it has answered.
 struct Played<'a> {
@@ -90,9 +92,9 @@ impl Played<'_> {
         let whole = [
             boundary::map_fill(short, DOWNLOADED, CHAIN_HEIGHT, &view[..3]),
             boundary::map_slide(short, DOWNLOADED + 2, &view[..3]),
-            boundary::map_fill(&mut bytes, DOWNLOADED, CHAIN_HEIGHT, &view[..106]),
-            boundary::map_slide(&mut bytes, DOWNLOADED + 2, &view[..106]),
-            boundary::map_fill(&mut bytes, DOWNLOADED, CHAIN_HEIGHT, &view[..107]),
+            boundary::map_fill(&mut bytes, DOWNLOADED, CHAIN_HEIGHT, &view[..ROW_END - 1]),
+            boundary::map_slide(&mut bytes, DOWNLOADED + 2, &view[..ROW_END - 1]),
+            boundary::map_fill(&mut bytes, DOWNLOADED, CHAIN_HEIGHT, &view[..ROW_END]),
         ];
         assert_eq!(whole, [12, 12, 8, 8, 9]);
         assert_eq!((answer.number, answer.heights), (12, 0));

@@ -15,6 +15,9 @@ pub const EIGHT: Peer = Peer(0x0800_0000_0000_0008);
 pub const BLOCK: ModifierType = ModifierType::BLOCK_TRANSACTIONS;
 pub const EXTENSION: ModifierType = ModifierType::EXTENSION;
 pub const HEADER: ModifierType = ModifierType::HEADER;
+/// Types of two bytes, that either byte alone does not tell.
+pub const NEEDED: ModifierType = ModifierType::from_number(0x6865);
+pub const SECTION: ModifierType = ModifierType::from_number(0x6c66);
 
 pub fn id(number: u8) -> Id {
     [number; 32]
@@ -41,8 +44,9 @@ pub fn view(first: u32, rows: &[[Section; 1]]) -> View {
 }
 
 /// A command's bytes.
-pub fn command(kind: u8, type_id: u8, batch: u16, to: Peer, ids: &[Id]) -> Vec<u8> {
-    let mut bytes = vec![kind, type_id];
+pub fn command(kind: u8, type_id: u16, batch: u16, to: Peer, ids: &[Id]) -> Vec<u8> {
+    let mut bytes = vec![kind];
+    bytes.extend(type_id.to_be_bytes());
     bytes.extend(batch.to_be_bytes());
     bytes.extend(to.0.to_be_bytes());
     bytes.extend((ids.len() as u32).to_be_bytes());

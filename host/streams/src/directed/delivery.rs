@@ -3,9 +3,9 @@
 use crate::build::{id, ids, pending, syncing, Build, CASES};
 use crate::Script;
 use keeper_values::numbers::kinds;
-use keeper_values::{Mode, Request, Settings, State};
+use keeper_values::{Mode, Request, Settings, State, TypeId};
 
-pub(super) fn request(peer: u64, type_id: u8, stamp: u64, checks: u32) -> Request {
+pub(super) fn request(peer: u64, type_id: TypeId, stamp: u64, checks: u32) -> Request {
     Request {
         peer,
         type_id,

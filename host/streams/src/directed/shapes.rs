@@ -5,7 +5,7 @@ use crate::rng::Rng;
 use crate::shapes::Shape;
 use crate::Script;
 use keeper_values::numbers::kinds;
-use keeper_values::{Id, Place, Row, View};
+use keeper_values::{Id, Place, Row, TypeId, View};
 
 /// So many ids of a shape, in no order.
 fn drawn(shape: Shape, count: usize) -> Vec<Id> {
@@ -23,7 +23,7 @@ fn drawn(shape: Shape, count: usize) -> Vec<Id> {
 
 /// Three missing sections at each height from 1 on.
 fn sections(ids: &[Id]) -> View {
-    let place = |(type_id, id): (u8, &Id)| Place {
+    let place = |(type_id, id): (TypeId, &Id)| Place {
         type_id,
         id: *id,
         stored: false,
@@ -38,7 +38,7 @@ fn sections(ids: &[Id]) -> View {
 pub fn scripts() -> Vec<Script> {
     let script = |(shape, name): (Shape, &str)| {
         let ids = drawn(shape, 1_300);
-        let stored = |type_id: u8, ids: &[Id]| ids.iter().map(|id| (type_id, *id)).collect();
+        let stored = |type_id: TypeId, ids: &[Id]| ids.iter().map(|id| (type_id, *id)).collect();
         Build::begun(&format!("ids of a shape: {name}"), CASES, 4)
             .call(kinds::ANNOUNCED, |c| {
                 c.peer = 6;

@@ -3,6 +3,7 @@
 use super::Cases;
 use crate::build::id;
 use keeper_values::numbers::kinds;
+use keeper_values::numbers::widths::{ID, PAIR, PEER, PLACE, ROW};
 use keeper_values::Mode;
 
 /// The call: 4 and 5.
@@ -63,8 +64,8 @@ pub fn lists(cases: &mut Cases) {
         (1, 6),
         (31, 6),
         (33, 6),
-        (32 * 1_024, 0),
-        (32 * 1_025, 6),
+        (ID * 1_024, 0),
+        (ID * 1_025, 6),
     ] {
         cases.add(&format!("ids of {bytes} bytes"), number, |_, d| {
             d.arguments.ids = vec![7; bytes];
@@ -73,17 +74,17 @@ pub fn lists(cases: &mut Cases) {
     for (count, number) in [(0, 6), (1, 0), (2, 6)] {
         cases.add(&format!("{count} needed modifiers"), number, |_, d| {
             d.arguments.kind = kinds::NEEDED;
-            d.arguments.ids = vec![7; 32 * count];
+            d.arguments.ids = vec![7; ID * count];
         });
     }
-    for (bytes, number) in [(0, 0), (31, 6), (32 * 400, 0), (32 * 401, 6)] {
+    for (bytes, number) in [(0, 0), (31, 6), (ID * 400, 0), (ID * 401, 6)] {
         cases.add(&format!("continuation of {bytes} bytes"), number, |_, d| {
             d.arguments.continuation = vec![7; bytes];
         });
     }
     let rising = |count: u16| -> Vec<u8> {
         let pair = |number: u16| {
-            let mut pair = vec![101; 31];
+            let mut pair = vec![101; PAIR - 2];
             pair.extend(number.to_be_bytes());
             pair
         };
@@ -98,16 +99,31 @@ pub fn lists(cases: &mut Cases) {
         d.arguments.stored.pop();
     });
     cases.add("a stored pair twice", 6, |_, d| {
-        let last = d.arguments.stored[66..].to_vec();
+        let last = d.arguments.stored[2 * PAIR..].to_vec();
         d.arguments.stored.extend(last);
     });
     cases.add("stored pairs falling by type", 6, |_, d| {
-        d.arguments.stored.rotate_left(33);
+        d.arguments.stored.rotate_left(PAIR);
     });
     cases.add("stored pairs falling by id", 6, |_, d| {
-        d.arguments.stored[33..].rotate_left(33);
+        d.arguments.stored[PAIR..].rotate_left(PAIR);
     });
-    for (bytes, number) in [(0, 0), (7, 7), (9, 7), (8 * 128, 0), (8 * 129, 7)] {
+    for (types, number) in [
+        ([255, 256], 0),
+        ([256, 255], 6),
+        ([258, 511], 0),
+        ([511, 258], 6),
+        ([513, 258], 6),
+        ([300, 65_535], 0),
+        ([65_535, 300], 6),
+    ] {
+        let name = format!("stored pairs of types {types:?}");
+        cases.add(&name, number, |_, d| {
+            let pair = |type_id: u16| [&type_id.to_be_bytes()[..], &id(1)].concat();
+            d.arguments.stored = types.map(pair).concat();
+        });
+    }
+    for (bytes, number) in [(0, 0), (7, 7), (9, 7), (PEER * 128, 0), (PEER * 129, 7)] {
         cases.add(&format!("peers of {bytes} bytes"), number, |_, d| {
             d.arguments.peers = vec![7; bytes];
         });
@@ -126,9 +142,21 @@ pub fn lists(cases: &mut Cases) {
     });
 }
 
-/// Rows of the good view stand at 4 (absent), 107 (one place) and 210 (three places).
+/// Where the rows of the good view stand: an absent header, one place, three places.
+const ABSENT: usize = 4;
+const ONE: usize = ABSENT + ROW;
+const THREE: usize = ONE + ROW;
+
 pub fn views(cases: &mut Cases) {
-    for (length, number) in [(0, 8), (3, 8), (4, 0), (5, 8), (106, 8), (107, 0), (108, 8)] {
+    for (length, number) in [
+        (0, 8),
+        (ABSENT - 1, 8),
+        (ABSENT, 0),
+        (ABSENT + 1, 8),
+        (ONE - 1, 8),
+        (ONE, 0),
+        (ONE + 1, 8),
+    ] {
         cases.add(&format!("view of {length} bytes"), number, |_, d| {
             d.arguments.view.truncate(length);
         });
@@ -148,24 +176,27 @@ pub fn views(cases: &mut Cases) {
         d.arguments.view = vec![255; 4]
     });
     for (at, byte, number) in [
-        (4, 254, 8),
-        (4, 4, 8),
-        (4, 0, 0),
-        (5, 1, 8),
-        (106, 1, 8),
-        (107, 0, 8),
-        (107, 255, 8),
-        (107, 2, 0),
-        (107, 4, 8),
-        (141, 1, 0),
-        (141, 2, 8),
-        (142, 1, 8),
-        (209, 1, 8),
-        (210, 2, 8),
-        (244, 2, 8),
-        (278, 255, 8),
-        (312, 1, 0),
-        (312, 2, 8),
+        (ABSENT, 254, 8),
+        (ABSENT, 4, 8),
+        (ABSENT, 0, 0),
+        (ABSENT + 1, 1, 8),
+        (ONE - 1, 1, 8),
+        (ONE, 0, 8),
+        (ONE, 255, 8),
+        (ONE, 2, 0),
+        (ONE, 4, 8),
+        // The high byte of a type.
+        (ONE + 1, 1, 0),
+        (ONE + 1, 255, 0),
+        (ONE + PLACE, 1, 0),
+        (ONE + PLACE, 2, 8),
+        (ONE + PLACE + 1, 1, 8),
+        (THREE - 1, 1, 8),
+        (THREE, 2, 8),
+        (THREE + PLACE, 2, 8),
+        (THREE + 2 * PLACE, 255, 8),
+        (THREE + 3 * PLACE, 1, 0),
+        (THREE + 3 * PLACE, 2, 8),
     ] {
         cases.add(&format!("view byte {at} is {byte}"), number, |_, d| {
             d.arguments.view[at] = byte;

@@ -4,6 +4,7 @@ use super::{mark, KINDS, WINDOW};
 use crate::damage;
 use crate::noise;
 use crate::rng::Rng;
+use keeper_values::numbers::widths::ROW;
 use keeper_values::{MapCall, MAP_BYTES};
 
 /// A place in the map, as likely in a small field as in a large one.
@@ -82,7 +83,7 @@ fn view(rng: &mut Rng, good: &[u8]) -> Vec<u8> {
             view
         }
         3 => {
-            let length = 4 + 103 * rng.index(4);
+            let length = 4 + ROW * rng.index(4);
             noise::bytes(rng, length)
         }
         4 => {
@@ -94,7 +95,7 @@ fn view(rng: &mut Rng, good: &[u8]) -> Vec<u8> {
             let mut view = noise::number(rng).to_be_bytes().to_vec();
             for _ in 0..rng.below(4) {
                 view.push(255);
-                view.extend([0; 102]);
+                view.extend([0; ROW - 1]);
             }
             view
         }

@@ -2,6 +2,7 @@
 
 use super::{both, malformed_views, no_rows, ready, row, view, Build, MapScript};
 use super::{ABSENT, KINDS, WINDOW};
+use keeper_values::numbers::widths::ROW;
 use keeper_values::{View, MAP_BYTES};
 
 pub fn scripts() -> Vec<MapScript> {
@@ -163,7 +164,7 @@ fn views() -> Vec<MapScript> {
     }
     // The row that is not well formed stands behind those that are needed.
     let mut late = view(11, &[17; 3]);
-    late[4 + 2 * 103] = 4;
+    late[4 + 2 * ROW] = 4;
     scripts.push(
         Build::zeros("a malformed row that is not read")
             .fill(10, 11, late, 8)

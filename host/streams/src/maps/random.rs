@@ -51,7 +51,7 @@ impl RandomMap {
         }
         let count = fixed.below(4) as u8;
         let place = |place| Place {
-            type_id: fixed.draw() as u8,
+            type_id: fixed.draw() as u16,
             id: [height as u8; 32],
             stored: !fixed.once_in(self.missing) ^ self.turned.contains(&(height, place)),
         };

@@ -3,6 +3,7 @@
 use super::f1;
 use crate::Variant;
 use keeper_reference::{inputs, map, Refusal, Rules, PLAIN};
+use keeper_values::numbers::widths::ROW;
 
 pub fn variants() -> Vec<Variant> {
     vec![
@@ -67,7 +68,7 @@ pub fn variants() -> Vec<Variant> {
                         .first_chunk()
                         .map_or(0, |first| u32::from_be_bytes(*first));
                     let rows = (last + 1).saturating_sub(first.into()) as usize;
-                    let read = view.len().min(4 + 103 * rows);
+                    let read = view.len().min(4 + ROW * rows);
                     map::filled(rules, &view[..read], chain, heights)
                 },
                 ..PLAIN

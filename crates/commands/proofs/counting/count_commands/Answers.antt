@@ -5,9 +5,9 @@ use Rattle.commands.proofs.counting.count_commands.Goals as goal
 
 -- ---- the goals
 
-pub returns-then-bytes-at-lt16 : goal.returns-then-bytes-at-lt16
-returns-then-bytes-at-lt16 c =
-    ends_short c.loop-at.invariant (omega arith) c.if-bytes-at-lt16.true
+pub returns-then-bytes-at-lt-COMMAND_HEADER : goal.returns-then-bytes-at-lt-COMMAND_HEADER
+returns-then-bytes-at-lt-COMMAND_HEADER c =
+    ends_short c.loop-at.invariant (omega arith) c.if-bytes-at-lt-COMMAND_HEADER.true
 
 pub loop-at-preserved : goal.loop-at-preserved
 loop-at-preserved c =

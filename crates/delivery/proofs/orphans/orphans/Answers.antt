@@ -1,10 +1,7 @@
 use mathlib.Core.Path.{◌∙◌}
-use Rattle.delivery.proofs.OrphanLaws.{passes, takes, gathered, narrow_at}
+use Rattle.delivery.proofs.OrphanLaws.{passes, takes, gathered}
 use Rattle.delivery.proofs.orphans.orphans.Goals.{then-is_orphan, else-is_orphan}
 use Rattle.delivery.proofs.orphans.orphans.Goals as goal
-
-pub put_pair-requires-clause-table_value : goal.put_pair-requires-clause-table_value
-put_pair-requires-clause-table_value c = narrow_at c.args.count c.loop-i.i c.args.table.now c.requires.table_value c.loop-i-test.true
 
 pub loop-i-preserved : goal.loop-i-preserved
 loop-i-preserved c =
@@ -12,7 +9,7 @@ loop-i-preserved c =
     let inside = c.loop-i-test.true in
     let whether = c.is_orphan.ensures in
     elim c.if-is_orphan.branch [
-      | then-is_orphan w ↦ takes gathering inside c.requires.record_size_in_bounds.0 c.requires.record_size_in_bounds.1 whether w.if-is_orphan.true (w.pairs-is ∙ w.put_pair.ensures) w.found-is
+      | then-is_orphan w ↦ takes gathering inside c.requires.0 c.requires.1 whether w.if-is_orphan.true (w.pairs-is ∙ w.put_pair.ensures) w.found-is
       | else-is_orphan w ↦ passes gathering inside whether w.if-is_orphan.false w.pairs-is w.found-is
     ]
 

@@ -32,4 +32,4 @@ shape_of-area c = simp length-set
 pub returns : goal.returns
 returns c =
     let a = c.args in
-    rw (c.from-2.ensures, c.from.ensures, bit_byte a.sent, bit_byte a.used) (eight_set 69 68 84 0 1 a.mode (bit a.used) (bit a.sent) a.area.now (omega arith))
+    rw (c.from-2.ensures, c.from.ensures, bit_byte a.sent, bit_byte a.used) (eight_set 69 68 84 0 2 a.mode (bit a.used) (bit a.sent) a.area.now (omega arith))

@@ -7,4 +7,4 @@ pub returns : goal.returns
 returns c =
     let a = c.args in
     record_written a.asking.clock a.asking.typeid a.asking.peer a.at a.id.now a.out.now (search rules) c.requires
-    c.overwrite.ensures c.write_u64.ensures (rw c.from.ensures at c.write_u16.ensures) c.write_u64-2.ensures c.write_u32.ensures
+    c.overwrite.ensures c.write_u64.ensures c.write_u16.ensures c.write_u64-2.ensures c.write_u32.ensures

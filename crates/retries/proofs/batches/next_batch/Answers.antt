@@ -1,17 +1,11 @@
 -- Its end by `batch_end`, its target and type by the first record: `batch_as`.
-use native.Mathlib.Omega.{arith}
-use Rattle.retries.proofs.ItemLaws.{First, type_small, batch_as}
+use Rattle.retries.proofs.ItemLaws.{First, batch_as}
 use Rattle.retries.proofs.batches.next_batch.Goals.{After-from-at}
 use Rattle.retries.proofs.batches.next_batch.Goals as goal
 
 -- the place of the first record
 this : (c : After-from-at) → First c.args.table.now c.args.places.now c.args.first
 this c = record { asked = c.requires.0; inside = c.requires.1 }
-
-pub overflow_cast-result : goal.overflow_cast-result
-overflow_cast-result c =
-    let place = (goal.at.overflow_cast-result c).After-from-at in
-    omega (arith, type_small (this place) place.from-at.ensures c.read_u16.ensures)
 
 pub returns : goal.returns
 returns c =

@@ -8,7 +8,7 @@ use lib.Seq.{length-take-le}
 use Rattle.model.specs.Protocol.{tracked_limit}
 use Rattle.peers.specs.Aims.{aimed_at}
 use Rattle.work.proofs.AimLaws.{aim_fits}
-use Rattle.work.proofs.CheckLaws.{Due, made_retried, places_inside, places_narrow, checked_so}
+use Rattle.work.proofs.CheckLaws.{Due, made_retried, places_inside, checked_so}
 use Rattle.work.proofs.region_check.check_region.Goals.{After-check_timeouts-made}
 use Rattle.work.proofs.region_check.check_region.Goals as goal
 
@@ -51,7 +51,6 @@ send_retries-next-requires c =
     let number = all_noted checked in
     record {
       all = places_inside its made.table_after made.places_after;
-      all_2 = places_narrow its made.table_after made.places_after;
       room = (
         omega (arith, number, few checked, its.tracked.few),
         (omega (arith, number, few checked, c.requires.room.bytes), c.requires.room.batches),

@@ -22,7 +22,7 @@ module _ (c : After-unasked-before) where
         room = c.requires.room;
       }
 
-  type_fits : c.args.call.typeid < 2 ^ 8
+  type_fits : c.args.call.typeid < 2 ^ 16
   type_fits = omega (arith, c.well_formed.1.1.0)
 
 pub returns : goal.returns

@@ -25,10 +25,10 @@ module _ (c : After-expired) where
 pub returns-then-not-expired : goal.returns-then-not-expired
 returns-then-not-expired c = not_expired (seen (goal.at.returns-then-not-expired c).After-expired) (ap not c.if-not-expired.true)
 
-pub returns-then-typeid-eq-TRANSACTION : goal.returns-then-typeid-eq-TRANSACTION
-returns-then-typeid-eq-TRANSACTION c =
-    let here = (goal.at.returns-then-typeid-eq-TRANSACTION c).After-expired in
-    is_forgotten (seen here) (ap not c.if-not-expired.false) c.if-typeid-eq-TRANSACTION.true
+pub returns-then-typeid-eq-TRANSACTION_TYPE_ID : goal.returns-then-typeid-eq-TRANSACTION_TYPE_ID
+returns-then-typeid-eq-TRANSACTION_TYPE_ID c =
+    let here = (goal.at.returns-then-typeid-eq-TRANSACTION_TYPE_ID c).After-expired in
+    is_forgotten (seen here) (ap not c.if-not-expired.false) c.if-typeid-eq-TRANSACTION_TYPE_ID.true
 
 pub overflow_add-checks : goal.overflow_add-checks
 overflow_add-checks c =
@@ -37,9 +37,9 @@ overflow_add-checks c =
 pub returns-then-given_up : goal.returns-then-given_up
 returns-then-given_up c =
     let here = (goal.at.returns-then-given_up c).After-expired in
-    is_abandoned (seen here) (ap not c.if-not-expired.false) c.if-typeid-eq-TRANSACTION.false c.given_up.ensures c.if-given_up.true
+    is_abandoned (seen here) (ap not c.if-not-expired.false) c.if-typeid-eq-TRANSACTION_TYPE_ID.false c.given_up.ensures c.if-given_up.true
 
 pub returns : goal.returns
 returns c =
     let here = (goal.at.returns c).After-expired in
-    is_retried (seen here) (ap not c.if-not-expired.false) c.if-typeid-eq-TRANSACTION.false c.given_up.ensures c.if-given_up.false
+    is_retried (seen here) (ap not c.if-not-expired.false) c.if-typeid-eq-TRANSACTION_TYPE_ID.false c.given_up.ensures c.if-given_up.false
