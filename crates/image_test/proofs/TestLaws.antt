@@ -15,7 +15,9 @@ use Rattle.fields.specs.Entries.{entries, entry, rising}
 use Rattle.fields.proofs.EntriesLaws.{entry_byte, entry_field}
 use Rattle.model.specs.Settings.{Settings, most_requests}
 use Rattle.model.specs.State.{has_sync_peer}
-use Rattle.model.specs.Image.{field, newest_version, version, mode_of, mode_byte, version_fits, types_fit, request_of, request_fits, all_fit, types_narrow, none_twice, settings_of, last_clock_of, pending_of, stalled_of, pending_count, stalled_count, evicted_count, marks_fit, counts_fit, clocks_fit, unused_zero, well_formed}
+use Rattle.model.specs.Image.{field, newest_version, version, mode_of, mode_byte, settings_of, last_clock_of, request_of, pending_of, stalled_of}
+use Rattle.model.specs.Image.{pending_count, stalled_count, evicted_count, request_fits, all_fit, types_narrow, none_twice}
+use Rattle.model.specs.Image.{version_fits, types_fit, marks_fit, counts_fit, clocks_fit, unused_zero, well_formed}
 use Rattle.settings.specs.Values as values
 use Rattle.settings.specs.declared.Settings as declared
 use Rattle.image.specs.Heads.{head_in}

@@ -13,7 +13,8 @@ use Rattle.fields.specs.Entries.{entries, rising}
 use Rattle.fields.proofs.OrderLaws.{and_left, and_right, same_eq, eq_same}
 use Rattle.model.specs.Protocol.{tracked_limit, stalled_limit}
 use Rattle.model.specs.State.{Mode, syncing, is_mode, has_sync_peer}
-use Rattle.model.specs.Image.{mode_of, bit, field, mode_byte, last_clock_of, stalled_count, pending_count, evicted_count, settings_of, stalled_of, pending_of, none_twice, all_fit, version_fits, types_fit, marks_fit, counts_fit, clocks_fit, unused_zero, well_formed}
+use Rattle.model.specs.Image.{mode_of, bit, field, mode_byte, last_clock_of, stalled_count, pending_count, evicted_count, settings_of, stalled_of, pending_of}
+use Rattle.model.specs.Image.{none_twice, all_fit, version_fits, types_fit, marks_fit, counts_fit, clocks_fit, unused_zero, well_formed}
 use Rattle.model.proofs.HeaderLaws.{mark}
 use Rattle.model.specs.Layout.{area_size, id_size, peer_size, record_size, region_at, stalled_at}
 

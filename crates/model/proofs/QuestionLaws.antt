@@ -109,7 +109,10 @@ question_answerable st flag well =
     evicted_fit : Answerable evicted
     evicted_fit =
         let t = well.tracked in
-        record { long = all_map WellId PairLong (pair_bytes header_type) (λ id w. length_pair header_type id w.long) st.sync.evicted well.sync.evicted; few = rw (length-map st.sync.evicted (pair_bytes header_type)) (omega arith) }
+        record {
+          long = all_map WellId PairLong (pair_bytes header_type) (λ id w. length_pair header_type id w.long) st.sync.evicted well.sync.evicted;
+          few = rw (length-map st.sync.evicted (pair_bytes header_type)) (omega arith);
+        }
 
     orphans_fit : Answerable orphans
     orphans_fit =

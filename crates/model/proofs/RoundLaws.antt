@@ -20,7 +20,8 @@ use Rattle.fields.proofs.PartLaws.{part_below, zero_part, numbers_read, numbers_
 use Rattle.model.specs.Protocol.{Id, tracked_limit, stalled_limit}
 use Rattle.model.specs.Delivery.{ids_of}
 use Rattle.model.specs.State.{syncing, mode_number, is_mode, State}
-use Rattle.model.specs.Image.{newest_version, version, version_fits, types_fit, bit, request_bytes, request_of, last_clock_of, stalled_count, pending_count, evicted_count, settings_of, stalled_of, pending_of, evicted_of, decode, encode, well_formed}
+use Rattle.model.specs.Image.{newest_version, version, version_fits, types_fit, bit, request_bytes, request_of, decode, encode, well_formed}
+use Rattle.model.specs.Image.{last_clock_of, stalled_count, pending_count, evicted_count, settings_of, stalled_of, pending_of, evicted_of}
 use Rattle.model.proofs.Well.{Well, WellId, WellRequest, WellSettings, RisingIds}
 use Rattle.model.proofs.RecordLaws.{Recorded, requests_of_records, records_of_requests, all_fit_lem, records_well, records_rise, ids_rise_lem}
 use Rattle.model.proofs.HeaderLaws.{Header, mode_narrow, mode_of_number, number_of_mode, bit_of, of_bit}

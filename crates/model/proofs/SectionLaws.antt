@@ -11,7 +11,8 @@ use Rattle.fields.proofs.AllLaws.{all_append, all_map}
 use Rattle.model.specs.Protocol.{window_size}
 use Rattle.model.specs.Peers.{first_of}
 use Rattle.model.specs.Requests.{ask}
-use Rattle.model.specs.Sections.{Section, Header, absent, present, View, all_stored, Advance, past, advance_within, advance_downloaded_height, Item, Batch, batches_of, Window, missing, widen, window_within, request_sections_from, request_next_sections}
+use Rattle.model.specs.Sections.{Section, Header, absent, present, View, all_stored, Advance, past, advance_within, advance_downloaded_height}
+use Rattle.model.specs.Sections.{Item, Batch, batches_of, Window, missing, widen, window_within, request_sections_from, request_next_sections}
 use Rattle.model.proofs.Widths.{IfSome, WellPeer, WellHeight, WellItem, WellBatch, WellAct, WellSection, WellHeader, WellView}
 use Rattle.model.proofs.BatchLaws.{batches_well}
 use Rattle.model.proofs.PeerLaws.{first_well}

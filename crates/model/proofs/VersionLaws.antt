@@ -20,7 +20,8 @@ use Rattle.model.specs.Protocol.{tracked_limit}
 use Rattle.model.specs.Delivery.{Request}
 use Rattle.model.specs.State.{State}
 use Rattle.model.specs.Steps.{after}
-use Rattle.model.specs.Image.{newest_version, version, version_fits, types_fit, types_narrow, pending_count, stalled_count, evicted_count, settings_of, stalled_of, pending_of, evicted_of, padded, header_bytes, decode, encode, well_formed}
+use Rattle.model.specs.Image.{newest_version, version, version_fits, types_fit, types_narrow, padded, header_bytes, decode, encode, well_formed}
+use Rattle.model.specs.Image.{pending_count, stalled_count, evicted_count, settings_of, stalled_of, pending_of, evicted_of}
 use Rattle.model.specs.Calls.{Call, args_of, step_refusal, step, question_refusal, question}
 use Rattle.model.specs.Forecast.{forecast_refusal, forecast}
 use Rattle.model.specs.Versions.{as_version, as_newest, ReadAsFirst, SameAsNewest}
