@@ -55,3 +55,7 @@ module _ (i : ℕ) (t : List ℕ) where
   pub type_read : from_be (take 2 (drop (i * record_size + 40) t)) ≡ (request_of (entry record_size i t)).type_id
   unfolding request_of
   type_read = ap from_be (sym (entry_field record_size i 40 2 t (omega arith)))
+
+  pub stamp_read : from_be (take 8 (drop (i * record_size + 42) t)) ≡ (request_of (entry record_size i t)).stamp
+  unfolding request_of
+  stamp_read = ap from_be (sym (entry_field record_size i 42 8 t (omega arith)))

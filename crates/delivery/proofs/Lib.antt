@@ -1,3 +1,4 @@
+pub mod AgeLaws
 pub mod HeldLaws
 pub mod ListedLaws
 pub mod OtherLaws

@@ -15,12 +15,13 @@ use Rattle.model.specs.Check as check
 use Rattle.model.specs.Events as events
 use Rattle.model.specs.Steps as steps
 use Rattle.model.specs.Lists as lists
+use Rattle.model.specs.MeanAge as means_of
 use Rattle.model.specs.Commands as commands
 use Rattle.model.specs.Calls as calls
 use Rattle.model.specs.Cases as starred
 use Rattle.model.specs.CaseTables.{Hold, all_as_expected}
 use Rattle.model.specs.EdgeCases.{found, refusals, calls_read, picks_and_sends, announced_ids, windows, view_readers, advances}
-use Rattle.model.specs.EdgeCases.{delivery_checks, retry_targets, messages, mode_steps, forecasts}
+use Rattle.model.specs.EdgeCases.{delivery_checks, retry_targets, messages, mode_steps, forecasts, means}
 use Rattle.model.proofs.CaseTables.{each}
 
 -- Every definition that a case computes with, opened by one name.
@@ -35,7 +36,7 @@ unfolding found starred.found before same entry rising protocol.is_transaction p
     steps.say_to steps.advance_from steps.sections_from steps.continues steps.leaves steps.advances steps.advances_and_requests steps.enters_syncing
     steps.picks steps.is_at_tip steps.answers steps.hears_sync_info steps.hears_announced steps.ask_orphans steps.loses steps.ticks_syncing
     steps.ticks_synced steps.progresses steps.checks steps.evicts steps.plan_of steps.plan steps.remaining steps.retried steps.performed steps.after
-    steps.commands steps.count_of steps.fresh_count
+    steps.commands steps.count_of steps.fresh_count means_of.mean_of
     lists.list_fits lists.ids_in lists.peers_in lists.pair_of lists.pairs_in lists.ids_fit lists.continuation_fits lists.pairs_fit lists.peers_fit
     lists.section_of lists.header_of lists.used_places lists.row_fits lists.first_height lists.row_count lists.view_fits lists.view_of
     commands.command_bytes calls.step_of calls.args_of calls.call_fits calls.lists_fit calls.step_bytes calls.step_answer calls.result_refusal
@@ -125,3 +126,10 @@ forecast_test = refl
 
 pub forecast_cases : Hold found forecasts
 forecast_cases = each found forecasts forecast_test
+
+mean_test : all_as_expected found means ≡ true
+unfolding rules
+mean_test = refl
+
+pub mean_cases : Hold found means
+mean_cases = each found means mean_test

@@ -12,6 +12,7 @@ use Rattle.model.specs.Lists as lists
 use Rattle.model.specs.Commands as commands
 use Rattle.model.specs.Calls as calls
 use Rattle.model.specs.Forecast as forecasts
+use Rattle.model.specs.MeanAge as ages
 use Rattle.model.specs.CaseTables.{Hold, all_as_expected}
 use Rattle.model.specs.LayoutCases.{found, layouts, list_tests, area_tests, whole_areas}
 use Rattle.model.proofs.CaseTables.{each}
@@ -36,7 +37,7 @@ whole_area_test : all_as_expected found whole_areas ≡ true
 unfolding found before same rising protocol.is_transaction settings.most_requests image.header_bytes image.request_bytes image.padded image.encode
     image.request_of image.settings_of image.mode_of image.stalled_of image.pending_of image.none_twice image.request_fits image.marks_fit image.counts_fit
     image.clocks_fit image.version_fits image.types_fit image.unused_zero image.well_formed calls.step_refusal image.decode calls.call_refusal forecasts.forecast_refusal
-    forecasts.forecast
+    forecasts.forecast ages.mean_of ages.mean_age_refusal ages.mean_age
 whole_area_test = refl
 
 pub layout_cases : Hold found layouts

@@ -28,6 +28,7 @@ pub mod MapLaws
 pub mod MapRowLaws
 pub mod MapRunLaws
 pub mod MapWrittenLaws
+pub mod MeanAgeLaws
 pub mod ModeLaws
 pub mod PeerLaws
 pub mod PendingLaws

@@ -24,6 +24,7 @@ use Rattle.model.specs.Image.{newest_version, version, version_fits, types_fit, 
 use Rattle.model.specs.Image.{pending_count, stalled_count, evicted_count, settings_of, stalled_of, pending_of, evicted_of}
 use Rattle.model.specs.Calls.{Call, args_of, step_refusal, step, question_refusal, question}
 use Rattle.model.specs.Forecast.{forecast_refusal, forecast}
+use Rattle.model.specs.MeanAge.{mean_age_refusal, mean_age}
 use Rattle.model.specs.Versions.{as_version, as_newest, ReadAsFirst, SameAsNewest}
 use Rattle.model.specs.Layout.{area_size, id_size, peer_size, record_size, region_at, stalled_at}
 use Rattle.model.proofs.HeaderLaws.{mark}
@@ -284,6 +285,10 @@ module _ (area : List ℕ) (l : length area ≡ area_size) where
     unfolding forecast forecast_refusal
     foretold call = rw (same_length newest_version area l, l, accepted, ok, same_state)
 
+    aged : (clock : ℕ) → mean_age area clock ≡ mean_age (as_newest area) clock
+    unfolding mean_age mean_age_refusal
+    aged clock = rw (same_length newest_version area l, l, accepted, ok, same_state)
+
     pub same_as_newest : SameAsNewest area
     same_as_newest =
         record {
@@ -296,4 +301,5 @@ module _ (area : List ℕ) (l : length area ≡ area_size) where
           answered = answered;
           asked = asked;
           foretold = foretold;
+          aged = aged;
         }

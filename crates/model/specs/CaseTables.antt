@@ -3,6 +3,7 @@ use Rattle.std.specs.Prelude.{ℕ, ◌≡◌, Bool, true, ◌&&◌, List, [], �
 use Rattle.fields.specs.Facts.{All}
 use Rattle.model.specs.Calls.{Call}
 use Rattle.model.specs.Forecast.{Forecast}
+use Rattle.model.specs.MeanAge.{MeanAge}
 use Rattle.model.specs.Cases.{same_lists}
 
 infix 4 ◌gives◌
@@ -60,3 +61,6 @@ flagged kind parsed hastip = call_of kind 1000 1 0 parsed hastip [] [] [] [] (re
 
 abbrev pub forecast_numbers : Forecast → List ℕ
 forecast_numbers f = f.number ∷ f.outcome ∷ f.pending ∷ f.evicted ∷ f.commands ∷ f.length ∷ []
+
+abbrev pub mean_numbers : MeanAge → List ℕ
+mean_numbers m = m.number ∷ m.count ∷ m.quotient ∷ m.remainder ∷ []

@@ -1,5 +1,5 @@
 -- The rules at their edges, and the refusals in their order, in tables: what a step of the rules gives, in numbers, and what it should.
-use Rattle.std.specs.Prelude.{ℕ, zero, suc, ◌+◌, Bool, true, false, cond, List, [], ◌∷◌, ◌++◌, map, length, replicate, eqb, leb}
+use Rattle.std.specs.Prelude.{ℕ, zero, suc, ◌+◌, ◌-◌, ◌^◌, Bool, true, false, cond, List, [], ◌∷◌, ◌++◌, map, length, replicate, eqb, leb}
 use Rattle.std.proofs.Math.Option.{Option, none, some}
 use Rattle.fields.specs.Number.{from_be, to_be}
 use Rattle.model.specs.Protocol.{Id}
@@ -17,9 +17,10 @@ use Rattle.model.specs.Steps.{start, pick, progress, check, scheduled_tick, sect
 use Rattle.model.specs.Steps.{needed_modifier, reorg, announced, sync_info, lost_peer, received, evicted}
 use Rattle.model.specs.Calls.{Call, Answer, step_of, args_of, call_fits, call_refusal, step_answer, result_refusal}
 use Rattle.model.specs.Forecast.{figures}
+use Rattle.model.specs.MeanAge.{mean_of}
 use Rattle.model.specs.Cases.{case_settings, syncing_state, args_at, numbered}
 use Rattle.model.specs.Cases as starred
-use Rattle.model.specs.CaseTables.{Entry, ◌gives◌, lends, plain, flagged, forecast_numbers}
+use Rattle.model.specs.CaseTables.{Entry, ◌gives◌, lends, plain, flagged, forecast_numbers, mean_numbers}
 
 -- Timeout 10,000, limit 2 where none is named, interval 200, stall timeout 60,000; last clock, last progress and last send 0; the
 -- sync peer, if there is one, is 7.
@@ -28,6 +29,8 @@ pub data Case : Type 0 where
   sends leaves answers refused_as : State → Args → Case
   -- the figures of its forecast
   forecast : State → Args → Case
+  -- the mean age of requests at a clock, by their stamps
+  mean : ℕ → List ℕ → Case
   -- the number of 4 to 11 that a call is refused with
   called : State → Call → Case
   -- the kinds of steps that a mode takes: of 0 to 17, with the entry mark or without
@@ -71,6 +74,9 @@ holding mode pending = state_of 2 mode pending base_sync
 -- a pending request: id, type, peer, stamp, checks
 abbrev pub waits : ℕ → ℕ → ℕ → ℕ → ℕ → Request
 waits id type_id peer stamp checks = record { id = to_be 32 id; type_id = type_id; peer = peer; stamp = stamp; checks = checks }
+
+abbrev pub stamped : ℕ → Request
+stamped stamp = waits 1 102 7 stamp 0
 
 abbrev pub ids : List ℕ → List Id
 ids numbers = map (to_be 32) numbers
@@ -296,11 +302,13 @@ hearing clock chain_height peer tip continuation = args_at clock chain_height []
 -- request (id, type, peer, stamp, checks). What it leaves: outcome and mode; sync peer, downloaded height, known tip; last clock, last
 -- progress, last send, sends counted; progress mark, entry mark; stalled peers; evicted ids. Its answer: outcome, retried, fresh,
 -- abandoned, forgotten, pending, evicted, length. Its forecast: number, outcome, pending, evicted, commands, length.
+-- A mean: number, n, q, r.
 unfoldable pub found : Case → List (List ℕ)
 found (sends st a) = ending st a ∷ map command_numbers (commands st a) ++ map request_numbers (after st a).pending
 found (leaves st a) = ending st a ∷ sync_numbers (after st a).last_clock (after st a).sync
 found (answers st a) = answer_numbers (step_answer st a) ∷ []
 found (forecast st a) = forecast_numbers (figures (step_answer st a) (commands st a)) ∷ []
+found (mean clock stamps) = mean_numbers (mean_of clock (map stamped stamps)) ∷ []
 found (refused_as st a) = number (result_refusal st a)
 found (called st c) = number (call_refusal st c)
 found (taken mode entry_sent) = taken_from 18 0 (core mode (with_sync_peer base_sync 7 false entry_sent)) ∷ []
@@ -830,3 +838,21 @@ forecasts =
     -- a sync info of 17 bytes; an outcome that is not Continue
     ∷ (forecast syncing_core (at 200 scheduled_tick) gives (0 ∷ 0 ∷ 0 ∷ 0 ∷ 1 ∷ 17 ∷ []) ∷ [])
     ∷ (forecast syncing_core (at 50 end_of_stream) gives (0 ∷ 5 ∷ 0 ∷ 0 ∷ 0 ∷ 0 ∷ []) ∷ []) ∷ []
+
+-- the last clock of 64 bits
+abbrev pub latest : ℕ
+latest = 2 ^ 64 - 1
+
+-- F-7: none, at the stamp, a sum one below n and n, a remainder of n − 1; then sums beyond 64 bits, the largest of them last.
+abbrev pub means : List (Entry Case)
+means =
+    (mean 10000 [] gives (0 ∷ 0 ∷ 0 ∷ 0 ∷ []) ∷ [])
+    ∷ (mean 500 (500 ∷ []) gives (0 ∷ 1 ∷ 0 ∷ 0 ∷ []) ∷ [])
+    ∷ (mean 500 (499 ∷ 499 ∷ 500 ∷ []) gives (0 ∷ 3 ∷ 0 ∷ 2 ∷ []) ∷ [])
+    ∷ (mean 500 (499 ∷ 499 ∷ 499 ∷ []) gives (0 ∷ 3 ∷ 1 ∷ 0 ∷ []) ∷ [])
+    ∷ (mean 100 (0 ∷ 50 ∷ 98 ∷ []) gives (0 ∷ 3 ∷ 50 ∷ 2 ∷ []) ∷ [])
+    ∷ (mean latest (0 ∷ []) gives (0 ∷ 1 ∷ latest ∷ 0 ∷ []) ∷ [])
+    ∷ (mean latest (0 ∷ 1 ∷ []) gives (0 ∷ 2 ∷ (latest - 1) ∷ 1 ∷ []) ∷ [])
+    ∷ (mean latest (2 ^ 63 ∷ 0 ∷ 2 ^ 63 ∷ []) gives (0 ∷ 3 ∷ 12297829382473034409 ∷ 2 ∷ []) ∷ [])
+    ∷ (mean latest (1 ∷ replicate 1023 0) gives (0 ∷ 1024 ∷ (latest - 1) ∷ 1023 ∷ []) ∷ [])
+    ∷ (mean latest (replicate 1024 0) gives (0 ∷ 1024 ∷ latest ∷ 0 ∷ []) ∷ []) ∷ []

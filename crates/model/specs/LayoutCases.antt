@@ -11,8 +11,9 @@ use Rattle.model.specs.Lists.{ids_in, peers_in, pairs_in, view_of, ids_fit, cont
 use Rattle.model.specs.Commands.{all_command_bytes, commands_in}
 use Rattle.model.specs.Calls.{Call, question_pairs, step_refusal}
 use Rattle.model.specs.Forecast.{forecast}
+use Rattle.model.specs.MeanAge.{mean_age}
 use Rattle.model.specs.Cases.{syncing_state}
-use Rattle.model.specs.CaseTables.{Entry, ◌gives◌, plain, forecast_numbers}
+use Rattle.model.specs.CaseTables.{Entry, ◌gives◌, plain, forecast_numbers, mean_numbers}
 
 pub data Case : Type 0 where
   -- a state's header; parts of its whole area: an offset and at most so many bytes from there on, and so on
@@ -35,6 +36,8 @@ pub data Case : Type 0 where
   refused_as : List ℕ → ℕ → Call → Case
   -- a forecast: the state area, the call
   foretold : List ℕ → Call → Case
+  -- a mean age: the state area, the clock
+  aged : List ℕ → ℕ → Case
   -- tests, 1 where the bytes pass
   ids_tested continuation_tested peers_tested pairs_tested row_tested view_tested counts_tested : List ℕ → Case
   -- whether the sound area below is well formed with these bytes changed: an offset and the byte there, and so on
@@ -234,6 +237,7 @@ found (commands_read bytes) = all_command_numbers (commands_in bytes)
 found (questioned flag st) = question_pairs st flag
 found (refused_as state count c) = (step_refusal state (replicate count 0x77) c ∷ []) ∷ []
 found (foretold state c) = forecast_numbers (forecast state c) ∷ []
+found (aged state clock) = mean_numbers (mean_age state clock) ∷ []
 found (ids_tested bytes) = told (ids_fit bytes)
 found (continuation_tested bytes) = told (continuation_fits bytes)
 found (peers_tested bytes) = told (peers_fit bytes)
@@ -449,7 +453,7 @@ area_tests =
 
 -- Whole areas: stalled peers, records and evicted ids at their places, with zeros around them, and nothing after 65,536 bytes; then
 -- what a step is refused with: 1 before 2, 2 before 3, 3 before 4; and the forecast of such calls, with all else 0: 1, 2, and 4 where
--- the step with its short area is 3.
+-- the step with its short area is 3. A mean age: 1 before 2, 2 before 4; 201 and 200, of either version; at the last clock 1 and 0.
 abbrev pub whole_areas : List (Entry Case)
 whole_areas =
     (area (504 ∷ 40 ∷ 2552 ∷ 120 ∷ 65468 ∷ 100 ∷ []) full_state gives
@@ -463,4 +467,10 @@ whole_areas =
     ∷ (refused_as whole_area 65535 (plain 13 999 1) gives (3 ∷ []) ∷ [])
     ∷ (foretold (replicate 65535 0x00) (plain 13 1200 1) gives (1 ∷ 0 ∷ 0 ∷ 0 ∷ 0 ∷ 0 ∷ []) ∷ [])
     ∷ (foretold (replicate 65536 0x00) (plain 13 1200 1) gives (2 ∷ 0 ∷ 0 ∷ 0 ∷ 0 ∷ 0 ∷ []) ∷ [])
-    ∷ (foretold whole_area (plain 13 999 1) gives (4 ∷ 0 ∷ 0 ∷ 0 ∷ 0 ∷ 0 ∷ []) ∷ []) ∷ []
+    ∷ (foretold whole_area (plain 13 999 1) gives (4 ∷ 0 ∷ 0 ∷ 0 ∷ 0 ∷ 0 ∷ []) ∷ [])
+    ∷ (aged (replicate 65535 0x00) 999 gives (1 ∷ 0 ∷ 0 ∷ 0 ∷ []) ∷ [])
+    ∷ (aged (with_bytes (2609 ∷ 0xe9 ∷ []) whole_area) 999 gives (2 ∷ 0 ∷ 0 ∷ 0 ∷ []) ∷ [])
+    ∷ (aged whole_area 999 gives (4 ∷ 0 ∷ 0 ∷ 0 ∷ []) ∷ [])
+    ∷ (aged (with_bytes (2609 ∷ 0xe7 ∷ []) whole_area) 1200 gives (0 ∷ 2 ∷ 200 ∷ 1 ∷ []) ∷ [])
+    ∷ (aged (with_bytes (4 ∷ 1 ∷ 2609 ∷ 0xe7 ∷ []) whole_area) 1200 gives (0 ∷ 2 ∷ 200 ∷ 1 ∷ []) ∷ [])
+    ∷ (aged (with_bytes (2609 ∷ 0xe7 ∷ []) whole_area) 1000 gives (0 ∷ 2 ∷ 0 ∷ 1 ∷ []) ∷ []) ∷ []

@@ -13,6 +13,7 @@ pub mod Events
 pub mod Forecast
 pub mod Image
 pub mod Lists
+pub mod MeanAge
 pub mod Peers
 pub mod Protocol
 pub mod Requests

@@ -8,6 +8,7 @@ use Rattle.model.specs.State.{State}
 use Rattle.model.specs.Image.{newest_version, version, encode, decode, well_formed}
 use Rattle.model.specs.Calls.{Call, step, question}
 use Rattle.model.specs.Forecast.{forecast}
+use Rattle.model.specs.MeanAge.{mean_age}
 
 -- The image with a version's number.
 unfoldable pub as_version : ℕ → List ℕ → List ℕ
@@ -39,3 +40,4 @@ pub record SameAsNewest (area : List ℕ) : Type 0 where
   pub answered : (commands : List ℕ) (call : Call) → (step area commands call).answer ≡ (step (as_newest area) commands call).answer
   pub asked : (commands : List ℕ) (flag : ℕ) → question area commands flag ≡ question (as_newest area) commands flag
   pub foretold : (call : Call) → forecast area call ≡ forecast (as_newest area) call
+  pub aged : (clock : ℕ) → mean_age area clock ≡ mean_age (as_newest area) clock

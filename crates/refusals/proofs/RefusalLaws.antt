@@ -12,7 +12,8 @@ use Rattle.fields.proofs.OrderLaws.{and_left, and_right}
 use Rattle.model.specs.State.{State}
 use Rattle.model.specs.Image.{well_formed, decode}
 use Rattle.model.specs.Lists.{ids_fit, continuation_fits, pairs_fit, peers_fit, view_fits}
-use Rattle.model.specs.Calls.{Call, args_of, unless, call_fits, lists_fit, result_refusal, call_refusal, step_refusal, question_refusal, is_flag}
+use Rattle.model.specs.Calls.{Call, args_of, unless, call_fits, lists_fit, image_refusal, result_refusal, call_refusal, step_refusal, question_refusal, is_flag}
+use Rattle.model.specs.MeanAge.{mean_age_refusal}
 use Rattle.model.proofs.FinishedLaws.{held}
 use Rattle.image.specs.declared.head.Head.{Head}
 use Rattle.image.specs.Heads.{head_in, head_of}
@@ -151,27 +152,46 @@ module _ (st : State) (call : Call) where
           unfolding lent_refusal
           lent_none view = rw (clock, fits, lists, peers, view)
 
--- 1 to 3, whatever comes behind them
-module _ (state : List ℕ) (room behind : ℕ) where
-  pub areas_1 : eqb (length state) area_size ≡ false → 1 ≡ areas_refusal state room behind
-  areas_1 size = rw size
+-- 1 and 2, whatever comes behind them
+module _ (state : List ℕ) (behind : ℕ) where
+  pub image_1 : eqb (length state) area_size ≡ false → 1 ≡ image_refusal state behind
+  image_1 size = rw size
 
   module _ (size : eqb (length state) area_size ≡ true) where
-    pub areas_2 : well_formed state ≡ false → 2 ≡ areas_refusal state room behind
-    areas_2 image = rw (size, image)
+    pub image_2 : well_formed state ≡ false → 2 ≡ image_refusal state behind
+    image_2 image = rw (size, image)
 
-    module _ (image : well_formed state ≡ true) where
-      pub areas_3 : leb area_size room ≡ false → 3 ≡ areas_refusal state room behind
-      areas_3 enough = rw (size, image, enough)
+    pub image_none : well_formed state ≡ true → behind ≡ image_refusal state behind
+    image_none image = rw (size, image)
 
-      pub areas_none : leb area_size room ≡ true → behind ≡ areas_refusal state room behind
-      areas_none enough = rw (size, image, enough)
+-- What a state has passed that 1 and 2 let through.
+pub record StateFits (state : List ℕ) : Type 0 where
+  pub size : eqb (length state) area_size ≡ true
+  pub image : well_formed state ≡ true
+
+pub state_fits : (state : List ℕ) → 0 ≡ image_refusal state 0 → StateFits state
+state_fits state e =
+    let h1 = held (eqb (length state) area_size) 1 (unless (well_formed state) 2 0) (omega arith) (sym e) in
+    let h2 = held (well_formed state) 2 0 (omega arith) h1.1 in
+    record { size = h1.0; image = h2.0 }
+
+-- 3, whatever comes behind it
+module _ (state : List ℕ) (room behind : ℕ) (s : StateFits state) where
+  pub areas_3 : leb area_size room ≡ false → 3 ≡ areas_refusal state room behind
+  areas_3 enough = rw (s.size, s.image, enough)
+
+  pub areas_none : leb area_size room ≡ true → behind ≡ areas_refusal state room behind
+  areas_none enough = rw (s.size, s.image, enough)
 
 refuses : (ok : Bool) (number first behind : ℕ) {n : ℕ} → 0 < n → n ≡ unless ok number first → (n ≡ first → n ≡ behind) → n ≡ unless ok number behind
 refuses true number first behind h e on = on e
 refuses false number first behind h e on = e
 
 -- a number of theirs stays, whatever comes behind
+pub image_refused : (state : List ℕ) (behind : ℕ) {n : ℕ} → 0 < n → n ≡ image_refusal state 0 → n ≡ image_refusal state behind
+image_refused state behind h e =
+    refuses (eqb (length state) area_size) 1 _ _ h e (λ e. refuses (well_formed state) 2 _ _ h e (λ z. absurd (lt_irrefl 0 (omega arith))))
+
 pub areas_refused : (state : List ℕ) (room behind : ℕ) {n : ℕ} → 0 < n → n ≡ areas_refusal state room 0 → n ≡ areas_refusal state room behind
 areas_refused state room behind h e =
     refuses (eqb (length state) area_size) 1 _ _ h e
@@ -179,8 +199,7 @@ areas_refused state room behind h e =
 
 -- What the areas have passed that 1 to 3 let through.
 pub record Areas (state : List ℕ) (room : ℕ) : Type 0 where
-  pub size : eqb (length state) area_size ≡ true
-  pub image : well_formed state ≡ true
+  pub formed : StateFits state
   pub enough : leb area_size room ≡ true
 
 pub areas : (state : List ℕ) (room : ℕ) → 0 ≡ areas_refusal state room 0 → Areas state room
@@ -188,7 +207,7 @@ areas state room e =
     let h1 = held (eqb (length state) area_size) 1 (unless (well_formed state) 2 (unless (leb area_size room) 3 0)) (omega arith) (sym e) in
     let h2 = held (well_formed state) 2 (unless (leb area_size room) 3 0) (omega arith) h1.1 in
     let h3 = held (leb area_size room) 3 0 (omega arith) h2.1 in
-    record { size = h1.0; image = h2.0; enough = h3.0 }
+    record { formed = record { size = h1.0; image = h2.0 }; enough = h3.0 }
 
 pub given_refused : (state : List ℕ) (room : ℕ) (call : Call) {n : ℕ} → 0 < n → n ≡ areas_refusal state room 0 → n ≡ given_refusal state room call
 unfolding given_refusal
@@ -199,7 +218,7 @@ pub given_lent : (call : Call) {state : List ℕ} {room : ℕ} {head : Head} {nu
     → ((st : State) → head_of st ≡ head → number ≡ lent_refusal st call) → number ≡ given_refusal state room call
 unfolding given_refusal
 given_lent call {state} {room} a e lent =
-    lent (decode state) (head_decode state a.image ∙ sym e) ∙ areas_none state room (lent_refusal (decode state) call) a.size a.image a.enough
+    lent (decode state) (head_decode state a.formed.image ∙ sym e) ∙ areas_none state room (lent_refusal (decode state) call) a.formed a.enough
 
 -- the flag of a question
 module _ (state area : List ℕ) (flag : ℕ) where
@@ -210,8 +229,26 @@ module _ (state area : List ℕ) (flag : ℕ) where
   module _ {room : ℕ} (e : length area ≡ room) (a : Areas state room) where
     pub asked_5 : leb flag 1 ≡ false → 5 ≡ question_refusal state area flag
     unfolding question_refusal
-    asked_5 flagged = rw (a.size, a.image, e, a.enough, flagged)
+    asked_5 flagged = rw (a.formed.size, a.formed.image, e, a.enough, flagged)
 
     pub asked_none : leb flag 1 ≡ true → 0 ≡ question_refusal state area flag
     unfolding question_refusal
-    asked_none flagged = rw (a.size, a.image, e, a.enough, flagged)
+    asked_none flagged = rw (a.formed.size, a.formed.image, e, a.enough, flagged)
+
+-- the clock of a mean age, by the header that was read
+module _ (state : List ℕ) (clock : ℕ) where
+  pub mean_refused : {n : ℕ} → 0 < n → n ≡ image_refusal state 0 → n ≡ mean_age_refusal state clock
+  unfolding mean_age_refusal
+  mean_refused h e = image_refused state (unless (leb (decode state).last_clock clock) 4 0) h e
+
+  module _ (s : StateFits state) {head : Head} (e : head ≡ head_in state) where
+    same_head : head_of (decode state) ≡ head
+    same_head = head_decode state s.image ∙ sym e
+
+    pub mean_4 : clock < head.clock → 4 ≡ mean_age_refusal state clock
+    unfolding mean_age_refusal
+    mean_4 l = rw (s.size, s.image, too_early (decode state) head clock same_head l)
+
+    pub mean_none : head.clock ≤ clock → 0 ≡ mean_age_refusal state clock
+    unfolding mean_age_refusal
+    mean_none l = rw (s.size, s.image, in_time (decode state) head clock same_head l)

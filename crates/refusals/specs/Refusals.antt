@@ -1,9 +1,9 @@
 -- The refusals that are known before a step is worked out: 1 to 8 of document 01's table, in its order.
-use Rattle.std.specs.Prelude.{ℕ, List, length, eqb, leb}
+use Rattle.std.specs.Prelude.{ℕ, List, leb}
 use Rattle.model.specs.State.{State}
-use Rattle.model.specs.Image.{well_formed, decode}
+use Rattle.model.specs.Image.{decode}
 use Rattle.model.specs.Lists.{peers_fit, view_fits}
-use Rattle.model.specs.Calls.{Call, unless, call_fits, lists_fit}
+use Rattle.model.specs.Calls.{Call, unless, image_refusal, call_fits, lists_fit}
 use Rattle.model.specs.Layout.{area_size}
 
 -- 4 to 8
@@ -17,10 +17,7 @@ lent_refusal st call =
 
 -- 1 to 3, then the number of what comes behind them; `room` is the command area's length
 abbrev pub areas_refusal : List ℕ → ℕ → ℕ → ℕ
-areas_refusal state room behind =
-    unless (eqb (length state) area_size) 1
-    (unless (well_formed state) 2
-    (unless (leb area_size room) 3 behind))
+areas_refusal state room behind = image_refusal state (unless (leb area_size room) 3 behind)
 
 -- 1 to 8; `room` is the command area's length
 unfoldable pub given_refusal : List ℕ → ℕ → Call → ℕ

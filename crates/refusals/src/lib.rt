@@ -1,8 +1,8 @@
 // Why a call is refused, and the refusals that are known before a step is worked out: 1 to 8, in document 01's order; for a
-// question 1, 2, 3 and 5.
+// question 1, 2, 3 and 5, for the mean age 1, 2 and 4.
 //
-// Equal to these of `step_refusal` and `question_refusal` in model/specs/Calls.antt. Reads only. A refused call costs what
-// was read up to the fault: one pass over the state area, then the lists, then the view.
+// Equal to these of `step_refusal` and `question_refusal` in model/specs/Calls.antt, and of `mean_age_refusal` in MeanAge.antt.
+// Reads only. A refused call costs what was read up to the fault: one pass over the state area, then the lists, then the view.
 #![tactic(auto)]
 
 pub mod fitting;
@@ -14,7 +14,8 @@ ghost use Rattle.std.specs.Prelude.{◌≡◌, length, ℕ, List};
 ghost use Rattle.model.specs.State.{State, mode_number};
 ghost use Rattle.model.specs.Steps.{of_mode};
 ghost use Rattle.model.specs.Calls as calls;
-ghost use Rattle.model.specs.Calls.{step_of, call_fits, question_refusal};
+ghost use Rattle.model.specs.Calls.{step_of, call_fits, image_refusal, question_refusal};
+ghost use Rattle.model.specs.MeanAge.{mean_age_refusal};
 ghost use Rattle.image.specs.Heads.{head_of};
 ghost use Rattle.plan.specs.Plans.{numbers_of};
 ghost use Rattle.refusals.specs.Lent.{call_with};
@@ -55,9 +56,9 @@ fn call_fits(head: Head, call: Call) -> bool
     known & (flags & of_mode(head.mode, head.sent, call.kind))
 }
 
-// 1 to 3.
-fn areas_refusal(state: &[u8], room: usize) -> Result<(), Refusal>
-    ensures { number_in result ≡ areas_refusal state.now room 0 }
+// 1 and 2.
+fn image_refusal(state: &[u8]) -> Result<(), Refusal>
+    ensures { number_in result ≡ image_refusal state.now 0 }
 {
     if state.len() != AREA_SIZE {
         return Err(Refusal::StateArea);
@@ -65,6 +66,14 @@ fn areas_refusal(state: &[u8], room: usize) -> Result<(), Refusal>
     if !image_test::formed::is_well_formed(state) {
         return Err(Refusal::Image);
     }
+    Ok(())
+}
+
+// 1 to 3.
+fn areas_refusal(state: &[u8], room: usize) -> Result<(), Refusal>
+    ensures { number_in result ≡ areas_refusal state.now room 0 }
+{
+    image_refusal(state)?;
     if room < AREA_SIZE {
         return Err(Refusal::CommandArea);
     }
@@ -109,6 +118,17 @@ pub fn question_refusal(state: &[u8], room: usize, flag: u8) -> Result<(), Refus
     areas_refusal(state, room)?;
     if 1 < flag {
         return Err(Refusal::Call);
+    }
+    Ok(())
+}
+
+// 1, 2 and 4 for the mean age.
+pub fn mean_age_refusal(state: &[u8], clock: u64) -> Result<(), Refusal>
+    ensures { number_in result ≡ mean_age_refusal state.now clock }
+{
+    image_refusal(state)?;
+    if clock < image::head::read_head(state).clock {
+        return Err(Refusal::Clock);
     }
     Ok(())
 }

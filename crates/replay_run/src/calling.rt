@@ -72,12 +72,21 @@ fn ask(state: &[u8], commands: &mut [u8], words: &Words) -> [u64; 9] {
     [number, size, 0, 0, 0, 0, 0, 0, 0]
 }
 
+// `age` answers number, count, quotient and remainder.
+fn age(state: &[u8], words: &Words) -> [u64; 9] {
+    let mean = request_keeper::mean_age::request_keeper_mean_age(state, words.numbers[0]);
+    let number = u64::from(mean.number);
+    let count = u64::from(mean.count);
+    [number, count, mean.quotient, mean.remainder, 0, 0, 0, 0, 0]
+}
+
 // Whichever call it is.
 fn run(state: &mut [u8], commands: &mut [u8], call: AreaCall, words: &Words) -> [u64; 9] {
     match call {
         AreaCall::Open => open(state, words),
         AreaCall::Step => step(state, commands, words),
         AreaCall::Ask => ask(state, commands, words),
+        AreaCall::Age => age(state, words),
     }
 }
 

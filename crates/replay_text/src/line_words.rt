@@ -19,6 +19,7 @@ pub enum AreaCall {
     Open,
     Step,
     Ask,
+    Age,
 }
 
 // The calls that a line may ask for.
@@ -53,6 +54,7 @@ impl AreaCall {
             b"open" => Some(AreaCall::Open),
             b"step" => Some(AreaCall::Step),
             b"ask" => Some(AreaCall::Ask),
+            b"age" => Some(AreaCall::Age),
             _ => None,
         }
     }
@@ -92,6 +94,7 @@ impl Call {
             Call::Area(AreaCall::Open) => b"844444",
             Call::Area(AreaCall::Step) => b"1814xxx824114xxs",
             Call::Area(AreaCall::Ask) => b"1",
+            Call::Area(AreaCall::Age) => b"8",
             Call::Map(MapCall::Fill) => b"44x",
             Call::Map(MapCall::Arrived | MapCall::Pruned) => b"41",
             Call::Map(MapCall::Slide) => b"4x",
@@ -105,6 +108,7 @@ impl Call {
     {
         match self {
             Call::Area(AreaCall::Step) => b"444444444",
+            Call::Area(AreaCall::Age) => b"4488",
             Call::Area(AreaCall::Ask) | Call::Map(MapCall::Passable) => b"44",
             Call::Area(AreaCall::Open) | Call::Map(_) => b"4",
         }

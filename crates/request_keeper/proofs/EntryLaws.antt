@@ -1,23 +1,29 @@
 -- The entries by their tests.
-use Prim.Native.Nat.{ℕ, zero, suc, ◌*◌, ◌<◌, ◌≤◌}
+use Prim.Native.Nat.{ℕ, zero, suc, ◌-◌, ◌*◌, ◌<◌, ◌≤◌}
 use mathlib.Core.Path.{◌≡◌, refl, sym, ◌∙◌}
 use mathlib.Core.Bool.{true, false}
-use mathlib.Core.List.{List}
-use lib.ListN.{length}
+use mathlib.Core.List.{List, map}
+use lib.ListN.{length, take, drop, length-drop, length-map}
+use lib.Seq.{take_all}
 use lib.Dec.{eqb, leb}
 use borrow.Author.Tests.{ne_eqb, eqb-true, leb-true}
 use native.Mathlib.Nat.{lt_irrefl}
 use native.Mathlib.Omega.{arith}
 use Rattle.fields.specs.Overwrite.{overwritten}
-use Rattle.fields.specs.Entries.{joined}
+use Rattle.fields.specs.Entries.{entries, joined}
+use Rattle.fields.proofs.EntriesLaws.{length_entries}
+use Rattle.model.specs.Delivery.{Request}
 use Rattle.model.specs.State.{State, opened}
-use Rattle.model.specs.Image.{bit, encode, decode, well_formed}
+use Rattle.model.specs.Image.{bit, field, request_of, pending_of, encode, decode, well_formed}
+use Rattle.model.proofs.FormedLaws.{Formed, formed}
 use Rattle.model.proofs.FinishedLaws.{held}
 use Rattle.refusals.specs.Refusals.{given_refusal}
-use Rattle.refusals.proofs.RefusalLaws.{refusal_split}
+use Rattle.refusals.proofs.RefusalLaws.{StateFits, refusal_split}
 use Rattle.model.specs.Calls.{is_flag, Call, Result, refused, step_refusal, step, Opening, Opened, open', Asked, question_refusal, question_pairs, question}
 use Rattle.model.specs.Forecast.{forecast_refusal, no_figures, forecast}
-use Rattle.model.specs.Layout.{area_size, pair_size}
+use Rattle.model.specs.MeanAge.{MeanAge, no_mean, mean_of, mean_age_refusal, mean_age}
+use Rattle.model.proofs.MeanAgeLaws.{mean_parts}
+use Rattle.model.specs.Layout.{area_size, pair_size, record_size, region_at}
 use Rattle.model.specs.Protocol.{tracked_limit}
 use Rattle.model.proofs.Well.{Well}
 use Rattle.model.proofs.QuestionLaws.{question_bytes_most}
@@ -64,6 +70,10 @@ module _ {number : ℕ} (positive : 0 < number) where
   unfolding question
   not_asked state area flag e = rw (sym e, told)
 
+  pub mean_refused : (state : List ℕ) (clock : ℕ) → number ≡ mean_age_refusal state clock → no_mean number ≡ mean_age state clock
+  unfolding mean_age
+  mean_refused state clock e = rw (sym e, told)
+
 -- a flag as what it says
 pub flag_bit : (flag : ℕ) → flag ≤ 1 → bit (eqb flag 1) ≡ flag
 flag_bit zero h = refl
@@ -96,3 +106,44 @@ asking state area flag e =
     let three = held (leb area_size (length area)) 3 _ (omega arith) two.1 in
     let five = held (is_flag flag) 5 0 (omega arith) three.1 in
     record { size = eqb-true _ _ one.0; image = two.0; room = leb-true _ _ three.0; flag_fits = leb-true _ _ five.0 }
+
+-- ---- the mean age
+
+module _ (state : List ℕ) (clock : ℕ) (past : 0 ≡ mean_age_refusal state clock) where
+  abbrev pending_in : ℕ → List ℕ → List Request
+  pending_in count bytes = map request_of (entries record_size count bytes)
+
+  -- the region as it is lent
+  abbrev pub region : List ℕ
+  region = take (length state - region_at) (drop region_at state)
+
+  fits : StateFits state
+  unfolding mean_age_refusal
+  fits =
+      let one = held (eqb (length state) area_size) 1 _ (omega arith) (sym past) in
+      let two = held (well_formed state) 2 _ (omega arith) one.1 in
+      record { size = one.0; image = two.0 }
+
+  pub state_size : length state ≡ area_size
+  state_size = eqb-true _ _ fits.size
+
+  whole_region : region ≡ drop region_at state
+  whole_region = take_all _ _ (omega (arith, length-drop region_at state))
+
+  pub records_in_region : field 70 2 state * record_size ≤ length region
+  records_in_region =
+      let whole : Formed state = formed state fits.image in
+      rw (whole_region, length-drop region_at state, state_size) (omega (arith, whole.tracked))
+
+  -- the requests in the region are those of the state
+  pub mean_told : {count records quotient remainder : ℕ} → count ≡ field 70 2 state → records ≡ field 70 2 state
+      → quotient ≡ (mean_of clock (pending_in records region)).quotient
+      → remainder ≡ (mean_of clock (pending_in records region)).remainder
+      → ◌≡◌ {A = MeanAge} (record { number = 0; count = count; quotient = quotient; remainder = remainder }) (mean_age state clock)
+  unfolding mean_age decode pending_of
+  mean_told c e q r =
+      let pending : List Request = pending_in (field 70 2 state) (drop region_at state) in
+      let records : List (List ℕ) = entries record_size (field 70 2 state) (drop region_at state) in
+      let many : length pending ≡ field 70 2 state =
+      length-map records request_of ∙ length_entries record_size (field 70 2 state) (drop region_at state) in
+      rw (← past, q, r, c, e, whole_region) (rw many at (mean_parts clock pending))

@@ -1,15 +1,16 @@
-// The entries: opening, step, its forecast and question, and in `map` those of the map of the window, on numbers and byte
-// slices. The crate `request_keeper_c` exports them.
+// The entries: opening, step, its forecast and question, in `mean_age` that of the mean age, and in `map` those of the map of the
+// window, on numbers and byte slices. The crate `request_keeper_c` exports them.
 //
 // None demands anything of its caller: any number and any bytes are answered, as docs/LAYOUT.md says. Each is one equation
-// with the entry's definition in model/specs/Calls.antt, which demand 3 speaks of, in Forecast.antt, or in WindowMap.antt. A
-// refused call and a forecast write nothing, an opening the state area, a step both areas, a question the command area, a call
-// of the map the map. docs/SPEED.md has what they cost.
+// with the entry's definition in model/specs/Calls.antt, which demand 3 speaks of, in Forecast.antt, in MeanAge.antt, or in
+// WindowMap.antt. A refused call, a forecast and a mean age write nothing, an opening the state area, a step both areas, a
+// question the command area, a call of the map the map. docs/SPEED.md has what they cost.
 //
 // Numbers and slices one by one, as C gives them.
 #![tactic(auto)]
 
 pub mod map;
+pub mod mean_age;
 
 ghost use Rattle.std.specs.Prelude.{◌≡◌};
 ghost use Rattle.model.specs.Calls.{open', step, question};

@@ -1,4 +1,4 @@
-// The entries of `request_keeper`, exported for C and Rust: nine functions on numbers and byte slices, which the archive
+// The entries of `request_keeper`, exported for C and Rust: ten functions on numbers and byte slices, which the archive
 // librequest_keeper.a has and host/request-keeper/include/request_keeper.h declares.
 //
 // Each calls the entry of its name and states its clauses again, word for word. A slice comes as a pointer and a length. None
@@ -10,8 +10,10 @@ pub mod map;
 ghost use Rattle.std.specs.Prelude.{◌≡◌};
 ghost use Rattle.model.specs.Calls.{open', step, question};
 ghost use Rattle.model.specs.Forecast.{forecast};
+ghost use Rattle.model.specs.MeanAge.{mean_age};
 
 use request_keeper::Asked;
+use request_keeper::mean_age::MeanAge;
 use step::finish::Answer;
 use step::forecast::Forecast;
 
@@ -123,4 +125,12 @@ pub extern "C" fn request_keeper_question(state: &[u8], commands: &mut [u8], fla
     ensures { record { number = result.number; length = result.length; commands = commands.new } ≡ question state.now commands.old flag }
 {
     request_keeper::request_keeper_question(state, commands, flag)
+}
+
+// The mean age of what is pending at a clock. Answers 0, 1, 2 or 4, and all else 0 if it is refused.
+#[unsafe(no_mangle)]
+pub extern "C" fn request_keeper_mean_age(state: &[u8], clock: u64) -> MeanAge
+    ensures { record { number = result.number; count = result.count; quotient = result.quotient; remainder = result.remainder } ≡ mean_age state.now clock }
+{
+    request_keeper::mean_age::request_keeper_mean_age(state, clock)
 }

@@ -1,6 +1,6 @@
 //! A keeper's two areas and a call on them, with what every call owes whatever it answers.
 
-use keeper_play::{foretold, FILL};
+use keeper_play::{ages_told, foretold, FILL};
 use keeper_reference::{image, PLAIN};
 use keeper_streams::Opening;
 use keeper_values::{Answer, Arguments, Keeper, State, COMMAND_BYTES, STATE_BYTES};
@@ -58,6 +58,16 @@ impl Areas {
         self.unwritten_beyond(length)?;
         foretold(forecast, &answer, &self.commands[..length])?;
         Ok(answer)
+    }
+
+    /// Asks for the mean age of what the area holds, this state.
+    pub fn mean_age(&self, keeper: &dyn Keeper, state: &State, clock: u64) -> Result<(), String> {
+        let before = self.state.clone();
+        ages_told(keeper, &self.state, state, clock)?;
+        match self.state == before {
+            true => Ok(()),
+            false => Err("a mean age changed the state area".to_string()),
+        }
     }
 
     /// Asks a question: the number and the length.

@@ -3,7 +3,7 @@
 use crate::area::Areas;
 use keeper_reference::{image, PLAIN};
 use keeper_streams::Opening;
-use keeper_values::{Answer, Arguments, Keeper};
+use keeper_values::{Answer, Arguments, Keeper, State};
 
 pub struct Beside<'k> {
     keeper: &'k dyn Keeper,
@@ -52,6 +52,11 @@ impl<'k> Beside<'k> {
             return Err("commands differ between the keepers".to_string());
         }
         self.same_state(state)
+    }
+
+    /// The mean age of the same state.
+    pub fn mean_age(&self, state: &State, clock: u64) -> Result<(), String> {
+        self.areas.mean_age(self.keeper, state, clock)
     }
 
     /// The same question: the same number and pairs, no other byte written.

@@ -26,7 +26,7 @@ fn opening_line(opening: &Opening) -> Line {
     }
 }
 
-/// A directed stream, with both questions after its last step.
+/// A directed stream, with both questions after its last step, and the mean age then and at the end of time.
 pub fn script_lines(script: &Script) -> Vec<Line> {
     let mut lines = vec![
         Line::Stream(script.name.clone()),
@@ -39,6 +39,8 @@ pub fn script_lines(script: &Script) -> Vec<Line> {
         ));
     }
     lines.extend([Line::Ask(0), Line::Ask(1)]);
+    let last = script.calls.last().map_or(0, |call| call.clock);
+    lines.extend([Line::Age(last), Line::Age(u64::MAX)]);
     lines
 }
 
@@ -70,9 +72,11 @@ pub fn random_lines(seed: u64, most: usize, damaged: bool) -> Result<Vec<Line>, 
             }
             push(&mut player, Line::Step(Box::new(damaged.arguments), vec![]))?;
         }
+        let clock = call.clock;
         push(&mut player, Line::Step(Box::new(arguments), call.fails))?;
         if step % 8 == 3 {
             push(&mut player, Line::Ask((step / 8 % 2) as u8))?;
+            push(&mut player, Line::Age(clock))?;
         }
     }
     Ok(lines)

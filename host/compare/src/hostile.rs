@@ -1,7 +1,7 @@
 //! Damaged calls and random bytes: a keeper against the reference, byte for byte.
 
 use crate::report::Report;
-use keeper_play::{foretold, lent_whole, Player, FILL};
+use keeper_play::{aged, foretold, lent_whole, Player, FILL};
 use keeper_reference::{image, Reference, PLAIN};
 use keeper_streams::damage::{damage, several, Damaged};
 use keeper_streams::noise::{self, noise};
@@ -33,6 +33,24 @@ fn forecast(keeper: &dyn Keeper, damaged: &Damaged, image: &[u8]) -> Result<(), 
     foretold(forecast, &answer, &written)
 }
 
+/// The mean age on a damaged area, at clocks around and beyond the call's.
+fn mean_age(keeper: &dyn Keeper, damaged: &Damaged, image: &[u8]) -> Result<(), String> {
+    let state = damaged.state(image);
+    let clock = damaged.arguments.clock;
+    let clocks = [0, clock.saturating_sub(1), clock, u64::MAX];
+    aged(keeper, &state, &clocks)?;
+    for clock in clocks {
+        let (mean, reference) = (
+            keeper.mean_age(&state, clock),
+            Reference::plain().mean_age(&state, clock),
+        );
+        if mean != reference || state != damaged.state(image) {
+            return Err(format!("{mean:?} against {reference:?}"));
+        }
+    }
+    Ok(())
+}
+
 /// One call on both; what a refusal or a finished step owes is looked at besides.
 pub fn compare(keeper: &dyn Keeper, damaged: &Damaged, image: &[u8]) -> Result<Answer, String> {
     let reference = run(&Reference::plain(), damaged, image);
@@ -54,6 +72,7 @@ pub fn compare(keeper: &dyn Keeper, damaged: &Damaged, image: &[u8]) -> Result<A
         return Err(format!("refused as {}, and not only that", answer.number));
     }
     forecast(keeper, damaged, image)?;
+    mean_age(keeper, damaged, image)?;
     for flag in [0, 1, 2, 255] {
         let ask = |keeper: &dyn Keeper| {
             let state = damaged.state(image);

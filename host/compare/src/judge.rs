@@ -153,6 +153,7 @@ impl<'k> Trial<'k> {
     pub fn step(&mut self, call: &Call, report: &mut Report) -> Result<(), String> {
         let before = self.state.clone();
         let arguments = call.to_arguments();
+        self.mean_age(call.clock)?;
         let answer = self.areas.step(self.keeper, &arguments)?;
         let written = self.areas.take_commands(answer.length);
         for beside in &mut self.beside {
@@ -205,6 +206,18 @@ impl<'k> Trial<'k> {
             }
         }
         Ok(())
+    }
+
+    /// Asks all keepers for the mean age, at the step's clock where that is refused, else so late that the ages' sum has more
+    /// than 64 bits.
+    fn mean_age(&self, clock: u64) -> Result<(), String> {
+        let clock = match clock < self.state.last_clock {
+            true => clock,
+            false => u64::MAX - clock % 1_024,
+        };
+        self.areas.mean_age(self.keeper, &self.state, clock)?;
+        let mut others = self.beside.iter();
+        others.try_for_each(|beside| beside.mean_age(&self.state, clock))
     }
 
     fn finished(

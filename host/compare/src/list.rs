@@ -34,8 +34,8 @@ struct Candidate {
     keys: BTreeSet<u64>,
 }
 
-/// Kind, mode and outcome of each finished step, number and mode of each refused one, and each call of the map with its
-/// number, so that the list shows all.
+/// Kind, mode and outcome of each finished step, number and mode of each refused one, each number of a mean age, and each call of
+/// the map with its number, so that the list shows all.
 fn shown(lines: &[Line]) -> BTreeSet<u64> {
     let mut keys = BTreeSet::new();
     let mut mode = 0;
@@ -43,7 +43,7 @@ fn shown(lines: &[Line]) -> BTreeSet<u64> {
         match pair {
             [Line::Step(call, _), Line::Answer(numbers)] => {
                 let kind = u64::from(call.kind.min(17));
-                let (number, outcome) = (u64::from(numbers[0]), u64::from(numbers[1]));
+                let (number, outcome) = (numbers[0], numbers[1]);
                 keys.insert(if number == 0 {
                     VARIANTS + kind + 100 * mode + 1_000 * outcome
                 } else {
@@ -51,7 +51,10 @@ fn shown(lines: &[Line]) -> BTreeSet<u64> {
                 });
             }
             [Line::MapCall(call), Line::Answer(numbers)] => {
-                keys.insert(20_000 + 100 * call.kind() as u64 + u64::from(numbers[0]));
+                keys.insert(20_000 + 100 * call.kind() as u64 + numbers[0]);
+            }
+            [Line::Age(_), Line::Answer(numbers)] => {
+                keys.insert(30_000 + numbers[0]);
             }
             [_, Line::State(state) | Line::Put(state)] | [Line::Put(state), _] => {
                 mode = u64::from(state.mode.number());

@@ -21,7 +21,8 @@ fn lists(script: &Script) -> Vec<Lists> {
     let mut lists: Vec<Lists> = Vec::new();
     for pair in lines.windows(2) {
         if let [Line::Step(call, _), Line::Answer(numbers)] = pair {
-            lists.push((call.kind, [numbers[2], numbers[3]], Vec::new()));
+            let sent = [numbers[2], numbers[3]].map(|count| count as u32);
+            lists.push((call.kind, sent, Vec::new()));
         }
         if let ([_, Line::Command(command)], Some((.., sizes))) = (pair, lists.last_mut()) {
             let batch = usize::from(command.batch);

@@ -80,6 +80,8 @@ fn asked(keeper: &dyn Keeper, area: &[u8], flag: u8) -> ((u32, u32), Vec<u8>) {
 fn same(keeper: &dyn Keeper, old: &[u8], new: &[u8], call: &Arguments) -> (Vec<u8>, u32) {
     let what = || format!("{call:?}");
     assert!(keeper.forecast(old, call) == keeper.forecast(new, call));
+    let ages = [old, new].map(|area| keeper.mean_age(area, call.clock));
+    assert_eq!(ages[0], ages[1], "{}", what());
     let (answer, left, commands) = stepped(keeper, old, call);
     let (expected, after, written) = stepped(keeper, new, call);
     assert_eq!(answer, expected, "{}", what());

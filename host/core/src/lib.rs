@@ -1,6 +1,6 @@
 //! The proved core as a keeper, on the bytes of its boundary, to be held against oracle and reference.
 
-use keeper_values::{Answer, Arguments, Forecast, Keeper, MapCall, Settings};
+use keeper_values::{Answer, Arguments, Forecast, Keeper, MapCall, MeanAge, Settings};
 use request_keeper::boundary;
 
 /// The entries of the static library.
@@ -65,6 +65,16 @@ impl Keeper for Core {
             evicted: forecast.evicted,
             commands: forecast.commands,
             length: forecast.length,
+        }
+    }
+
+    fn mean_age(&self, state: &[u8], clock: u64) -> MeanAge {
+        let mean = boundary::mean_age(state, clock);
+        MeanAge {
+            number: mean.number,
+            count: mean.count,
+            quotient: mean.quotient,
+            remainder: mean.remainder,
         }
     }
 

@@ -19,6 +19,7 @@ fn run(state: &mut [u8], call: &Call) {
     let mut commands = vec![0; COMMAND_BYTES];
     let arguments = call.to_arguments();
     Core.forecast(state, &arguments);
+    Core.mean_age(state, u64::MAX);
     Core.step(state, &mut commands, &arguments);
     for flag in [0, 1] {
         Core.question(state, &mut commands, flag);

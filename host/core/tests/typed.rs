@@ -1,10 +1,10 @@
-//! The typed crate against the reference on random streams: the same forecasts, answers, commands and bytes of state.
+//! The typed crate against the reference on random streams: the same forecasts, mean ages, answers, commands and bytes of state.
 
 use keeper_reference::{image, Reference, PLAIN};
 use keeper_streams::random::Random;
 use keeper_streams::Opening;
 use keeper_values::numbers::kinds;
-use keeper_values::{Answer, Call, Forecast, Keeper, Mode, Row, COMMAND_BYTES};
+use keeper_values::{Answer, Call, Forecast, Keeper, MeanAge, Mode, Row, COMMAND_BYTES};
 use request_keeper::{
     ModifierType, Peer, Question, Refusal, RequestKeeper, Section, Settings, Step, StoredPairs,
     Surroundings, SyncInfo, View,
@@ -106,6 +106,7 @@ fn compare(keeper: &mut RequestKeeper, state: &mut Vec<u8>, step: Step<'_>, call
     let mut commands = vec![0; COMMAND_BYTES];
     let arguments = call.to_arguments();
     let foretold = Reference::plain().forecast(state, &arguments);
+    let aged = Reference::plain().mean_age(state, call.clock);
     let expected = Reference::plain().step(state, &mut commands, &arguments);
     let pairs = call
         .stored
@@ -132,6 +133,16 @@ fn compare(keeper: &mut RequestKeeper, state: &mut Vec<u8>, step: Step<'_>, call
         },
     };
     assert_eq!(forecast, foretold, "{step:?}");
+    let mean = match keeper.mean_age(call.clock) {
+        Err(refusal) => MeanAge::refused(refusal.number()),
+        Ok(mean) => MeanAge {
+            number: 0,
+            count: mean.count,
+            quotient: mean.quotient,
+            remainder: mean.remainder,
+        },
+    };
+    assert_eq!(mean, aged, "{step:?}");
     let answer = match keeper.step(step, &now) {
         Err(refusal) => Answer::refused(refusal.number()),
         Ok(finished) => {

@@ -2,6 +2,7 @@
 
 use drill::drawing::Drawing;
 use drill::play::{play, Played};
+use drill::timeline::OnDemand;
 use drill::{scenario, shipped, timeline};
 use std::io::{ErrorKind, Write};
 use std::path::{Path, PathBuf};
@@ -17,6 +18,7 @@ drill --judge COMMAND.. holds a pupil's keeper, started by COMMAND, against the 
   --svg                 also draws it, into FILE with the ending .svg
   --svg OUT.svg         also draws it, into OUT.svg
   --forecast            also shows what the core says of each step right before it
+  --mean-age            also shows the mean age of what is pending after each step
   --quiet               prints only the last line of each timeline, and the expectations that are not met
   --help                this text
   --version             the version
@@ -33,8 +35,8 @@ struct Asked {
     files: Vec<String>,
     /// Whether to draw, and where to.
     svg: Option<Option<PathBuf>>,
-    /// Whether to show the forecasts.
-    forecast: bool,
+    /// What to show besides.
+    on_demand: OnDemand,
     quiet: bool,
     list: bool,
     help: bool,
@@ -51,7 +53,8 @@ fn asked(words: impl Iterator<Item = String>) -> Result<Asked, Vec<String>> {
             "--help" | "-h" => asked.help = true,
             "--version" | "-V" => asked.version = true,
             "--list" => asked.list = true,
-            "--forecast" => asked.forecast = true,
+            "--forecast" => asked.on_demand.forecast = true,
+            "--mean-age" => asked.on_demand.mean_age = true,
             "--quiet" => asked.quiet = true,
             "--svg" => {
                 let out = words.next_if(|word| word.ends_with(".svg"));
@@ -172,10 +175,8 @@ fn drill(file: &str, asked: &Asked) -> Result<u8, String> {
     };
     if asked.quiet {
         print(&format!("{file}: {}\n", timeline::unmet(&played)))?;
-    } else if asked.forecast {
-        print(&timeline::with_forecasts(&played))?;
     } else {
-        print(&timeline::timeline(&played))?;
+        print(&timeline::timeline_with(&played, asked.on_demand))?;
     }
     if let Some(out) = &asked.svg {
         match draw(&played, &drawing_file(file, out.as_ref())) {

@@ -8,7 +8,8 @@ use crate::sending::{sent, SendFate, Sending, Sent};
 use crate::standing::Standing;
 use crate::verdict::{judge, Verdict};
 use crate::world::World;
-use request_keeper::{Answer, Forecast, Refusal, RequestKeeper, Settings, Surroundings, View};
+use request_keeper::{Answer, Forecast, MeanAge, Refusal, RequestKeeper};
+use request_keeper::{Settings, Surroundings, View};
 use std::rc::Rc;
 
 /// A scenario that was played.
@@ -45,6 +46,8 @@ pub struct Moment {
     /// What the core said of the step right before it.
     pub forecast: Result<Forecast, Refusal>,
     pub result: Result<Answer, Refusal>,
+    /// Of what is pending after it, at its clock.
+    pub mean_age: Result<MeanAge, Refusal>,
     pub sendings: Vec<Sending>,
     /// The sync info of an entry failed: send failure has to be the next step.
     pub entry_failed: bool,
@@ -216,6 +219,7 @@ fn step(
         after: Rc::clone(before),
         forecast,
         result,
+        mean_age: keeper.mean_age(clock),
         sendings,
         entry_failed,
         fates: Vec::new(),

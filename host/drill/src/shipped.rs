@@ -1,7 +1,7 @@
 //! The scenarios that come with the player, by name.
 
 /// Name and text of each.
-pub const SCENARIOS: [(&str, &str); 12] = [
+pub const SCENARIOS: [(&str, &str); 13] = [
     ("a-day", include_str!("../scenarios/a-day.drill")),
     (
         "reorg-eviction-lost-peer",
@@ -15,6 +15,10 @@ pub const SCENARIOS: [(&str, &str); 12] = [
     (
         "one-area-for-two-nodes",
         include_str!("../scenarios/one-area-for-two-nodes.drill"),
+    ),
+    (
+        "two-graphs-of-one-mean",
+        include_str!("../scenarios/two-graphs-of-one-mean.drill"),
     ),
     (
         "a-stalled-peer-passed-over",

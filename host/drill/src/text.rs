@@ -2,7 +2,7 @@
 
 use crate::scenario::{show_type, Names};
 use crate::sending::{SendFate, Sending, Sent};
-use request_keeper::{Forecast, Mode, Refusal};
+use request_keeper::{Forecast, MeanAge, Mode, Refusal};
 
 /// A number with its thousands parted: 10,000.
 pub fn grouped(number: impl Into<u64>) -> String {
@@ -53,6 +53,22 @@ pub fn forecast(forecast: &Result<Forecast, Refusal>) -> String {
             grouped(forecast.commands),
             grouped(forecast.command_bytes)
         ),
+        Err(refusal) => refusal.to_string(),
+    }
+}
+
+/// A mean age: 333 1/3 ms, 3 pending.
+pub fn mean_age(mean: &Result<MeanAge, Refusal>) -> String {
+    match mean {
+        Ok(mean) if mean.count == 0 => "nothing pending".to_string(),
+        Ok(mean) => {
+            let count = grouped(mean.count);
+            let part = match mean.remainder {
+                0 => String::new(),
+                remainder => format!(" {}/{count}", grouped(remainder)),
+            };
+            format!("{}{part} ms, {count} pending", grouped(mean.quotient))
+        }
         Err(refusal) => refusal.to_string(),
     }
 }

@@ -4,7 +4,7 @@ use crate::fate_words::{words, Told};
 use crate::fates::{Became, Fate};
 use crate::play::{Item, Moment, Played};
 use crate::scenario::show_type;
-use crate::text::{forecast, grouped, mode_word, sending};
+use crate::text::{forecast, grouped, mean_age, mode_word, sending};
 use request_keeper::{Id, PendingRequest};
 
 /// Lines are broken at blanks to stay within this.
@@ -16,21 +16,26 @@ const OUTCOME: usize = 60;
 /// How far behind it mode and height stand.
 const PLACE: usize = 13;
 
+/// Lines that each step has on demand.
+#[derive(Debug, Clone, Copy, PartialEq, Eq, Default)]
+pub struct OnDemand {
+    /// What was foretold of it.
+    pub forecast: bool,
+    /// The mean age of what is pending after it.
+    pub mean_age: bool,
+}
+
 /// The whole timeline.
 pub fn timeline(played: &Played) -> String {
-    whole(played, Text::default())
+    timeline_with(played, OnDemand::default())
 }
 
-/// The whole timeline, and in each step what was foretold of it.
-pub fn with_forecasts(played: &Played) -> String {
-    let text = Text {
-        forecasts: true,
+/// The whole timeline with lines on demand.
+pub fn timeline_with(played: &Played, on_demand: OnDemand) -> String {
+    let mut text = Text {
+        on_demand,
         ..Text::default()
     };
-    whole(played, text)
-}
-
-fn whole(played: &Played, mut text: Text) -> String {
     text.head(played);
     for item in &played.items {
         match item {
@@ -93,8 +98,7 @@ fn counted(count: usize, what: &str) -> String {
 #[derive(Default)]
 struct Text {
     lines: Vec<String>,
-    /// Whether forecasts are shown.
-    forecasts: bool,
+    on_demand: OnDemand,
     /// Whether the last lines were remarks or changes.
     aside: bool,
 }
@@ -168,7 +172,7 @@ impl Text {
         let place = place(moment, played);
         self.lines
             .push(format!("{step:<OUTCOME$} {outcome:<PLACE$} {place}"));
-        if self.forecasts {
+        if self.on_demand.forecast {
             self.entry("forecast", &forecast(&moment.forecast));
         }
         if let Err(refusal) = &moment.result {
@@ -178,6 +182,9 @@ impl Text {
             }
         } else {
             self.told(moment, played);
+        }
+        if self.on_demand.mean_age {
+            self.entry("mean age", &mean_age(&moment.mean_age));
         }
         self.verdicts(moment);
     }

@@ -58,6 +58,7 @@ fn found_instead(expectation: &Expectation, moment: &Moment, names: &Names) -> O
     match expectation {
         Expectation::Refused(number) => refused(*number, moment),
         Expectation::Forecast(expected) => foretold(expected, &moment.forecast),
+        Expectation::MeanAge(expected) => unless(&Ok(*expected), &moment.mean_age, text::mean_age),
         Expectation::Outcome(outcome) => counted(moment, |answer| {
             unless(outcome, &answer.outcome, |found| format!("{found:?}"))
         }),

@@ -48,6 +48,20 @@ fn forecasts_are_printed_where_asked() {
     assert_eq!(text(&quiet.stdout).lines().count(), 1, "{quiet:?}");
 }
 
+#[test]
+fn mean_ages_are_printed_where_asked() {
+    let plain = run(&["shut-gate"]);
+    assert!(plain.status.success() && !text(&plain.stdout).contains("mean age"));
+    let shown = run(&["--mean-age", "shut-gate"]);
+    assert!(shown.status.success() && shown.stderr.is_empty());
+    let told = text(&shown.stdout);
+    let lines = told.matches("\n            mean age   ");
+    assert!(lines.count() > 3 && !told.contains("forecast"), "{told}");
+    let both = run(&["--mean-age", "shut-gate", "--forecast"]);
+    let told = text(&both.stdout);
+    assert!(told.contains("mean age   ") && told.contains("forecast   "));
+}
+
 /// Each fault of the arguments has a line of its own, and the usage is not printed with it.
 #[test]
 fn faults_have_a_line_each() {

@@ -136,6 +136,12 @@ fn each_malformed_line_is_named() {
             "expect forecast finished commands many",
             "`many` is not a number of commands",
         ),
+        ("expect mean-age many", "`many` is not a number of requests"),
+        ("expect mean-age 3 1", "the remainder was expected"),
+        (
+            "expect mean-age 3 1 0 9",
+            "`9` was not expected: the line should end before it",
+        ),
         (
             "expect request a colour red",
             "`colour` was not expected here, but peer, type",

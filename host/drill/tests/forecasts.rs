@@ -4,7 +4,7 @@ use drill::play::{play, Moment, Played};
 use drill::scenario::read;
 use drill::sending::Sent;
 use drill::shipped::SCENARIOS;
-use drill::timeline;
+use drill::timeline::{self, OnDemand};
 use request_keeper::Forecast;
 
 fn played(text: &str) -> Played {
@@ -110,7 +110,11 @@ fn a_wrong_figure_is_told() {
 fn forecasts_are_shown_on_demand() {
     for (name, text) in SCENARIOS {
         let played = played(text);
-        let told = timeline::with_forecasts(&played);
+        let on_demand = OnDemand {
+            forecast: true,
+            ..OnDemand::default()
+        };
+        let told = timeline::timeline_with(&played, on_demand);
         let (forecasts, others): (Vec<&str>, Vec<&str>) = told
             .split_inclusive('\n')
             .partition(|line| line.trim_start().starts_with("forecast   "));

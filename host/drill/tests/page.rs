@@ -4,7 +4,7 @@
 use drill::play::{play, Played};
 use drill::scenario::read;
 use drill::shipped::SCENARIOS;
-use drill::timeline;
+use drill::timeline::{self, OnDemand};
 
 const PAGE: &str = include_str!("../../../docs/DRILL.md");
 
@@ -44,13 +44,29 @@ fn the_example_is_told_as_the_page_says() {
     assert!(told.trim() == expected, "it is told otherwise:\n{told}");
 }
 
-#[test]
-fn its_forecasts_are_told_as_the_page_says() {
+/// A section shows the example with lines of this label, as it is told on demand.
+fn shown_on_demand(name: &str, label: &str, on_demand: OnDemand) {
     let (played, _) = example();
-    let told = timeline::with_forecasts(&played);
-    let expected = block(section("The forecast"));
-    assert!(expected.contains("\n            forecast   "), "{expected}");
+    let told = timeline::timeline_with(&played, on_demand);
+    let expected = block(section(name));
+    let line = format!("\n            {label}   ");
+    assert!(expected.contains(&line), "{expected}");
     assert!(told.contains(&expected), "it is told otherwise:\n{told}");
+}
+
+#[test]
+fn lines_on_demand_are_told_as_the_page_says() {
+    let none = OnDemand::default();
+    let forecast = OnDemand {
+        forecast: true,
+        ..none
+    };
+    shown_on_demand("The forecast", "forecast", forecast);
+    let mean_age = OnDemand {
+        mean_age: true,
+        ..none
+    };
+    shown_on_demand("The mean age", "mean age", mean_age);
 }
 
 #[test]

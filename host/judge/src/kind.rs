@@ -11,7 +11,7 @@ use std::collections::BTreeMap;
 #[derive(Debug, Clone, PartialEq, Eq, PartialOrd, Ord)]
 enum What {
     /// The keeper's number and the core's.
-    Numbers(u32, u32),
+    Numbers(u64, u64),
     /// The first field that differs, and which part of it.
     Field(Field, Option<&'static str>),
     Written,
@@ -24,7 +24,7 @@ pub struct Kind {
     what: What,
 }
 
-fn number(answer: &[Line]) -> u32 {
+fn number(answer: &[Line]) -> u64 {
     match answer.first() {
         Some(Line::Answer(numbers)) => numbers.first().copied().unwrap_or(0),
         _ => 0,

@@ -55,8 +55,8 @@ pub fn type_name(type_id: TypeId) -> String {
     format!("type {type_id} ({name})")
 }
 
-pub fn outcome(number: u32) -> String {
-    let name = match number {
+pub fn outcome(number: u64) -> String {
+    let name = match u32::try_from(number).unwrap_or(u32::MAX) {
         outcomes::CONTINUE => "Continue",
         outcomes::SYNCED => "Synced",
         outcomes::BEHIND_PEER => "BehindPeer",

@@ -143,7 +143,7 @@ fn state_facts(state: &State, names: &Names) -> Facts {
 }
 
 /// After `open` the number, after `ask` number and length, after `step` all nine.
-fn number_facts(numbers: &[u32]) -> Facts {
+fn number_facts(numbers: &[u64]) -> Facts {
     const FIELDS: [Field; 9] = [
         Field::Number,
         Field::Outcome,
@@ -159,7 +159,7 @@ fn number_facts(numbers: &[u32]) -> Facts {
         2 => vec![Field::Number, Field::Length],
         _ => FIELDS.to_vec(),
     };
-    let fact = |(field, number): (Field, &u32)| {
+    let fact = |(field, number): (Field, &u64)| {
         let value = match field {
             Field::Outcome => outcome(*number),
             _ => number.to_string(),

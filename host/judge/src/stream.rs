@@ -135,8 +135,9 @@ impl Stream {
                 | Line::Map(_)
                 | Line::MapCall(_)
                 | Line::Passable => reading = Reading::LeftOut,
-                // Answers are the core's to give.
-                Line::Answer(_)
+                // Answers are the core's to give, and no pupil is asked for a mean age.
+                Line::Age(_)
+                | Line::Answer(_)
                 | Line::Command(_)
                 | Line::Pairs(_)
                 | Line::State(_)

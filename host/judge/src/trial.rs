@@ -36,7 +36,10 @@ impl Fault {
     /// The number by which the core turns the call back, if it does.
     pub fn refusal(&self) -> Option<u32> {
         match self.core.first() {
-            Some(Line::Answer(numbers)) => numbers.first().copied().filter(|number| *number != 0),
+            Some(Line::Answer(numbers)) => {
+                let number = numbers.first().filter(|number| **number != 0)?;
+                u32::try_from(*number).ok()
+            }
             _ => None,
         }
     }

@@ -9,11 +9,11 @@ use keeper_variants::Variant;
 use std::collections::BTreeSet;
 
 /// Numbers that a pupil can meet. The other refusals are given for malformed areas, lists and views.
-const MET: [u32; 7] = [0, 4, 5, 6, 9, 10, 11];
+const MET: [u64; 7] = [0, 4, 5, 6, 9, 10, 11];
 
-/// Whether only bytes, a state, a map or a forecast show the fault that no pupil's keeper meets.
+/// Whether only bytes, a state, a map, a forecast or a mean age show the fault that no pupil's keeper meets.
 fn not_asked(variant: &Variant) -> bool {
-    const PLACES: [&str; 10] = [
+    const PLACES: [&str; 11] = [
         "refusal 1",
         "refusal 2",
         "refusal 3",
@@ -24,6 +24,7 @@ fn not_asked(variant: &Variant) -> bool {
         keeper_variants::MAP,
         keeper_variants::FORECAST,
         keeper_variants::VERSIONS,
+        keeper_variants::MEAN_AGE,
     ];
     const FLAGS: [&str; 2] = [
         "flags of a sync info are looked at in a sync info only",

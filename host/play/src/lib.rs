@@ -1,5 +1,8 @@
 //! Streams as lines: record a keeper's answers below each call, or hold a keeper against recorded ones.
 
+mod ages;
+
+pub use ages::{aged, ages_told};
 use keeper_reference::{image, map, PLAIN};
 use keeper_streams::damage::Damaged;
 use keeper_streams::text::Line;
@@ -96,7 +99,7 @@ impl<'k> Player<'k> {
                 let mut area = self.lent(&Arguments::default()).0;
                 let number = self.keeper.open(&mut area, *settings, *clock, *height);
                 self.keep(area, number)?;
-                let mut lines = vec![Line::Answer(vec![number])];
+                let mut lines = vec![Line::numbers(&[number])];
                 if number == 0 {
                     lines.push(self.whole_state()?);
                 }
@@ -104,6 +107,7 @@ impl<'k> Player<'k> {
             }
             Line::Step(call, _) => return self.step(call),
             Line::Ask(flag) => return self.ask(*flag),
+            Line::Age(clock) => return self.age(*clock),
             Line::Map(bytes) => self.map.clone_from(bytes),
             Line::MapCall(call) => return self.map_call(call),
             Line::Passable => return self.passable(),
@@ -145,8 +149,9 @@ impl<'k> Player<'k> {
         let (mut area, mut commands) = self.lent(call);
         let before = area.clone();
         let forecast = self.keeper.forecast(&area, call);
+        aged(self.keeper, &area, &[call.clock, u64::MAX])?;
         if area != before {
-            return Err("a forecast changed the state area".to_string());
+            return Err("a forecast or a mean age changed the state area".to_string());
         }
         let answer = self.keeper.step(&mut area, &mut commands, call);
         let written = commands.get(..answer.length as usize).unwrap_or_default();
@@ -192,13 +197,25 @@ impl<'k> Player<'k> {
         if pairs.len() != length as usize || after.iter().any(|byte| *byte != FILL) {
             return Err(format!("wrote beyond its {length} command bytes"));
         }
-        Ok(vec![Line::Answer(vec![number, length]), Line::Pairs(pairs)])
+        Ok(vec![Line::numbers(&[number, length]), Line::Pairs(pairs)])
+    }
+
+    fn age(&mut self, clock: u64) -> Result<Vec<Line>, String> {
+        let (area, _) = self.lent(&Arguments::default());
+        let before = area.clone();
+        let mean = self.keeper.mean_age(&area, clock);
+        if area != before {
+            return Err("a mean age changed the state area".to_string());
+        }
+        let [number, count] = [mean.number, mean.count].map(u64::from);
+        let numbers = vec![number, count, mean.quotient, mean.remainder];
+        Ok(vec![Line::Answer(numbers)])
     }
 
     fn map_call(&mut self, call: &MapCall) -> Result<Vec<Line>, String> {
         let before = self.map.clone();
         let number = self.keeper.map_call(&mut self.map, call);
-        let mut lines = vec![Line::Answer(vec![number])];
+        let mut lines = vec![Line::numbers(&[number])];
         if number != 0 {
             if self.map != before {
                 return Err(format!("refused as {number}, and the map is changed"));
@@ -218,7 +235,7 @@ impl<'k> Player<'k> {
         if self.map != before {
             return Err("a question changed the map".to_string());
         }
-        Ok(vec![Line::Answer(vec![number, heights])])
+        Ok(vec![Line::numbers(&[number, heights])])
     }
 }
 
@@ -266,7 +283,7 @@ pub fn told_apart(keeper: &dyn Keeper, lines: &[Line]) -> bool {
 mod tests {
     use super::*;
     use keeper_reference::Reference;
-    use keeper_values::{Row, View};
+    use keeper_values::{MeanAge, Row, View};
 
     fn stream() -> Vec<Line> {
         let view = View {
@@ -304,7 +321,7 @@ mod tests {
             Line::Answer(numbers) => Some(numbers.as_slice()),
             _ => None,
         });
-        let expected: [&[u32]; 9] = [
+        let expected: [&[u64]; 9] = [
             &[12, 0],
             &[9],
             &[0],
@@ -340,6 +357,10 @@ mod tests {
 
         fn forecast(&self, state: &[u8], arguments: &Arguments) -> Forecast {
             Reference::plain().forecast(state, arguments)
+        }
+
+        fn mean_age(&self, state: &[u8], clock: u64) -> MeanAge {
+            Reference::plain().mean_age(state, clock)
         }
 
         fn question(&self, state: &[u8], commands: &mut [u8], flag: u8) -> (u32, u32) {

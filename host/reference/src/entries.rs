@@ -47,12 +47,17 @@ pub fn open(rules: &Rules, state: &mut [u8], settings: Settings, clock: u64, hei
     0
 }
 
-/// 1, 2 and 3: the areas.
-pub fn areas(rules: &Rules, state: &[u8], commands: &[u8]) -> Result<State, Refusal> {
+/// 1 and 2: the state area.
+pub fn readable(rules: &Rules, state: &[u8]) -> Result<State, Refusal> {
     if !(rules.state_length_fits)(state.len()) {
         return Err(Refusal(1));
     }
-    let read = image::read(rules, state).ok_or(Refusal(2))?;
+    image::read(rules, state).ok_or(Refusal(2))
+}
+
+/// 1, 2 and 3: the areas.
+pub fn areas(rules: &Rules, state: &[u8], commands: &[u8]) -> Result<State, Refusal> {
+    let read = readable(rules, state)?;
     if !(rules.commands_length_fits)(commands.len()) {
         return Err(Refusal(3));
     }

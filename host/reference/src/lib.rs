@@ -1,4 +1,4 @@
-//! The reference: document 01, F-1 to F-6 of document 02 and docs/LAYOUT.md read as plain Rust on bytes. Small and
+//! The reference: document 01, F-1 to F-7 of document 02 and docs/LAYOUT.md read as plain Rust on bytes. Small and
 //! obvious rather than fast.
 //!
 //! In the oracle's domain it equals the original Rust; outside, on any bytes, it is what a core is held against. Every
@@ -27,12 +27,13 @@ pub mod forecast;
 pub mod image;
 pub mod inputs;
 pub mod map;
+pub mod mean_age;
 pub mod rules;
 pub mod run;
 pub mod steps;
 pub mod sync;
 
-use keeper_values::{Answer, Arguments, Forecast, Keeper, MapCall, Settings};
+use keeper_values::{Answer, Arguments, Forecast, Keeper, MapCall, MeanAge, Settings};
 pub use rules::{Rules, PLAIN};
 pub use run::{Refusal, Run};
 
@@ -60,6 +61,10 @@ impl Keeper for Reference {
 
     fn forecast(&self, state: &[u8], arguments: &Arguments) -> Forecast {
         (self.rules.forecast)(&self.rules, state, arguments)
+    }
+
+    fn mean_age(&self, state: &[u8], clock: u64) -> MeanAge {
+        (self.rules.mean_age)(&self.rules, state, clock)
     }
 
     fn question(&self, state: &[u8], commands: &mut [u8], flag: u8) -> (u32, u32) {

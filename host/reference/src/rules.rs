@@ -1,4 +1,4 @@
-//! Every decision of the reference as a field. [`PLAIN`] is document 01 with F-1 to F-6; a variant is
+//! Every decision of the reference as a field. [`PLAIN`] is document 01 with F-1 to F-7; a variant is
 //! `Rules { one: .., ..PLAIN }`.
 
 use crate::delivery::{Check, Retry};
@@ -6,9 +6,9 @@ use crate::entries::Before;
 use crate::map::{Cell, Map, Mapped};
 use crate::steps::Outcome;
 use crate::sync::Stored;
-use crate::{commands, delivery, entries, forecast, image, inputs, map, steps, sync};
+use crate::{commands, delivery, entries, forecast, image, inputs, map, mean_age, steps, sync};
 use crate::{Refusal, Run};
-use keeper_values::{Arguments, Forecast, Id, Mode, Row, Settings, State, TypeId};
+use keeper_values::{Arguments, Forecast, Id, MeanAge, Mode, Row, Settings, State, TypeId};
 use std::collections::{BTreeMap, BTreeSet};
 use std::ops::RangeInclusive;
 
@@ -77,6 +77,11 @@ rules! {
     forecast {
         count_commands: fn(&[u8]) -> u32,
         forecast: fn(&Rules, &[u8], &Arguments) -> Forecast,
+    }
+    mean_age {
+        sum_of_ages: fn(&State, u64) -> u128,
+        divided: fn(u128, u32) -> (u64, u64),
+        mean_age: fn(&Rules, &[u8], u64) -> MeanAge,
     }
     delivery {
         expired: fn(&Settings, u64, u64) -> bool,

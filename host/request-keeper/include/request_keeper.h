@@ -1,6 +1,7 @@
-/* The request keeper's nine entries for a host in C. Every byte and number is in docs/LAYOUT.md.
+/* The request keeper's ten entries for a host in C. Every byte and number is in docs/LAYOUT.md.
  *
- * Link librequest_keeper.a, which `rt lib` in crates/request_keeper_c writes as out/librequest_keeper_c.a.
+ * Link librequest_keeper.a, which `rt lib` in crates/request_keeper_c writes as out/librequest_keeper_c.a. It wants memcpy, memmove,
+ * memset and __udivti3, which every C compiler links (libc and libgcc, or compiler-rt), and nothing else.
  *
  * A list is a pointer and then its length in bytes. Any number and any bytes are answered. Of its pointers a caller
  * owes what C can't say otherwise: none is null, also where the length is 0; all the bytes of its length are there; the
@@ -77,6 +78,15 @@ struct request_keeper_foretold {
     uint32_t length;    /* their bytes */
 };
 
+/* A mean age, exactly: the sum of all pending ages in milliseconds is quotient * count + remainder, and remainder is below count
+ * unless count is 0. number: 0, or the refusal, with all else 0. */
+struct request_keeper_mean {
+    uint32_t number;
+    uint32_t count;     /* how many are pending */
+    uint64_t quotient;
+    uint64_t remainder;
+};
+
 /* A question's answer: its number, and the bytes of pairs from the start of the command area. */
 struct request_keeper_pairs {
     uint32_t number;
@@ -137,6 +147,11 @@ struct request_keeper_foretold request_keeper_forecast(
     const uint8_t *stored, size_t stored_length,
     const uint8_t *peers, size_t peers_length,
     const uint8_t *view, size_t view_length);
+
+/* The mean age of what is pending at a clock: the time since each was last asked for. Nothing is written. Answers 0, 1, 2 or 4. */
+struct request_keeper_mean request_keeper_mean_age(
+    const uint8_t *state, size_t state_length,
+    uint64_t clock);
 
 /* Writes the stored pairs that the next check (flag 0) or lost peer (flag 1) may read to the command area. */
 struct request_keeper_pairs request_keeper_question(

@@ -1,4 +1,4 @@
-//! The nine entries of the static library on bytes (docs/LAYOUT.md, "Entries"): four of the core, five of the map of the
+//! The ten entries of the static library on bytes (docs/LAYOUT.md, "Entries"): five of the core, five of the map of the
 //! window. The only module with unsafe code, and the only place where the boundary is declared in Rust;
 //! `include/request_keeper.h` declares it in C.
 //!
@@ -7,7 +7,7 @@
 //! that hold bytes of their own, or bad ones.
 
 mod exported {
-    use super::{Forecast, MapAnswer, QuestionAnswer, StepAnswer};
+    use super::{Forecast, MapAnswer, MeanAge, QuestionAnswer, StepAnswer};
 
     /// Declares entries that are given a step's arguments behind their areas.
     macro_rules! given_a_step {
@@ -65,6 +65,12 @@ mod exported {
             clock: u64,
             height: u32,
         ) -> u32;
+
+        pub fn request_keeper_mean_age(
+            state: *const u8,
+            state_length: usize,
+            clock: u64,
+        ) -> MeanAge;
 
         pub fn request_keeper_question(
             state: *const u8,
@@ -154,6 +160,16 @@ pub struct Forecast {
     pub evicted: u32,
     pub commands: u32,
     pub length: u32,
+}
+
+/// The four numbers of a mean age.
+#[repr(C)]
+#[derive(Debug, Clone, Copy, PartialEq, Eq, Default)]
+pub struct MeanAge {
+    pub number: u32,
+    pub count: u32,
+    pub quotient: u64,
+    pub remainder: u64,
 }
 
 /// The two numbers of a question.
@@ -248,6 +264,12 @@ pub fn forecast(state: &[u8], call: &Arguments<'_>) -> Forecast {
     // SAFETY: each pointer stands before the length of its own whole slice; all six are only read. No number is out of
     // bounds.
     unsafe { handed_over!(request_keeper_forecast(state.as_ptr(), state.len()), call) }
+}
+
+/// Asks how old what is pending is at a clock, on the mean.
+pub fn mean_age(state: &[u8], clock: u64) -> MeanAge {
+    // SAFETY: a whole slice, which is only read; no number is out of bounds.
+    unsafe { exported::request_keeper_mean_age(state.as_ptr(), state.len(), clock) }
 }
 
 /// Asks which stored pairs a check (flag 0) or a lost peer (flag 1) may read.

@@ -2,7 +2,7 @@ use crate::boundary;
 use crate::refusal::numbered;
 use crate::surroundings::Pairs;
 use crate::{
-    Answer, Finished, Forecast, Mode, Outcome, Peer, Refusal, Settings, Step, Surroundings,
+    Answer, Finished, Forecast, MeanAge, Mode, Outcome, Peer, Refusal, Settings, Step, Surroundings,
 };
 use std::fmt::{self, Debug, Display, Formatter};
 
@@ -143,6 +143,43 @@ impl RequestKeeper {
             evicted: forecast.evicted,
             commands: forecast.commands,
             command_bytes: forecast.length,
+        })
+    }
+
+    /// The mean age of what is pending, exactly: of the time since each request was noted or last retried. A clock before the
+    /// last step's is refused. Changes nothing.
+    ///
+    /// ```
+    /// use request_keeper::{Id, MeanAge, ModifierType, Peer, Refusal, RequestKeeper, Settings, Step, Surroundings};
+    ///
+    /// let mut keeper = RequestKeeper::open(Settings::default(), 1_000, 400)?;
+    /// assert_eq!(keeper.mean_age(2_000)?, MeanAge { count: 0, quotient: 0, remainder: 0 });
+    ///
+    /// // One request at clock 2,000, two at 2,400.
+    /// let _ = keeper.step(Step::Start, &Surroundings::at(2_000))?;
+    /// let picked = Surroundings { peers: &[Peer(4)], ..Surroundings::at(2_000) };
+    /// let _ = keeper.step(Step::Pick, &picked)?;
+    /// let mut announced = |clock, ids: &[Id]| {
+    ///     let step = Step::Announced { from: Peer(4), modifier_type: ModifierType::HEADER, ids };
+    ///     keeper.step(step, &Surroundings::at(clock)).map(|_| ())
+    /// };
+    /// announced(2_000, &[[1; 32]])?;
+    /// announced(2_400, &[[2; 32], [3; 32]])?;
+    ///
+    /// // Ages of 500, 100 and 100: their sum is 233 * 3 + 1.
+    /// let mean = keeper.mean_age(2_500)?;
+    /// assert_eq!(mean, MeanAge { count: 3, quotient: 233, remainder: 1 });
+    /// assert_eq!(mean.rounded(), 233);
+    /// assert_eq!(keeper.mean_age(2_399), Err(Refusal::ClockWentBack));
+    /// # Ok::<(), Refusal>(())
+    /// ```
+    pub fn mean_age(&self, clock: u64) -> Result<MeanAge, Refusal> {
+        let mean = boundary::mean_age(&self.state, clock);
+        numbered(mean.number)?;
+        Ok(MeanAge {
+            count: mean.count,
+            quotient: mean.quotient,
+            remainder: mean.remainder,
         })
     }
 

@@ -130,7 +130,14 @@ static void forecast(struct call c) {
     print_state();
 }
 
+static void mean_age(uint64_t after) {
+    struct request_keeper_mean mean = request_keeper_mean_age(state, sizeof state, BASE + after);
+    printf("mean [%" PRIu32 ", %" PRIu32 ", %" PRIu64 ", %" PRIu64 "]\n",
+           mean.number, mean.count, mean.quotient, mean.remainder);
+}
+
 static void step(struct call c) {
+    mean_age(c.after);
     forecast(c);
     struct request_keeper_answer a = request_keeper_step(
         state, sizeof state, commands, sizeof commands, c.kind, BASE + c.after, c.gate, c.height, c.peer, c.type, c.fork,

@@ -5,7 +5,8 @@
 mod scenario;
 
 use request_keeper::{
-    Answer, Id, Mode, ModifierType, Outcome, Question, Refusal, Step, Surroundings, SyncInfo,
+    Answer, Id, MeanAge, Mode, ModifierType, Outcome, Question, Refusal, Step, Surroundings,
+    SyncInfo,
 };
 use scenario::{at, command, id, ids, row, view, Scenario};
 use scenario::{BASE, BLOCK, EIGHT, EXTENSION, HEADER, NEEDED, SECTION, SENDER, SEVEN};
@@ -90,7 +91,7 @@ fn sync_infos(scenario: &mut Scenario) {
     assert_eq!(scenario.keeper.known_tip(), 40);
 }
 
-/// A check whose numbers all differ, and both questions before it.
+/// A check whose numbers all differ, and the mean age and both questions before it.
 fn checks(scenario: &mut Scenario) {
     let announce = |scenario: &mut Scenario, after, modifier_type: ModifierType, ids: &[Id]| {
         let request = command(1, modifier_type.number(), 0, SENDER, ids);
@@ -109,6 +110,13 @@ fn checks(scenario: &mut Scenario) {
     let answer = scenario.writes(Step::Evicted { ids: &evicted }, at(13_000), &[]);
     assert_eq!((answer.pending, answer.evicted), (9, 5));
     announce(scenario, 21_999, EXTENSION, &ids::<1>(0x81));
+    // Nine asked for at 12,000 and one at 21,999.
+    let mean = MeanAge {
+        count: 10,
+        quotient: 9_000,
+        remainder: 1,
+    };
+    assert_eq!(scenario.keeper.mean_age(BASE + 22_000), Ok(mean));
     scenario.asks(Question::Check, &evicted.map(|id| (HEADER, id)));
     scenario.asks(Question::LostPeer, &ids::<4>(0xa1).map(|id| (BLOCK, id)));
     let stored = [(HEADER, id(0xe5))].into_iter().collect();

@@ -1,9 +1,9 @@
 //! Every public value can be shown: its ids in hexadecimal digits, and in a few words for a log.
 
 use request_keeper::{
-    Answer, Command, Forecast, Hex, Id, Message, Mode, ModifierType, Outcome, Peer, PendingRequest,
-    Question, Refusal, RequestKeeper, Section, Sends, Settings, Step, StoredPairs, Surroundings,
-    SyncInfo, View, WindowMap,
+    Answer, Command, Forecast, Hex, Id, MeanAge, Message, Mode, ModifierType, Outcome, Peer,
+    PendingRequest, Question, Refusal, RequestKeeper, Section, Sends, Settings, Step, StoredPairs,
+    Surroundings, SyncInfo, View, WindowMap,
 };
 use std::fmt::Debug;
 
@@ -132,6 +132,15 @@ fn in_a_few_words() {
         commands: 3,
         command_bytes: 4,
     };
+    let mean = MeanAge {
+        count: 3,
+        quotient: 233,
+        remainder: 1,
+    };
+    let even = MeanAge {
+        remainder: 0,
+        ..mean
+    };
     let sends = Sends {
         sent: 1,
         failed: 2,
@@ -190,6 +199,15 @@ fn in_a_few_words() {
         (
             forecast.to_string(),
             "Synced; pending 1, evicted 2; commands 3, bytes 4".to_string(),
+        ),
+        (
+            mean.to_string(),
+            "3 pending, mean age 233 1/3 ms".to_string(),
+        ),
+        (even.to_string(), "3 pending, mean age 233 ms".to_string()),
+        (
+            MeanAge::default().to_string(),
+            "nothing pending".to_string(),
         ),
         (
             sends.to_string(),

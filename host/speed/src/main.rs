@@ -16,6 +16,7 @@ mod growth;
 mod hostile;
 mod ids;
 mod map;
+mod mean_age;
 mod measure;
 mod repeat;
 mod table;
@@ -62,6 +63,7 @@ fn show_all(areas: &mut Areas) -> Vec<String> {
     }
     over.extend(map::show(areas));
     over.extend(forecast::show(areas));
+    over.extend(mean_age::show(areas));
     over.extend(growth::show(areas));
     over.extend(hostile::show(areas));
     over

@@ -19,7 +19,7 @@ pub struct Hostile {
 }
 
 impl Hostile {
-    /// As lines of a stream; damaged areas are asked a question too.
+    /// As lines of a stream; damaged areas are asked a question and the mean age too.
     pub fn lines(&self) -> Vec<Line> {
         let mut lines = vec![
             Line::Stream(self.name.clone()),
@@ -29,6 +29,8 @@ impl Hostile {
         if !modifiers.is_empty() {
             lines.extend(modifiers.clone());
             lines.push(Line::Ask(1));
+            lines.extend(modifiers.clone());
+            lines.push(Line::Age(self.damaged.arguments.clock));
         }
         lines.extend(modifiers);
         lines.push(Line::Step(Box::new(self.damaged.arguments.clone()), vec![]));

@@ -21,12 +21,14 @@ pub enum Line {
     Poke(usize, Vec<u8>),
     Step(Box<Arguments>, Vec<usize>),
     Ask(u8),
+    /// The mean age at this clock.
+    Age(u64),
     /// The stream's map is these bytes.
     Map(Vec<u8>),
     MapCall(MapCall),
     /// How many heights of the map can be passed.
     Passable,
-    Answer(Vec<u32>),
+    Answer(Vec<u64>),
     Command(Command),
     Pairs(Vec<u8>),
     /// The settings are not said again: those given are zero.
@@ -118,7 +120,12 @@ impl Line {
     }
 
     pub fn answer(answer: Answer) -> Self {
-        Line::Answer(answer.numbers().to_vec())
+        Line::numbers(&answer.numbers())
+    }
+
+    /// An answer of numbers of 32 bits.
+    pub fn numbers(numbers: &[u32]) -> Self {
+        Line::Answer(numbers.iter().copied().map(u64::from).collect())
     }
 
     pub fn write(&self) -> String {
@@ -136,11 +143,12 @@ impl Line {
             Line::Poke(offset, bytes) => format!("poke {offset} {}", hex(bytes)),
             Line::Step(call, fails) => write_step(call, fails),
             Line::Ask(flag) => format!("ask {flag}"),
+            Line::Age(clock) => format!("age {clock}"),
             Line::Map(bytes) => format!("map {}", hex(bytes)),
             Line::MapCall(call) => write_map_call(call),
             Line::Passable => PASSABLE.to_string(),
             Line::Answer(numbers) => {
-                let words: Vec<String> = numbers.iter().map(u32::to_string).collect();
+                let words: Vec<String> = numbers.iter().map(u64::to_string).collect();
                 format!("= {}", words.join(" "))
             }
             Line::Command(command) => format!(
@@ -182,6 +190,7 @@ impl Line {
             "poke" => Line::Poke(words.number()?, words.bytes()?),
             "step" => words.step()?,
             "ask" => Line::Ask(words.number()?),
+            "age" => Line::Age(words.number()?),
             "map" => Line::Map(words.bytes()?),
             "fill" => Line::MapCall(MapCall::Fill {
                 downloaded: words.number()?,

@@ -1,4 +1,4 @@
-use crate::{MapCall, Settings, TypeId};
+use crate::{MapCall, MeanAge, Settings, TypeId};
 
 /// Length of the state area.
 pub const STATE_BYTES: usize = 65_536;
@@ -114,7 +114,7 @@ impl Forecast {
     }
 }
 
-/// The entries on areas of any length and content: four of a core, and those of F-1's map. The reference, its faulty
+/// The entries on areas of any length and content: five of a core, and those of F-1's map. The reference, its faulty
 /// variants and any core that is to be held against them are keepers.
 pub trait Keeper {
     fn open(&self, state: &mut [u8], settings: Settings, clock: u64, height: u32) -> u32;
@@ -123,6 +123,9 @@ pub trait Keeper {
 
     /// What the step would show.
     fn forecast(&self, state: &[u8], arguments: &Arguments) -> Forecast;
+
+    /// The mean age of what is pending at a clock.
+    fn mean_age(&self, state: &[u8], clock: u64) -> MeanAge;
 
     /// The number and the length.
     fn question(&self, state: &[u8], commands: &mut [u8], flag: u8) -> (u32, u32);

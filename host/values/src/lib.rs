@@ -5,6 +5,7 @@ mod arguments;
 mod call;
 mod command;
 mod map;
+mod mean_age;
 pub mod numbers;
 mod state;
 
@@ -12,4 +13,5 @@ pub use arguments::{Answer, Arguments, Forecast, Keeper, COMMAND_BYTES, STATE_BY
 pub use call::{Call, Place, Row, View};
 pub use command::{read_commands, Command};
 pub use map::{MapCall, MAP_BYTES};
+pub use mean_age::MeanAge;
 pub use state::{Id, Mode, Request, Settings, State, TypeId};

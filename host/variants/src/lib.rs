@@ -10,6 +10,7 @@ mod headers;
 mod heights;
 mod losses;
 mod maps;
+mod mean_ages;
 mod messages;
 mod requests;
 mod results;
@@ -42,6 +43,9 @@ pub const TYPES: &str = "F-6";
 
 /// The place of those that take an image's version wrongly.
 pub const VERSIONS: &str = "F-6, versions";
+
+/// The place of the mean age's variants.
+pub const MEAN_AGE: &str = "F-7";
 
 /// A keeper with one fault.
 #[derive(Clone, Copy)]
@@ -82,6 +86,7 @@ pub fn all() -> Vec<Variant> {
         headers::variants(),
         types::variants(),
         versions::variants(),
+        mean_ages::variants(),
     ]
     .concat()
 }

@@ -3,7 +3,7 @@
 use super::names::Names;
 use super::wakes::{a_peer, a_type, an_id, ids, peers};
 use super::words::{Fault, Words};
-use request_keeper::{Id, Mode, ModifierType, Outcome, Peer};
+use request_keeper::{Id, MeanAge, Mode, ModifierType, Outcome, Peer};
 
 #[derive(Debug, Clone, PartialEq, Eq)]
 pub enum Expectation {
@@ -12,6 +12,8 @@ pub enum Expectation {
     Refused(u32),
     /// Asked right before it, the step was foretold to come to this.
     Forecast(Foretold),
+    /// The mean age of what is pending after it, at its clock.
+    MeanAge(MeanAge),
     Mode(Mode),
     /// `None`: there is none.
     SyncPeer(Option<Peer>),
@@ -74,7 +76,7 @@ pub enum SentWhat {
     SyncInfo,
 }
 
-const EXPECTATIONS: &str = "outcome, refused, forecast, mode, sync-peer, downloaded, known-tip, pending, request, evicted, \
+const EXPECTATIONS: &str = "outcome, refused, forecast, mean-age, mode, sync-peer, downloaded, known-tip, pending, request, evicted, \
 stalled, sent, nothing, sends, failed, dropped, retried, fresh, abandoned or forgotten";
 
 const OUTCOMES: [(&str, Outcome); 6] = [
@@ -115,6 +117,7 @@ impl Expectation {
             "outcome" => Self::Outcome(outcome(words)?),
             "refused" => Self::Refused(refusal(words)?),
             "forecast" => Self::Forecast(foretold(words)?),
+            "mean-age" => Self::MeanAge(mean_age(words)?),
             "mode" => Self::Mode(one_of(words, "a mode", &MODES)?),
             "sync-peer" => Self::SyncPeer(sync_peer(words, names)?),
             "downloaded" => Self::Downloaded(words.number("a height")?),
@@ -185,6 +188,15 @@ fn figures(words: &mut Words<'_>) -> Result<Figures, Fault> {
         }
     }
     Ok(figures)
+}
+
+/// "n, q and r": the sum of all ages is q × n + r.
+fn mean_age(words: &mut Words<'_>) -> Result<MeanAge, Fault> {
+    Ok(MeanAge {
+        count: words.number("a number of requests")?,
+        quotient: words.number("the quotient in ms")?,
+        remainder: words.number("the remainder")?,
+    })
 }
 
 fn sync_peer(words: &mut Words<'_>, names: &Names) -> Result<Option<Peer>, Fault> {

@@ -97,12 +97,22 @@ impl Scenario {
         numbers
     }
 
-    /// A step and its forecast, noted in the transcript. The figures of both are the same.
+    /// The mean age at a step's clock, noted in the transcript.
+    fn mean_age(&mut self, clock: u64) {
+        let numbers = match self.keeper.mean_age(clock) {
+            Ok(mean) => [0, u64::from(mean.count), mean.quotient, mean.remainder],
+            Err(refusal) => [u64::from(refusal.number()), 0, 0, 0],
+        };
+        writeln!(self.transcript, "mean {numbers:?}").expect("a string takes all");
+    }
+
+    /// A step, its forecast and the mean age before it, noted in the transcript. What was foretold is shown.
     pub fn step(
         &mut self,
         step: Step<'_>,
         now: Surroundings<'_>,
     ) -> Result<(Answer, Vec<u8>), Refusal> {
+        self.mean_age(now.clock);
         let forecast = self.forecast(step, &now);
         let mut count = 0;
         let finished = self.keeper.step(step, &now).map(|finished| {
