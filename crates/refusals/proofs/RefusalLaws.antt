@@ -169,10 +169,10 @@ pub record StateFits (state : List ℕ) : Type 0 where
   pub size : eqb (length state) area_size ≡ true
   pub image : well_formed state ≡ true
 
-pub state_fits : (state : List ℕ) → 0 ≡ image_refusal state 0 → StateFits state
-state_fits state e =
-    let h1 = held (eqb (length state) area_size) 1 (unless (well_formed state) 2 0) (omega arith) (sym e) in
-    let h2 = held (well_formed state) 2 0 (omega arith) h1.1 in
+pub state_fits : (state : List ℕ) (behind : ℕ) → 0 ≡ image_refusal state behind → StateFits state
+state_fits state behind e =
+    let h1 = held (eqb (length state) area_size) 1 (unless (well_formed state) 2 behind) (omega arith) (sym e) in
+    let h2 = held (well_formed state) 2 behind (omega arith) h1.1 in
     record { size = h1.0; image = h2.0 }
 
 -- 3, whatever comes behind it

@@ -2,24 +2,25 @@
 use Prim.Native.Nat.{ℕ, zero, suc, ◌-◌, ◌*◌, ◌<◌, ◌≤◌}
 use mathlib.Core.Path.{◌≡◌, refl, sym, ◌∙◌}
 use mathlib.Core.Bool.{true, false}
-use mathlib.Core.List.{List, map}
-use lib.ListN.{length, take, drop, length-drop, length-map}
+use mathlib.Core.List.{List}
+use lib.ListN.{length, take, drop, length-drop}
 use lib.Seq.{take_all}
 use lib.Dec.{eqb, leb}
 use borrow.Author.Tests.{ne_eqb, eqb-true, leb-true}
 use native.Mathlib.Nat.{lt_irrefl}
 use native.Mathlib.Omega.{arith}
 use Rattle.fields.specs.Overwrite.{overwritten}
-use Rattle.fields.specs.Entries.{entries, joined}
-use Rattle.fields.proofs.EntriesLaws.{length_entries}
+use Rattle.fields.specs.Entries.{joined}
 use Rattle.model.specs.Delivery.{Request}
 use Rattle.model.specs.State.{State, opened}
-use Rattle.model.specs.Image.{bit, field, request_of, pending_of, encode, decode, well_formed}
+use Rattle.model.specs.Image.{bit, field, pending_of, encode, decode, well_formed}
 use Rattle.model.proofs.FormedLaws.{Formed, formed}
 use Rattle.model.proofs.FinishedLaws.{held}
+use Rattle.commands.specs.Pending.{requests_in}
+use Rattle.commands.proofs.HoldingLaws.{length_requests}
 use Rattle.refusals.specs.Refusals.{given_refusal}
-use Rattle.refusals.proofs.RefusalLaws.{StateFits, refusal_split}
-use Rattle.model.specs.Calls.{is_flag, Call, Result, refused, step_refusal, step, Opening, Opened, open', Asked, question_refusal, question_pairs, question}
+use Rattle.refusals.proofs.RefusalLaws.{StateFits, state_fits, refusal_split}
+use Rattle.model.specs.Calls.{is_flag, unless, Call, Result, refused, step_refusal, step, Opening, Opened, open', Asked, question_refusal, question_pairs, question}
 use Rattle.model.specs.Forecast.{forecast_refusal, no_figures, forecast}
 use Rattle.model.specs.MeanAge.{MeanAge, no_mean, mean_of, mean_age_refusal, mean_age}
 use Rattle.model.proofs.MeanAgeLaws.{mean_parts}
@@ -110,19 +111,13 @@ asking state area flag e =
 -- ---- the mean age
 
 module _ (state : List ℕ) (clock : ℕ) (past : 0 ≡ mean_age_refusal state clock) where
-  abbrev pending_in : ℕ → List ℕ → List Request
-  pending_in count bytes = map request_of (entries record_size count bytes)
-
   -- the region as it is lent
   abbrev pub region : List ℕ
   region = take (length state - region_at) (drop region_at state)
 
   fits : StateFits state
   unfolding mean_age_refusal
-  fits =
-      let one = held (eqb (length state) area_size) 1 _ (omega arith) (sym past) in
-      let two = held (well_formed state) 2 _ (omega arith) one.1 in
-      record { size = one.0; image = two.0 }
+  fits = state_fits state (unless (leb (decode state).last_clock clock) 4 0) past
 
   pub state_size : length state ≡ area_size
   state_size = eqb-true _ _ fits.size
@@ -137,13 +132,11 @@ module _ (state : List ℕ) (clock : ℕ) (past : 0 ≡ mean_age_refusal state c
 
   -- the requests in the region are those of the state
   pub mean_told : {count records quotient remainder : ℕ} → count ≡ field 70 2 state → records ≡ field 70 2 state
-      → quotient ≡ (mean_of clock (pending_in records region)).quotient
-      → remainder ≡ (mean_of clock (pending_in records region)).remainder
+      → quotient ≡ (mean_of clock (requests_in records region)).quotient
+      → remainder ≡ (mean_of clock (requests_in records region)).remainder
       → ◌≡◌ {A = MeanAge} (record { number = 0; count = count; quotient = quotient; remainder = remainder }) (mean_age state clock)
   unfolding mean_age decode pending_of
   mean_told c e q r =
-      let pending : List Request = pending_in (field 70 2 state) (drop region_at state) in
-      let records : List (List ℕ) = entries record_size (field 70 2 state) (drop region_at state) in
-      let many : length pending ≡ field 70 2 state =
-      length-map records request_of ∙ length_entries record_size (field 70 2 state) (drop region_at state) in
+      let pending : List Request = requests_in (field 70 2 state) (drop region_at state) in
+      let many : length pending ≡ field 70 2 state = length_requests (field 70 2 state) (drop region_at state) in
       rw (← past, q, r, c, e, whole_region) (rw many at (mean_parts clock pending))

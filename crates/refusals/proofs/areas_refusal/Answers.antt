@@ -11,7 +11,7 @@ returns-in_err-image_refusal c =
     rw (p.1, p.2) (image_refused _ _ (positive c.in_err-image_refusal.field-0.0) c.in_err-image_refusal.ensures)
 
 pub returns-then-room-lt-AREA_SIZE : goal.returns-then-room-lt-AREA_SIZE
-returns-then-room-lt-AREA_SIZE c = areas_3 _ _ 0 (state_fits _ c.in_ok-image_refusal.ensures) (lt-leb _ _ c.if-room-lt-AREA_SIZE.true)
+returns-then-room-lt-AREA_SIZE c = areas_3 _ _ 0 (state_fits _ 0 c.in_ok-image_refusal.ensures) (lt-leb _ _ c.if-room-lt-AREA_SIZE.true)
 
 pub returns : goal.returns
-returns c = areas_none _ _ 0 (state_fits _ c.in_ok-image_refusal.ensures) (le-leb _ _ c.if-room-lt-AREA_SIZE.false)
+returns c = areas_none _ _ 0 (state_fits _ 0 c.in_ok-image_refusal.ensures) (le-leb _ _ c.if-room-lt-AREA_SIZE.false)

@@ -10,7 +10,7 @@ returns-in_err-image_refusal c =
     rw (p.1, p.2) (mean_refused _ _ (positive c.in_err-image_refusal.field-0.0) c.in_err-image_refusal.ensures)
 
 pub returns-then-clock-read_head : goal.returns-then-clock-read_head
-returns-then-clock-read_head c = mean_4 _ _ (state_fits _ c.in_ok-image_refusal.ensures) c.read_head.ensures c.if-clock-read_head.true
+returns-then-clock-read_head c = mean_4 _ _ (state_fits _ 0 c.in_ok-image_refusal.ensures) c.read_head.ensures c.if-clock-read_head.true
 
 pub returns : goal.returns
-returns c = mean_none _ _ (state_fits _ c.in_ok-image_refusal.ensures) c.read_head.ensures c.if-clock-read_head.false
+returns c = mean_none _ _ (state_fits _ 0 c.in_ok-image_refusal.ensures) c.read_head.ensures c.if-clock-read_head.false
