@@ -69,20 +69,16 @@ const SOURCES: [Source; 3] = [
                 "use std::collections::{HashMap, HashSet};",
                 "use std::collections::{BTreeMap as HashMap, BTreeSet as HashSet};",
             ),
-            // F-2: retries pass over stalled peers, unless all listed ones are stalled.
+            // F-8: of the unstalled peers, and then of all listed ones, the first other than the failed one; else that.
             (
                 "            for retry in &result.retries {
                 let target = peers
                     .iter()
 ",
-                "            let unstalled: Vec<PeerId> = peers
-                .iter()
-                .filter(|p| !self.stalled_peers.contains(*p))
-                .copied()
-                .collect();
-            let considered = if unstalled.is_empty() { &peers } else { &unstalled };
+                "            let unstalled = peers.iter().filter(|p| !self.stalled_peers.contains(*p));
+            let in_order: Vec<PeerId> = unstalled.chain(&peers).copied().collect();
             for retry in &result.retries {
-                let target = considered
+                let target = in_order
                     .iter()
 ",
             ),

@@ -12,6 +12,7 @@ use Rattle.model.specs.Peers as peers
 use Rattle.model.specs.Requests as requests
 use Rattle.model.specs.Sections as sections
 use Rattle.model.specs.Check as check
+use Rattle.model.specs.FormerTarget as former
 use Rattle.model.specs.Events as events
 use Rattle.model.specs.Steps as steps
 use Rattle.model.specs.Lists as lists
@@ -31,7 +32,7 @@ unfolding found starred.found before same entry rising protocol.is_transaction p
     delivery.evicted_after_eviction delivery.purge_peer delivery.orphans_of delivery.purge_all delivery.verdict delivery.restarted delivery.judged
     state.opened peers.first_unstalled peers.select_peer peers.stalled_after_select peers.join_stalled peers.send_sync_info peers.reset_sends requests.is_stored
     requests.runs requests.sync_info_to requests.wanted sections.advance_downloaded_height sections.item_below sections.batches_of
-    sections.request_sections_from sections.request_next_sections check.considered check.first_other check.retry_target check.retry_of check.retries
+    sections.request_sections_from sections.request_next_sections check.retry_target former.former_target check.retry_of check.retries
     check.retry_sendings events.tip_outcome events.raised_tip events.continuation steps.of_mode steps.unmarked steps.without_peer steps.sent
     steps.say_to steps.advance_from steps.sections_from steps.continues steps.leaves steps.advances steps.advances_and_requests steps.enters_syncing
     steps.picks steps.is_at_tip steps.answers steps.hears_sync_info steps.hears_announced steps.ask_orphans steps.loses steps.ticks_syncing

@@ -14,6 +14,7 @@ pub mod FateLaws
 pub mod FinishedLaws
 pub mod ForecastLaws
 pub mod FormedLaws
+pub mod FormerTargetLaws
 pub mod HeaderLaws
 pub mod IdLaws
 pub mod ImageLaws

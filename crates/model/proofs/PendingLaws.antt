@@ -3,6 +3,7 @@ use Prim.Native.Nat.{ℕ, suc, ◌≤◌, ◌<◌, max}
 use mathlib.Core.Path.{◌≡◌, refl, ap, ◌∙◌}
 use mathlib.Core.Bool.{Bool, true, false, not, cond}
 use mathlib.Core.List.{List, [], ◌∷◌, map}
+use mathlib.Core.Option.{Option, none, some}
 use lib.Dec.{eqb, leb}
 use native.Mathlib.Omega.{arith}
 use borrow.Author.Tests.{leb-false}
@@ -19,10 +20,11 @@ use Rattle.model.specs.Delivery
 use Rattle.model.specs.Delivery.{Request, Verdict, verdict, ids_of, is_pending, id_before, with_peer, restarted, mark_requested, mark_retried, check_timeouts, after_verdict, judged}
 use Rattle.model.specs.Requests.{Pair, is_stored, Act, ask, send, wanted, perform, perform_all}
 use Rattle.model.specs.Sections.{Item}
-use Rattle.model.specs.Peers.{is_listed, is_some, unstalled, first_unstalled}
-use Rattle.model.specs.Check.{considered, first_other, retry_target, retry_of, retries, mark_all_retried}
+use Rattle.model.specs.Peers.{peer_or, select_peer}
+use Rattle.model.specs.Check.{others, retry_target, retry_of, retries, mark_all_retried}
 use Rattle.model.proofs.Well.{WellId, WellRequest, RisingIds}
-use Rattle.model.proofs.Widths.{WellPeer, WellItem, WellList, WellAct}
+use Rattle.model.proofs.Widths.{IfSome, WellPeer, WellItem, WellList, WellAct}
+use Rattle.model.proofs.PeerLaws.{select_well}
 
 -- ---- M is above 0, and for what is no transaction it is at least the check limit
 
@@ -221,17 +223,15 @@ module _ (settings : Settings) (clock : ℕ) where
 abbrev pub WellTarget : (ℕ → ℕ) → Type 0
 WellTarget target = (failed : ℕ) → WellPeer failed → WellPeer (target failed)
 
-other_well : (peers : List ℕ) → All WellPeer peers → WellTarget (first_other peers)
-unfolding first_other
-other_well [] p failed h = h
-other_well (peer ∷ peers) p failed h = either WellPeer (eqb peer failed) (first_other peers failed) peer (other_well peers p.1 failed h) p.0
-
 pub target_well : (stalled_peers peers : List ℕ) → All WellPeer peers → WellTarget (retry_target stalled_peers peers)
-unfolding retry_target considered
-target_well stalled_peers peers p =
-    other_well (considered stalled_peers peers)
-    (either (All WellPeer) (is_some (first_unstalled stalled_peers peers)) (unstalled stalled_peers peers) peers
-    (all_kept WellPeer (λ (peer : ℕ). not (is_listed peer stalled_peers)) peers p) p)
+unfolding retry_target select_peer
+target_well stalled_peers peers p failed h =
+    go (select_peer stalled_peers (others failed peers))
+    (select_well stalled_peers (others failed peers) (all_kept WellPeer (λ (peer : ℕ). not (eqb peer failed)) peers p))
+  where
+    go : (chosen : Option ℕ) → IfSome WellPeer chosen → WellPeer (peer_or failed chosen)
+    go none w = h
+    go (some peer) w = w
 
 pub retries_well : (gate : Bool) (settings : Settings) (old clock : ℕ) (target : ℕ → ℕ) (rs : List Request) → WellTarget target
     → All (WellRequest settings old) rs → All WellItem (retries gate settings clock target rs)

@@ -4,6 +4,7 @@
 pub mod SeenLaws
 pub mod ListLaws
 pub mod WordLaws
+pub mod SearchLaws
 pub mod ModeLaws
 -- passes over the plans: what a step comes to, what it looks at, what it asks for
 pub mod CourseLaws
@@ -25,7 +26,7 @@ pub mod AsksKept
 pub mod SectionsAsked
 pub mod OrphansAsked
 pub mod VerdictLaws
-pub mod ConsideredLaws
+pub mod TurnsLaws
 pub mod CheckAsked
 pub mod BatchesKept
 -- what is pending, and what is told

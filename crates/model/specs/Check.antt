@@ -1,25 +1,23 @@
 -- Rule 6 of state.rs, handle_delivery_check: where retries go.
-use Rattle.std.specs.Prelude.{ℕ, Bool, true, false, cond, List, [], ◌∷◌, ◌++◌, map, eqb}
+use Rattle.std.specs.Prelude.{ℕ, Bool, true, false, not, cond, List, [], ◌∷◌, ◌++◌, map, eqb}
 use Rattle.std.proofs.Math.Option.{Option, none, some}
+use Rattle.fields.specs.Filter.{kept}
 use Rattle.model.specs.Protocol.{Id, header_type}
 use Rattle.model.specs.Settings.{Settings}
 use Rattle.model.specs.Delivery.{Request, judged, retried, mark_retried}
 use Rattle.model.specs.Requests.{Pair, Sending, request, Act, ask}
 use Rattle.model.specs.Sections.{Item, Batch, batches_of}
-use Rattle.model.specs.Peers.{first_of, is_some, unstalled, first_unstalled}
+use Rattle.model.specs.Peers.{first_of, or_else, peer_or, first_unstalled}
 
--- F-2: "Consider the listed peers not stalled, or all listed ones when every one is stalled."
-unfoldable pub considered : List ℕ → List ℕ → List ℕ
-considered stalled_peers peers = cond (is_some (first_unstalled stalled_peers peers)) (unstalled stalled_peers peers) peers
+-- the listed peers other than the failed one
+abbrev pub others : ℕ → List ℕ → List ℕ
+others failed peers = kept (λ (p : ℕ). not (eqb p failed)) peers
 
--- "Take the first of these other than the failed peer; if there is none, the failed peer."
-unfoldable pub first_other : List ℕ → ℕ → ℕ
-first_other [] failed = failed
-first_other (peer ∷ peers) failed = cond (eqb peer failed) (first_other peers failed) peer
-
--- where a retry goes: stalled peers, listed peers, the one that failed
+-- F-8: "Take the first listed peer neither failed nor stalled; else the first listed peer other than the failed one; else the
+-- failed one." Stalled peers, listed peers, the one that failed.
 unfoldable pub retry_target : List ℕ → List ℕ → ℕ → ℕ
-retry_target stalled_peers peers failed = first_other (considered stalled_peers peers) failed
+retry_target stalled_peers peers failed =
+    peer_or failed (or_else (first_unstalled stalled_peers (others failed peers)) (first_of (others failed peers)))
 
 unfoldable pub retry_of : (ℕ → ℕ) → Request → Item
 retry_of target r = record { id = r.id; type_id = r.type_id; peer = target r.peer }

@@ -10,6 +10,7 @@ use Rattle.model.specs.Requests.{Pair, Command, runs}
 use Rattle.model.specs.Requests as sending
 use Rattle.model.specs.Sections.{View, Section, Header, absent, present}
 use Rattle.model.specs.Check.{retry_target}
+use Rattle.model.specs.FormerTarget.{former_target}
 use Rattle.model.specs.Events.{outcome_number}
 use Rattle.model.specs.Image.{bit}
 use Rattle.model.specs.Steps.{Step, Args, plan, after, commands}
@@ -37,8 +38,8 @@ pub data Case : Type 0 where
   taken : Mode → Bool → Case
   -- a call's step, and its other arguments
   step_read args_read : Call → Case
-  -- where a retry goes: stalled peers, listed peers, the failed peer
-  goes : List ℕ → List ℕ → ℕ → Case
+  -- where a retry goes, and where it went by F-2: stalled peers, listed peers, the failed peer
+  goes went : List ℕ → List ℕ → ℕ → Case
   -- so many ids in requests; one list after another as commands
   in_runs : ℕ → Case
   in_commands : List ℕ → Case
@@ -318,6 +319,7 @@ found (args_read c) =
     (a.clock ∷ bit a.gate ∷ a.chain_height ∷ []) ∷ a.peers ∷ header_numbers (a.view 401)
     ∷ map (λ (p : Pair). p.type_id ∷ from_be p.id ∷ []) a.stored
 found (goes stalled_peers peers failed) = number (retry_target stalled_peers peers failed)
+found (went stalled_peers peers failed) = number (former_target stalled_peers peers failed)
 found (in_runs count) = map length (runs (numbered count)) ∷ []
 found (in_commands counts) = map head_numbers (sending.commands_from 0 (map request_of counts))
 found (like_starred case) = starred.found case
@@ -621,17 +623,21 @@ delivery_checks =
     ∷ (leaves synced_core (seeing (args_at 50 1 [] check) (rows (present [] ∷ []))) gives
     (0 ∷ 3 ∷ []) ∷ (7 ∷ 0 ∷ 0 ∷ []) ∷ (50 ∷ 0 ∷ 0 ∷ 0 ∷ []) ∷ (0 ∷ 0 ∷ []) ∷ [] ∷ [] ∷ []) ∷ []
 
--- F-2: where a retry goes, and what goes to the first listed peer, stalled or not.
+-- F-2 and F-8: where a retry goes, and what goes to the first listed peer, stalled or not.
 abbrev pub retry_targets : List (Entry Case)
 retry_targets =
-    -- some have not stalled: the first of these other than the failed one
+    -- others have not stalled: the first of these
     (goes (4 ∷ []) (4 ∷ 5 ∷ 6 ∷ []) 5 gives number 6)
     ∷ (goes (5 ∷ 4 ∷ []) (4 ∷ 5 ∷ 7 ∷ 6 ∷ []) 5 gives number 7)
     ∷ (goes (4 ∷ []) (4 ∷ 5 ∷ 6 ∷ []) 9 gives number 5)
     ∷ (goes (4 ∷ []) (4 ∷ 5 ∷ 4 ∷ 5 ∷ 6 ∷ []) 5 gives number 6)
-    -- the failed one alone has not: to it again
-    ∷ (goes (4 ∷ []) (4 ∷ 5 ∷ []) 5 gives number 5)
-    ∷ (goes (6 ∷ 4 ∷ 8 ∷ []) (6 ∷ 4 ∷ 5 ∷ 6 ∷ []) 5 gives number 5)
+    -- the failed one alone has not: to the first other
+    ∷ (goes (4 ∷ []) (4 ∷ 5 ∷ []) 5 gives number 4)
+    ∷ (goes (4 ∷ []) (5 ∷ 5 ∷ 4 ∷ []) 5 gives number 4)
+    ∷ (goes (6 ∷ 4 ∷ 8 ∷ []) (5 ∷ 4 ∷ 6 ∷ 5 ∷ []) 5 gives number 4)
+    ∷ (goes (4 ∷ []) (6 ∷ 4 ∷ []) 6 gives number 4)
+    -- one that has not failed has not stalled either
+    ∷ (goes (4 ∷ []) (6 ∷ 4 ∷ []) 5 gives number 6)
     -- all have: the first other, if there is one
     ∷ (goes (4 ∷ 5 ∷ []) (4 ∷ 5 ∷ []) 4 gives number 5)
     ∷ (goes (5 ∷ 6 ∷ 4 ∷ []) (6 ∷ 5 ∷ 4 ∷ []) 5 gives number 6)
@@ -647,6 +653,14 @@ retry_targets =
     ∷ (goes (8 ∷ []) (6 ∷ 6 ∷ 5 ∷ []) 6 gives number 5)
     ∷ (goes (8 ∷ []) (6 ∷ 4 ∷ []) 9 gives number 6)
     ∷ (goes (8 ∷ 4 ∷ []) (4 ∷ 5 ∷ []) 9 gives number 5)
+    -- by F-2: the same, but where the failed one alone has not stalled
+    ∷ (went (4 ∷ []) (4 ∷ 5 ∷ 6 ∷ []) 5 gives number 6)
+    ∷ (went (4 ∷ []) (4 ∷ 5 ∷ []) 5 gives number 5)
+    ∷ (went (4 ∷ []) (5 ∷ 5 ∷ 4 ∷ []) 5 gives number 5)
+    ∷ (went (4 ∷ []) (6 ∷ 4 ∷ []) 5 gives number 6)
+    ∷ (went (4 ∷ 5 ∷ []) (4 ∷ 5 ∷ []) 4 gives number 5)
+    ∷ (went (4 ∷ []) (4 ∷ []) 4 gives number 4)
+    ∷ (went [] [] 9 gives number 9)
     -- a check: commands and pending alike; fresh ids to the first listed peer, though stalled
     ∷ (sends (four_stalling (7 ∷ [])) (checking (7 ∷ 8 ∷ 9 ∷ [])) gives
     (0 ∷ 2 ∷ []) ∷ requests 0 101 8 (2 ∷ 4 ∷ []) ∷ requests 1 102 8 (1 ∷ []) ∷ requests 2 102 9 (3 ∷ []) ∷ requests 3 101 7 (6 ∷ [])

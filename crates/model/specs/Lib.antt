@@ -11,6 +11,7 @@ pub mod Demand3
 pub mod EdgeCases
 pub mod Events
 pub mod Forecast
+pub mod FormerTarget
 pub mod Image
 pub mod Lists
 pub mod MeanAge

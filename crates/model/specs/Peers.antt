@@ -17,6 +17,10 @@ abbrev pub or_else : Option ℕ → Option ℕ → Option ℕ
 or_else none other = other
 or_else (some peer) other = some peer
 
+abbrev pub peer_or : ℕ → Option ℕ → ℕ
+peer_or other none = other
+peer_or other (some peer) = peer
+
 abbrev pub is_some : Option ℕ → Bool
 is_some none = false
 is_some (some peer) = true

@@ -12,7 +12,7 @@ pub mod stalled_set;
 ghost use Rattle.std.specs.Prelude.{◌≡◌, ℕ, Bool, not};
 ghost use Rattle.fields.specs.Filter.{kept};
 ghost use Rattle.model.specs.Peers as model;
-ghost use Rattle.model.specs.Check.{retry_target};
+ghost use Rattle.model.specs.Check.{others, retry_target};
 ghost use Rattle.model.specs.Lists.{peers_in};
 ghost use Rattle.peers.specs.Stalled.{stalled_peers};
 ghost use Rattle.peers.specs.Peers.{listed_peer, Tells};
@@ -54,7 +54,7 @@ pub(crate) fn is_among(peers: &[u64], peer: u64) -> bool
 
 // The first listed peer that is none of the stalled ones, if there is one.
 #[tactic(auto, unfolding(model::specs::Peers::first_unstalled))]
-fn first_unstalled(stalled: &[u64], peers: &[u8]) -> Option<u64>
+pub(crate) fn first_unstalled(stalled: &[u64], peers: &[u8]) -> Option<u64>
     ensures { listed_peer result ≡ model.first_unstalled stalled.now (peers_in peers.now) }
 {
     first_passing(peers, |peer| !is_among(stalled, peer))
@@ -75,16 +75,32 @@ pub fn all_stalled(stalled: Stalled, peers: &[u8]) -> bool
     first_unstalled(stalled.held(), peers).is_none()
 }
 
-// Where a timed-out request goes next (F-2): of the listed peers that have not stalled, or of all if all have, the first other
-// than the failed one, else the failed one.
+// The first listed peer other than the failed one, if there is one.
+fn first_other(peers: &[u8], failed: u64) -> Option<u64>
+    ensures { listed_peer result ≡ model.first_of (others failed (peers_in peers.now)) }
+{
+    first_passing(peers, |peer| peer != failed)
+}
+
+// The same, else the failed one: where a retry goes if every other listed peer has stalled.
+pub(crate) fn other_target(peers: &[u8], failed: u64) -> u64
+    ensures { result ≡ model.peer_or failed (model.first_of (others failed (peers_in peers.now))) }
+{
+    first_other(peers, failed).unwrap_or(failed)
+}
+
+// The first listed peer neither failed nor stalled, if there is one.
+fn first_spared(stalled: &[u64], peers: &[u8], failed: u64) -> Option<u64>
+    ensures { listed_peer result ≡ model.first_unstalled stalled.now (others failed (peers_in peers.now)) }
+{
+    first_passing(peers, |peer| peer != failed && !is_among(stalled, peer))
+}
+
+// Where a timed-out request goes next (F-8): to the first listed peer neither failed nor stalled, else to the first other than
+// the failed one, else to the failed one.
+#[tactic(auto, unfolding(model::specs::Check::retry_target))]
 pub fn retry_target(stalled: Stalled, peers: &[u8], failed: u64) -> u64
     ensures { result ≡ retry_target (stalled_peers stalled) (peers_in peers.now) failed }
 {
-    let held = stalled.held();
-    let other = if first_unstalled(held, peers).is_none() {
-        first_passing(peers, |peer| peer != failed)
-    } else {
-        first_passing(peers, |peer| !is_among(held, peer) && peer != failed)
-    };
-    other.unwrap_or(failed)
+    first_spared(stalled.held(), peers, failed).unwrap_or_else(|| other_target(peers, failed))
 }

@@ -7,7 +7,7 @@ use keeper_streams::{directed, Opening, Script};
 use keeper_values::numbers::{kinds, outcomes, widths};
 use keeper_values::{Answer, Call, Keeper, Mode, State, TypeId};
 use keeper_values::{COMMAND_BYTES, STATE_BYTES};
-use keeper_variants::AS_PUBLISHED;
+use keeper_variants::{AS_IN_F2, AS_PUBLISHED};
 
 /// Bytes of a sync info, and of a request of one id.
 const SYNC_INFO: u32 = widths::HEADER as u32;
@@ -93,18 +93,24 @@ fn d1(keeper: &dyn Keeper) -> Result<(), String> {
     holds("D-1, the Rust's set is empty", state.stalled.is_empty())
 }
 
-/// D-2: retries pass over stalled peers (F-2). The Rust as it was published asks the first other peer, stalled or not; the
-/// oracle's copy has the rule written in.
+/// D-2: where a retry goes (F-8). The Rust as it was published asks the first other peer, stalled or not; the oracle's copy has
+/// the rule written in. F-2's rule asked the failed peer again where it alone has not stalled.
 fn d2(keeper: &dyn Keeper) -> Result<(), String> {
-    let script = directed::d2();
-    let asked = |state: &State| -> Vec<u64> { state.pending.values().map(|r| r.peer).collect() };
-    let (_, state) = played(keeper, &script)?;
-    holds("D-2, the keeper asks 6", asked(&state) == [6])?;
-    let (_, state) = judged(&script, &[])?;
-    holds("D-2, the oracle asks 6", asked(&state) == [6])?;
-    let rules = AS_PUBLISHED;
-    let (_, state) = played(&Reference { rules }, &script)?;
-    holds("D-2, the published rule asks 4", asked(&state) == [4])
+    // With the peers that the core, the Rust as published and F-2's rule ask.
+    let inputs = [(directed::d2(), 6, 4, 6), (directed::d2_parting(), 4, 4, 5)];
+    for (script, here, published, former) in inputs {
+        let asks = |who, state: State, target: u64| {
+            let what = format!("D-2, {}: {who} asks {target}", script.name);
+            let asked: Vec<u64> = state.pending.values().map(|r| r.peer).collect();
+            holds(&what, asked == [target])
+        };
+        let by = |rules| played(&Reference { rules }, &script);
+        asks("the keeper", played(keeper, &script)?.1, here)?;
+        asks("the oracle", judged(&script, &[])?.1, here)?;
+        asks("the published rule", by(AS_PUBLISHED)?.1, published)?;
+        asks("F-2's rule", by(AS_IN_F2)?.1, former)?;
+    }
+    Ok(())
 }
 
 /// D-3: an empty header list from another peer than the sync peer (F-5). The Rust takes itself for synced.

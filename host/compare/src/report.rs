@@ -26,7 +26,7 @@ const AIMED: [&str; 6] = [
     "no listed peer stalled",
     "some of the listed peers stalled",
     "all listed peers stalled",
-    "all listed peers but the failed one stalled",
+    "all listed peers but the failed one stalled: where F-8 parts from F-2",
     "a listed peer stalled, the failed one not listed",
     "a listed peer stalled, one listed twice",
 ];

@@ -1,5 +1,5 @@
 //! Random streams under the oracle go where the rules of document 02 have to be told: checks with retries and none, some or
-//! all of the listed peers stalled (F-2), empty header lists of other peers than the sync peer (F-5), types of two bytes (F-6).
+//! all of the listed peers stalled (F-8), empty header lists of other peers than the sync peer (F-5), types of two bytes (F-6).
 
 mod rows;
 
@@ -28,7 +28,10 @@ fn random_streams_go_there() {
     met("| no listed peer stalled |", 100);
     met("| some of the listed peers stalled |", 40);
     met("| all listed peers stalled |", 15);
-    met("| all listed peers but the failed one stalled |", 10);
+    met(
+        "| all listed peers but the failed one stalled: where F-8 parts from F-2 |",
+        15,
+    );
     met("| a listed peer stalled, the failed one not listed |", 15);
     met("| a listed peer stalled, one listed twice |", 30);
     met(
@@ -52,7 +55,7 @@ fn a_wrong_rule_is_told() {
     if !keeper_oracle::SOURCE_FOUND {
         return;
     }
-    for (place, count) in [(TARGETS, 3), (HEADERS, 6)] {
+    for (place, count) in [(TARGETS, 5), (HEADERS, 6)] {
         for variant in variants_of(place, count) {
             let differs = |seed| {
                 let mut report = Report::default();

@@ -172,7 +172,9 @@ fn aimed(retry: &Retry, told: Told, names: &Names) -> String {
         }
         Aim::OthersStalled(others) => {
             let others = names.show_peers(others);
-            format!("every other listed peer has stalled ({others}): asked of {to} again")
+            format!(
+                "every other listed peer has stalled ({others}), and {from}, which has not, has just failed: {first_other}"
+            )
         }
         Aim::NoOther => format!("no other peer is listed: asked of {to} again"),
         Aim::NoPeer => format!("no peer is listed: asked of {to} again"),

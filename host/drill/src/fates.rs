@@ -76,9 +76,10 @@ pub enum Aim {
     GateShut,
     /// The first listed peer other than the failed one that has not stalled; the stalled ones that it passes over.
     Unstalled(Vec<Peer>),
-    /// The first listed peer other than the failed one, since all of these have stalled.
+    /// The first listed peer other than the failed one, though all that are listed have stalled: these.
     AllStalled(Vec<Peer>),
-    /// The failed peer, which has not stalled as these have, all the others that are listed.
+    /// The first of these, all the listed peers other than the failed one, though they have stalled. The failed one is listed
+    /// and has not.
     OthersStalled(Vec<Peer>),
     /// The failed peer, since no other is listed.
     NoOther,
@@ -297,8 +298,6 @@ fn aim(listed: &[Peer], stalled: &[Peer], from: Peer, to: Peer) -> Aim {
             Aim::NoPeer
         } else if others.is_empty() {
             Aim::NoOther
-        } else if listed.contains(&from) && !has_stalled(&from) && others.iter().all(has_stalled) {
-            Aim::OthersStalled(others)
         } else {
             Aim::Unexplained
         };
@@ -309,10 +308,12 @@ fn aim(listed: &[Peer], stalled: &[Peer], from: Peer, to: Peer) -> Aim {
     let passed = &others[..place];
     if !has_stalled(&to) && passed.iter().all(has_stalled) {
         Aim::Unstalled(passed.to_vec())
-    } else if passed.is_empty() && listed.iter().all(has_stalled) {
+    } else if !passed.is_empty() || !others.iter().all(has_stalled) {
+        Aim::Unexplained
+    } else if listed.iter().all(has_stalled) {
         Aim::AllStalled(once(listed).copied().collect())
     } else {
-        Aim::Unexplained
+        Aim::OthersStalled(others)
     }
 }
 
@@ -373,7 +374,7 @@ fn check(facts: &Facts<'_>) -> Vec<Fate> {
 #[cfg(test)]
 mod tests {
     use super::{aim, Aim};
-    use keeper_reference::sync::retry_target;
+    use keeper_reference::sync::{former_target, retry_target};
     use request_keeper::Peer;
 
     fn peers(numbers: &[u64]) -> Vec<Peer> {
@@ -392,7 +393,7 @@ mod tests {
         let unstalled = |passed: &[u64]| Aim::Unstalled(peers(passed));
         let all = |listed: &[u64]| Aim::AllStalled(peers(listed));
         let others = |others: &[u64]| Aim::OthersStalled(peers(others));
-        let cases: [Case<'_>; 14] = [
+        let cases: [Case<'_>; 15] = [
             (&[], &[], 4, 4, Aim::NoPeer),
             (&[], &[4], 4, 4, Aim::NoPeer),
             (&[4], &[], 4, 4, Aim::NoOther),
@@ -402,8 +403,9 @@ mod tests {
             (&[4, 5, 6], &[6], 4, 5, unstalled(&[])),
             (&[5, 4, 6], &[5], 4, 6, unstalled(&[5])),
             (&[5, 7, 5, 6], &[7, 5], 4, 6, unstalled(&[5, 7])),
-            (&[4, 5], &[5], 4, 4, others(&[5])),
-            (&[5, 4, 6], &[4_000, 6, 5], 4, 4, others(&[5, 6])),
+            (&[4, 5], &[5], 4, 5, others(&[5])),
+            (&[5, 5, 4], &[4], 5, 4, others(&[4])),
+            (&[5, 4, 6], &[4_000, 6, 5], 4, 5, others(&[5, 6])),
             (&[5], &[5], 4, 5, all(&[5])),
             (&[4, 5, 4, 6], &[6, 5, 4], 4, 5, all(&[4, 5, 6])),
             (&[5, 6], &[6, 5], 4, 5, all(&[5, 6])),
@@ -415,6 +417,7 @@ mod tests {
     }
 
     /// All lists of up to three of three peers, with any of them stalled: the rule's target has a reason, and no other has.
+    /// Where F-2's was another, the reason is that the others have stalled and the failed one has not.
     #[test]
     fn the_target_alone_is_explained() {
         let known = [4, 5, 6];
@@ -433,9 +436,12 @@ mod tests {
                     .filter(|peer| marks >> (peer - 4) & 1 == 1)
                     .collect();
                 for (from, to) in known.iter().flat_map(|from| known.map(|to| (*from, to))) {
+                    let case = format!("{listed:?} {stalled:?} {from} {to}");
                     let right = retry_target(&stalled, listed, from) == to;
-                    let explained = aimed(listed, &stalled, from, to) != Aim::Unexplained;
-                    assert_eq!(explained, right, "{listed:?} {stalled:?} {from} {to}");
+                    let found = aimed(listed, &stalled, from, to);
+                    assert_eq!(found != Aim::Unexplained, right, "{case}");
+                    let new = right && former_target(&stalled, listed, from) != to;
+                    assert_eq!(matches!(found, Aim::OthersStalled(_)), new, "{case}");
                 }
             }
         }

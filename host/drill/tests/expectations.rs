@@ -180,7 +180,8 @@ fn the_target_of_a_retry_is_explained() {
         (
             "south",
             "peers north south",
-            "every other listed peer has stalled (north): asked of south again sent to south: ",
+            "every other listed peer has stalled (north), and south, which has not, has just failed: now asked of \
+             north, the first listed peer other than south sent to north: ",
         ),
         (
             "north",

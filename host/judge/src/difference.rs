@@ -73,8 +73,8 @@ mod tests {
             .into()
     }
 
-    const F_2: &str = "document 02, F-2: \"Consider the listed peers not stalled, or all listed ones when every one is \
-                       stalled. Take the first of these other than the failed peer; if there is none, the failed peer\"";
+    const F_8: &str = "document 02, F-8: \"Take the first listed peer neither failed nor stalled; else the first listed peer \
+                       other than the failed one; else the failed one\"";
 
     /// It shows in the command first, and where that is right, in the peer noted for the id.
     #[test]
@@ -90,7 +90,7 @@ mod tests {
             (
                 answer(6, 5, 1),
                 "peer of pending id ..0001: yours 5, ",
-                "document 02, F-2: ",
+                "document 02, F-8: ",
                 true,
             ),
             (
@@ -107,7 +107,7 @@ mod tests {
             assert!(first.words.starts_with(words), "{first:?}");
             let hint = first.hint.as_deref().expect("a hint");
             assert!(hint.starts_with(place), "{hint}");
-            assert_eq!(hint.contains(F_2), is_target, "{hint}");
+            assert_eq!(hint.contains(F_8), is_target, "{hint}");
         }
     }
 }

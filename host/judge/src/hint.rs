@@ -18,8 +18,8 @@ const RULE_5: &str =
 /// Where a retry goes.
 macro_rules! target {
     () => {
-        "document 02, F-2: \"Consider the listed peers not stalled, or all listed ones when every one is \
-         stalled. Take the first of these other than the failed peer; if there is none, the failed peer\""
+        "document 02, F-8: \"Take the first listed peer neither failed nor stalled; else the first listed \
+         peer other than the failed one; else the failed one\""
     };
 }
 

@@ -84,8 +84,19 @@ fn retrying_with_a_stalled_peer() {
     caught(
         "retry-to-a-stalled-peer",
         &[
-            "command 0: yours request type 101 to 2, ",
-            "document 02, F-2: \"Consider the listed peers not stalled, or all listed ones",
+            "command 0: yours request type 102 to 2, ",
+            "document 02, F-8: \"Take the first listed peer neither failed nor stalled",
+        ],
+    );
+}
+
+#[test]
+fn retrying_with_the_failed_peer() {
+    caught(
+        "retry-to-the-failed-peer",
+        &[
+            "command 0: yours request type 101 to 1, ",
+            "document 02, F-8: \"Take the first listed peer neither failed nor stalled",
         ],
     );
 }

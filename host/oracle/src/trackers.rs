@@ -41,12 +41,12 @@ macro_rules! tracker_with {
                 let Some((stalled, peers)) = open else {
                     return checked.retries.len();
                 };
+                // Unstalled ones, then all: F-8 takes the first of these other than the failed one.
                 let free = peers.iter().filter(|peer| !stalled.contains(*peer));
-                let free: Vec<u64> = free.copied().collect();
-                let considered = if free.is_empty() { peers } else { &free };
+                let in_order: Vec<u64> = free.chain(peers).copied().collect();
                 let mut batches: $map<(PeerId, u8), Vec<Id>> = $map::new();
                 for retry in &checked.retries {
-                    let other = considered
+                    let other = in_order
                         .iter()
                         .find(|peer| PeerId(**peer) != retry.failed_peer);
                     let target = other.map_or(retry.failed_peer, |peer| PeerId(*peer));

@@ -1,4 +1,4 @@
-//! The reference: document 01, F-1 to F-7 of document 02 and docs/LAYOUT.md read as plain Rust on bytes. Small and
+//! The reference: document 01, F-1 to F-8 of document 02 and docs/LAYOUT.md read as plain Rust on bytes. Small and
 //! obvious rather than fast.
 //!
 //! In the oracle's domain it equals the original Rust; outside, on any bytes, it is what a core is held against. Every

@@ -1,4 +1,4 @@
-//! Every decision of the reference as a field. [`PLAIN`] is document 01 with F-1 to F-7; a variant is
+//! Every decision of the reference as a field. [`PLAIN`] is document 01 with F-1 to F-8; a variant is
 //! `Rules { one: .., ..PLAIN }`.
 
 use crate::delivery::{Check, Retry};

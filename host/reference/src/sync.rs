@@ -1,4 +1,4 @@
-//! state.rs, rules 1 to 6 (document 01, and F-2 of document 02).
+//! state.rs, rules 1 to 6 (document 01, and F-8 of document 02).
 
 use crate::delivery::Retry;
 use crate::{Refusal, Run};
@@ -115,8 +115,17 @@ pub fn advance_downloaded_height(run: &mut Run) -> Result<(), Refusal> {
     Ok(())
 }
 
-/// F-2: "Consider the listed peers not stalled, or all listed ones when every one is stalled."
-pub fn considered(stalled: &[u64], peers: &[u64]) -> Vec<u64> {
+/// F-8: "Take the first listed peer neither failed nor stalled; else the first listed peer other than the failed one; else
+/// the failed one."
+pub fn retry_target(stalled: &[u64], peers: &[u64], failed: u64) -> u64 {
+    let others = || peers.iter().filter(|peer| **peer != failed);
+    let unstalled = others().find(|peer| !stalled.contains(peer));
+    let target = unstalled.or_else(|| others().next());
+    target.copied().unwrap_or(failed)
+}
+
+/// F-2, which F-8 overrules: "Consider the listed peers not stalled, or all listed ones when every one is stalled."
+fn considered(stalled: &[u64], peers: &[u64]) -> Vec<u64> {
     let unstalled = peers.iter().filter(|peer| !stalled.contains(peer));
     let unstalled: Vec<u64> = unstalled.copied().collect();
     if unstalled.is_empty() {
@@ -125,8 +134,8 @@ pub fn considered(stalled: &[u64], peers: &[u64]) -> Vec<u64> {
     unstalled
 }
 
-/// F-2: "Take the first of these other than the failed peer; if there is none, the failed peer."
-pub fn retry_target(stalled: &[u64], peers: &[u64], failed: u64) -> u64 {
+/// F-2: "Take the first of these other than the failed peer; if there is none, the failed peer." To be compared with.
+pub fn former_target(stalled: &[u64], peers: &[u64], failed: u64) -> u64 {
     let considered = considered(stalled, peers);
     let other = considered.iter().find(|peer| **peer != failed);
     other.copied().unwrap_or(failed)

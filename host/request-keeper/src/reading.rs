@@ -104,8 +104,8 @@ impl RequestKeeper {
         u64::from_be_bytes(self.field(LAST_SEND))
     }
 
-    /// The peers that have stalled, in the order of joining. Picks and retries pass over them, as long as a listed
-    /// peer has not stalled.
+    /// The peers that have stalled, in the order of joining. Picks pass over them as long as a listed peer has not
+    /// stalled; retries, as long as one other than the failed peer has not.
     pub fn stalled(&self) -> impl Iterator<Item = Peer> + '_ {
         let (peers, _) = self.part(STALLED).as_chunks::<8>();
         let peer = |bytes: &[u8; 8]| Peer(u64::from_be_bytes(*bytes));

@@ -13,7 +13,7 @@ mod runs;
 mod shapes;
 mod types;
 
-pub use delivery::d2;
+pub use delivery::{d2, d2_parting};
 pub use headers::d3;
 pub use peers::d1;
 pub use types::d4;

@@ -13,8 +13,8 @@ pub fn variants() -> Vec<Variant> {
             "a retry goes to the first listed peer, failed or not",
             Rules {
                 retry_target: |stalled, peers, failed| {
-                    let considered = sync::considered(stalled, peers);
-                    considered.first().copied().unwrap_or(failed)
+                    let unstalled = peers.iter().find(|peer| !stalled.contains(peer));
+                    unstalled.or(peers.first()).copied().unwrap_or(failed)
                 },
                 ..PLAIN
             },
@@ -23,9 +23,8 @@ pub fn variants() -> Vec<Variant> {
             "a retry goes to the last other peer",
             Rules {
                 retry_target: |stalled, peers, failed| {
-                    let considered = sync::considered(stalled, peers);
-                    let other = considered.iter().rev().find(|peer| **peer != failed);
-                    other.copied().unwrap_or(failed)
+                    let backwards: Vec<u64> = peers.iter().rev().copied().collect();
+                    sync::retry_target(stalled, &backwards, failed)
                 },
                 ..PLAIN
             },

@@ -21,13 +21,10 @@ mod types;
 mod versions;
 
 use keeper_reference::{Reference, Rules};
-pub use targets::AS_PUBLISHED;
+pub use targets::{AS_IN_F2, AS_PUBLISHED};
 
 /// The place of the map's variants.
 pub const MAP: &str = "F-1";
-
-/// The place of those that choose a retry's target among stalled peers.
-pub const TARGETS: &str = "F-2";
 
 /// The place of the forecast's variants.
 pub const FORECAST: &str = "F-3";
@@ -46,6 +43,9 @@ pub const VERSIONS: &str = "F-6, versions";
 
 /// The place of the mean age's variants.
 pub const MEAN_AGE: &str = "F-7";
+
+/// The place of those that choose a retry's target among stalled peers.
+pub const TARGETS: &str = "F-8";
 
 /// A keeper with one fault.
 #[derive(Clone, Copy)]
@@ -80,13 +80,13 @@ pub fn all() -> Vec<Variant> {
         calls::variants(),
         results::variants(),
         maps::variants(),
-        targets::variants(),
         forecasts::variants(),
         runs::variants(),
         headers::variants(),
         types::variants(),
         versions::variants(),
         mean_ages::variants(),
+        targets::variants(),
     ]
     .concat()
 }

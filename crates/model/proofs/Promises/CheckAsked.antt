@@ -37,7 +37,7 @@ use Rattle.model.proofs.Promises.TellsLaws.{Tells, tells_not}
 use Rattle.model.proofs.Promises.WordLaws.{pending_request, request_pending, left_kept, left_same, left_wanted}
 use Rattle.model.proofs.Promises.ItemLaws.{item_order, NotAbove, not_above_lem, is_of, of_alike}
 use Rattle.model.proofs.Promises.AskedLaws.{asked_by, asked_alone, asked_parts}
-use Rattle.model.proofs.Promises.ConsideredLaws.{target_in, turns, turns_only}
+use Rattle.model.proofs.Promises.TurnsLaws.{target_in, turns, turns_only}
 use Rattle.model.proofs.Promises.VerdictLaws.{verdict_is, judgement, made_verdict, verdict_made, stamps_past}
 use Rattle.model.proofs.Promises.LeftLaws.{Left, left_of, came_from, becomes_id, left_again}
 

@@ -21,7 +21,7 @@ use Rattle.model.specs.Promises.Pending as pending
 use Rattle.model.specs.Promises.Pending.{Retried, TakenOut, Becomes, restarted_at}
 use Rattle.model.proofs.Promises.SeenLaws.{apart, seen_as, Finished}
 use Rattle.model.proofs.Promises.TellsLaws.{Tells}
-use Rattle.model.proofs.Promises.ConsideredLaws.{turns}
+use Rattle.model.proofs.Promises.TurnsLaws.{turns}
 use Rattle.model.proofs.Promises.VerdictLaws.{Made, made, waiting_stays, retried_stays, stamps_past}
 use Rattle.model.proofs.Promises.CheckedLaws.{leaves, checked, checked_still, checked_again}
 

@@ -4,11 +4,10 @@ use mathlib.Core.Path.{◌≡◌, refl, sym, ap, ◌∙◌, subst}
 use mathlib.Core.Bool.{Bool, true, false, not, cond, false≢true}
 use mathlib.Core.Logic.{◌⊎◌, ◌↔◌, inl, inr, ⊎_elim}
 use mathlib.Core.List.{List, [], ◌∷◌, ◌++◌}
-use mathlib.Core.Option.{Option, none, some, some-injective}
+use mathlib.Core.Option.{Option, some, some-injective}
 use borrow.Author.Tests.{eqb-false}
 use Rattle.fields.specs.Facts.{All}
-use Rattle.fields.specs.Filter.{cons_if, kept}
-use Rattle.fields.proofs.AllLaws.{all_back}
+use Rattle.fields.specs.Filter.{kept}
 use Rattle.fields.proofs.OrderLaws.{and_right}
 use Rattle.model.specs.State.{Mode, seeking, syncing, synced, is_mode, State}
 use Rattle.model.specs.Peers.{is_listed, first_of, or_else, is_some, first_unstalled, select_peer, stalled_after_select, join_stalled, reset_sends}
@@ -20,69 +19,47 @@ use Rattle.model.specs.Calls.{Call, args_of, step_of}
 use Rattle.model.specs.Promises.Numbers as numbers
 use Rattle.model.specs.Promises.Words.{Seen, peers, Among}
 use Rattle.model.specs.Promises.Marks as promised
-use Rattle.model.specs.Promises.Marks.{Chosen, Picked, Enters, Progresses, SaysSyncInfo, SyncPeer, Emptied, all_stalled, by_progress, StalledSet, Marks}
+use Rattle.model.specs.Promises.Marks.{IsStalled, Chosen, Picked, Enters, Progresses, SaysSyncInfo, SyncPeer, Emptied, all_stalled, by_progress, StalledSet, Marks}
 use Rattle.model.specs.Promises.SyncInfos.{SpeaksTo, on_pick, when_behind, Due, SyncInfos}
 use Rattle.model.proofs.Promises.SeenLaws as kinds
 use Rattle.model.proofs.Promises.SeenLaws.{Finished, seen_as, apart, step_of_lem, mode_of}
 use Rattle.model.proofs.Promises.ListLaws.{among_back}
 use Rattle.model.proofs.Promises.ModeLaws.{mode_is_not, is_not_mode, no_peer_lem, peerless}
-use Rattle.model.proofs.Promises.WordLaws.{listed_passes, passes_listed, fails_listed, listed_first}
+use Rattle.model.proofs.Promises.WordLaws.{listed_passes, passes_listed, listed_first}
+use Rattle.model.proofs.Promises.SearchLaws.{Searched, found, nobody, search_unstalled, first_not_all}
 use Rattle.model.proofs.Promises.CourseLaws.{seen_by, seen_by_lem, is_quiet, Course, told}
 use Rattle.model.proofs.Promises.CourseLaws as courses
 use Rattle.model.proofs.Promises.SyncInfosKept.{NotBehind, due, not_due, last_send_past, sync_infos_kept, none_said}
 
 -- ---- rule 1
 
--- The first listed peer that is not stalled, if there is one.
-data Searched (stalled_peers peers : List ℕ) : Option ℕ → Type 0 where
-  found :
-      (peer : ℕ) (passed rest : List ℕ) → peers ≡ passed ++ (peer ∷ rest) → All (λ (p : ℕ). Among p stalled_peers) passed → (Among peer stalled_peers → ⊥)
-      → Searched stalled_peers peers (some peer)
-  exhausted : All (λ (p : ℕ). Among p stalled_peers) peers → Searched stalled_peers peers none
-
-searched : (stalled_peers peers : List ℕ) → Searched stalled_peers peers (first_unstalled stalled_peers peers)
-unfolding first_unstalled
-searched stalled_peers [] = exhausted tt
-searched stalled_peers (p ∷ peers) = go (is_listed p stalled_peers) refl (searched stalled_peers peers)
-  where
-    behind : (o : Option ℕ) → Among p stalled_peers → Searched stalled_peers peers o → Searched stalled_peers (p ∷ peers) o
-    behind o h (found peer passed rest e w n) = found peer (p ∷ passed) rest (ap (λ (l : List ℕ). p ∷ l) e) (h, w) n
-    behind o h (exhausted w) = exhausted (h, w)
-
-    go : (t : Bool) → is_listed p stalled_peers ≡ t → Searched stalled_peers peers (first_of (kept (λ (q : ℕ). not (is_listed q stalled_peers)) peers))
-        → Searched stalled_peers (p ∷ peers) (first_of (cons_if (not t) p (kept (λ (q : ℕ). not (is_listed q stalled_peers)) peers)))
-    go true e s = behind (first_of (kept (λ (q : ℕ). not (is_listed q stalled_peers)) peers)) (passes_listed p stalled_peers e) s
-    go false e s = found p [] peers refl tt (fails_listed p stalled_peers e)
-
 chosen : (s : Seen) (peer : ℕ) → select_peer s.before.sync.stalled_peers (peers s) ≡ some peer → Chosen s peer
 unfolding select_peer
-chosen s peer = go (first_unstalled s.before.sync.stalled_peers (peers s)) (searched s.before.sync.stalled_peers (peers s))
+chosen s peer = go (first_unstalled s.before.sync.stalled_peers (peers s)) (search_unstalled s.before.sync.stalled_peers (peers s))
   where
-    go : (o : Option ℕ) → Searched s.before.sync.stalled_peers (peers s) o → or_else o (first_of (peers s)) ≡ some peer → Chosen s peer
-    go o (found other passed rest e w n) c =
-        subst (Chosen s) (some-injective other peer c) (promised.first_unstalled passed rest e w n)
-    go o (exhausted w) c = promised.first_listed (listed_first peer (peers s) c) w
+    go : (o : Option ℕ) → Searched (IsStalled s) (peers s) o → or_else o (first_of (peers s)) ≡ some peer → Chosen s peer
+    go o (found other f) c = subst (Chosen s) (some-injective other peer c) (promised.first_unstalled f)
+    go o (nobody w) c = promised.first_listed (listed_first peer (peers s) c) w
 
 module _ (stalled_peers peers : List ℕ) where
-  abbrev AllStalled : Type 0
-  AllStalled = All (λ (p : ℕ). Among p stalled_peers) peers
+  abbrev Held : ℕ → Type 0
+  Held p = Among p stalled_peers
 
-  select_empties : AllStalled → stalled_after_select stalled_peers peers ≡ []
+  select_empties : All Held peers → stalled_after_select stalled_peers peers ≡ []
   unfolding stalled_after_select
-  select_empties = go (first_unstalled stalled_peers peers) (searched stalled_peers peers)
+  select_empties = go (first_unstalled stalled_peers peers) (search_unstalled stalled_peers peers)
     where
-      go : (o : Option ℕ) → Searched stalled_peers peers o → AllStalled → cond (is_some o) stalled_peers [] ≡ []
-      go o (found peer passed rest e w n) all =
-          absurd (n (all_back (λ (p : ℕ). Among p stalled_peers) passed (peer ∷ rest) (subst (All (λ (p : ℕ). Among p stalled_peers)) e all)).0)
-      go o (exhausted w) all = refl
+      go : (o : Option ℕ) → Searched Held peers o → All Held peers → cond (is_some o) stalled_peers [] ≡ []
+      go o (found peer f) all = absurd (first_not_all Held peers peer f all)
+      go o (nobody w) all = refl
 
-  select_keeps : (AllStalled → ⊥) → stalled_after_select stalled_peers peers ≡ stalled_peers
+  select_keeps : (All Held peers → ⊥) → stalled_after_select stalled_peers peers ≡ stalled_peers
   unfolding stalled_after_select
-  select_keeps = go (first_unstalled stalled_peers peers) (searched stalled_peers peers)
+  select_keeps = go (first_unstalled stalled_peers peers) (search_unstalled stalled_peers peers)
     where
-      go : (o : Option ℕ) → Searched stalled_peers peers o → (AllStalled → ⊥) → cond (is_some o) stalled_peers [] ≡ stalled_peers
-      go o (found peer passed rest e w n) others = refl
-      go o (exhausted w) others = absurd (others w)
+      go : (o : Option ℕ) → Searched Held peers o → (All Held peers → ⊥) → cond (is_some o) stalled_peers [] ≡ stalled_peers
+      go o (found peer f) others = refl
+      go o (nobody w) others = absurd (others w)
 
 module _ (peer : ℕ) (stalled_peers : List ℕ) where
   joined_new : (Among peer stalled_peers → ⊥) → join_stalled peer stalled_peers ≡ stalled_peers ++ (peer ∷ [])

@@ -42,7 +42,7 @@ use Rattle.model.proofs.Promises.TellsLaws.{tells_as, is_tells}
 use Rattle.model.proofs.Promises.WordLaws.{among_tells}
 use Rattle.model.proofs.Promises.SparedLaws.{picks_spares, answers_spare, announced_spares, loses_spares, ticks_spares, progresses_spares}
 use Rattle.model.proofs.Promises.AskedLaws.{asked_parts, acts_well_lem}
-use Rattle.model.proofs.Promises.ConsideredLaws.{turns_only}
+use Rattle.model.proofs.Promises.TurnsLaws.{turns_only}
 use Rattle.model.proofs.Promises.VerdictLaws.{verdict_is, made_verdict, retried_stays, stamps_past}
 use Rattle.model.proofs.Promises.LeftLaws.{Left, left_of, came_from, becomes_id, left_all, left_tested, left_none, left_again, left_still}
 use Rattle.model.proofs.Promises.LeftLaws.{takes_out, untaken, taken_listed, taken_lost}

@@ -1,67 +1,24 @@
--- What a check makes of a request, and where a retry goes: the rules' words against those of a user.
+-- What a check makes of a request: the rules' words against those of a user.
 use Prim.Native.Nat.{ℕ, suc, ◌+◌, ◌-◌, ◌≤◌, ◌<◌}
 use mathlib.Core.Path.{◌≡◌, refl, sym, ap, ◌∙◌, subst}
 use mathlib.Core.Bool.{Bool, true, false, cond}
 use mathlib.Core.Logic.{◌⊎◌, inl, inr, ⊎_elim}
-use mathlib.Core.List.{List, [], ◌∷◌, ◌++◌}
 use native.Mathlib.Omega.{arith}
 use lib.Dec.{eqb, leb}
-use borrow.Author.Tests.{eqb-true, eqb-false, leb-true, leb-false, eq-eqb, ne_eqb}
+use borrow.Author.Tests.{eqb-true, eqb-false, leb-true, leb-false}
 use Rattle.fields.specs.Facts.{All}
 use Rattle.fields.proofs.AllLaws.{all_weaker}
 use Rattle.model.specs.Protocol.{is_transaction, transaction_type}
 use Rattle.model.specs.Settings.{expired, given_up, patience}
 use Rattle.model.specs.Delivery.{Request, Verdict, waiting, retried, abandoned, forgotten, verdict, verdict_number}
 use Rattle.model.specs.State.{State}
-use Rattle.model.specs.Check.{first_other}
 use Rattle.model.specs.Calls.{Call}
 use Rattle.model.specs.Promises.Numbers as numbers
 use Rattle.model.specs.Promises.Words.{Seen}
-use Rattle.model.specs.Promises.Pending.{GoesTo, another, again, Overdue, Forgotten, Abandoned, Retried, TakenOut}
+use Rattle.model.specs.Promises.Pending.{Overdue, Forgotten, Abandoned, Retried, TakenOut}
 use Rattle.model.specs.Promises.Pending as pending
 use Rattle.model.proofs.Well.{WellRequest}
 use Rattle.model.proofs.Promises.SeenLaws.{Finished}
-
--- ---- where a retry goes
-
--- one more peer that failed
-passes : (listed : List ℕ) (failed target peer : ℕ) → peer ≡ failed → GoesTo listed failed target → GoesTo (peer ∷ listed) failed target
-passes listed failed target peer e (another next passed rest split all other) =
-    another next (peer ∷ passed) rest (ap (λ (l : List ℕ). peer ∷ l) split) (e, all) other
-passes listed failed target peer e (again all) = again (e, all)
-
-pub goes_to : (peers : List ℕ) (failed : ℕ) → GoesTo peers failed (first_other peers failed)
-unfolding first_other
-goes_to [] failed = again tt
-goes_to (peer ∷ peers) failed = go (eqb peer failed) refl (goes_to peers failed)
-  where
-    go :
-        (t : Bool) → eqb peer failed ≡ t → GoesTo peers failed (first_other peers failed)
-        → GoesTo (peer ∷ peers) failed (cond t (first_other peers failed) peer)
-    go true e g = passes peers failed (first_other peers failed) peer (eqb-true peer failed e) g
-    go false e g = another peer [] peers refl tt (eqb-false peer failed e)
-
--- behind peers that failed it is what it is for the others
-target_behind : (passed rest : List ℕ) (failed : ℕ) → All (λ (p : ℕ). p ≡ failed) passed → first_other (passed ++ rest) failed ≡ first_other rest failed
-unfolding first_other
-target_behind [] rest failed all = refl
-target_behind (p ∷ passed) rest failed all = rw (eq-eqb p failed all.0) (target_behind passed rest failed all.1)
-
-target_other : (peer failed : ℕ) (rest : List ℕ) → (peer ≡ failed → ⊥) → first_other (peer ∷ rest) failed ≡ peer
-unfolding first_other
-target_other peer failed rest other = rw (ne_eqb peer failed other)
-
-target_again : (peers : List ℕ) (failed : ℕ) → All (λ (p : ℕ). p ≡ failed) peers → first_other peers failed ≡ failed
-unfolding first_other
-target_again [] failed all = refl
-target_again (p ∷ peers) failed all = rw (eq-eqb p failed all.0) (target_again peers failed all.1)
-
-pub goes_to_only : {peers : List ℕ} {failed target : ℕ} → GoesTo peers failed target → target ≡ first_other peers failed
-goes_to_only {failed = failed} (another peer passed rest split all other) =
-    rw (split, target_behind passed (peer ∷ rest) failed all, target_other peer failed rest other)
-goes_to_only {peers = peers} {failed = failed} (again all) = sym (target_again peers failed all)
-
--- ---- what a check makes of a request
 
 verdict_at : ℕ → Verdict
 verdict_at n = cond (eqb n 1) retried (cond (eqb n 2) abandoned (cond (eqb n 3) forgotten waiting))

@@ -139,6 +139,9 @@ passes_listed peer (other ∷ others) e =
 pub fails_listed : (peer : ℕ) (peers : List ℕ) → is_listed peer peers ≡ false → Among peer peers → ⊥
 fails_listed peer peers e h = not_both (is_listed peer peers) (listed_passes peer peers h) e
 
+pub listed_tells : (peer : ℕ) (peers : List ℕ) → Tells (not (is_listed peer peers)) (Among peer peers)
+listed_tells peer peers = turned_tells (is_listed peer peers) (passes_listed peer peers) (fails_listed peer peers)
+
 pub first_listed_lem : (peer : ℕ) (peers : List ℕ) → First peer peers → first_of peers ≡ some peer
 first_listed_lem peer [] h = absurd h
 first_listed_lem peer (other ∷ others) e = ap some (sym e)

@@ -1,17 +1,17 @@
 -- The sync peer, the stalled set and the marks: who is chosen, who joins and when the set is emptied, what clocks and marks say.
-use Rattle.std.specs.Prelude.{ℕ, ◌≡◌, true, false, ◌⊎◌, ◌↔◌, List, [], ◌∷◌, ◌++◌}
+use Rattle.std.specs.Prelude.{ℕ, ◌≡◌, true, false, ◌⊎◌, ◌↔◌, [], ◌∷◌, ◌++◌}
 use Rattle.fields.specs.Facts.{All}
 use Rattle.model.specs.State.{syncing, synced}
 use Rattle.model.specs.Requests.{Command}
 use Rattle.model.specs.Promises.Numbers
-use Rattle.model.specs.Promises.Words.{Seen, peers, Among, First}
+use Rattle.model.specs.Promises.Words.{Seen, peers, Among, First, FirstLeft}
 
 abbrev pub IsStalled : Seen → ℕ → Type 0
 IsStalled s peer = Among peer s.before.sync.stalled_peers
 
 -- Rule 1: "first listed peer not stalled. If none, .. the first listed is taken."
 pub data Chosen (s : Seen) (peer : ℕ) : Type 0 where
-  first_unstalled : (passed rest : List ℕ) → peers s ≡ passed ++ (peer ∷ rest) → All (IsStalled s) passed → (IsStalled s peer → ⊥) → Chosen s peer
+  first_unstalled : FirstLeft (IsStalled s) (peers s) peer → Chosen s peer
   first_listed : First peer (peers s) → All (IsStalled s) (peers s) → Chosen s peer
 
 -- a pick that finds somebody

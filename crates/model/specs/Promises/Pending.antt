@@ -6,25 +6,15 @@ use Rattle.model.specs.Delivery.{Request}
 use Rattle.model.specs.State.{syncing}
 use Rattle.model.specs.Book.{Requested, requested_in}
 use Rattle.model.specs.Promises.Numbers
-use Rattle.model.specs.Promises.Words.{Seen, ids, peers, Among, LeftOf}
+use Rattle.model.specs.Promises.Words.{Seen, ids, peers, Among, FirstLeft}
+use Rattle.model.specs.Promises.Marks.{IsStalled}
 
--- F-2: "Consider the listed peers not stalled, or all listed ones when every one is stalled."
-pub data Considers (stalled_peers listed : List ℕ) : List ℕ → Type 0 where
-  unstalled : (left : List ℕ) → LeftOf (λ (p : ℕ). Among p stalled_peers) listed left → (left ≡ [] → ⊥) → Considers stalled_peers listed left
-  every : All (λ (p : ℕ). Among p stalled_peers) listed → Considers stalled_peers listed listed
-
--- "Take the first of these other than the failed peer; if there is none, the failed peer."
-pub data GoesTo (listed : List ℕ) (failed : ℕ) : ℕ → Type 0 where
-  another :
-      (peer : ℕ) (passed rest : List ℕ) → listed ≡ passed ++ (peer ∷ rest) → All (λ (p : ℕ). p ≡ failed) passed → (peer ≡ failed → ⊥)
-      → GoesTo listed failed peer
-  again : All (λ (p : ℕ). p ≡ failed) listed → GoesTo listed failed failed
-
--- a retry goes to this peer: the stalled set is the one before the step
-pub record Turns (s : Seen) (failed peer : ℕ) : Type 0 where
-  pub considered : List ℕ
-  pub considers : Considers s.before.sync.stalled_peers (peers s) considered
-  pub to : GoesTo considered failed peer
+-- Where a retry goes, by the stalled set before the step. F-8: "Take the first listed peer neither failed nor stalled; else the
+-- first listed peer other than the failed one; else the failed one."
+pub data Turns (s : Seen) (failed peer : ℕ) : Type 0 where
+  unstalled : FirstLeft (λ (p : ℕ). (p ≡ failed) ⊎ IsStalled s p) (peers s) peer → Turns s failed peer
+  other : All (λ (p : ℕ). (p ≡ failed) ⊎ IsStalled s p) (peers s) → FirstLeft (λ (p : ℕ). p ≡ failed) (peers s) peer → Turns s failed peer
+  again : All (λ (p : ℕ). p ≡ failed) (peers s) → peer ≡ failed → Turns s failed peer
 
 -- ---- what a check makes of a request
 

@@ -70,6 +70,11 @@ LeftOf Out [] left = left ≡ []
 LeftOf {A} Out (x ∷ xs) left =
     (Out x × LeftOf Out xs left) ⊎ ((Out x → ⊥) × ((others : List A) × (left ≡ x ∷ others) × LeftOf Out xs others))
 
+-- It is the first that is left of a list when all that is `Out` is left out.
+abbrev pub FirstLeft : {A : Type 0} → (A → Type 0) → List A → A → Type 0
+FirstLeft Out [] x = ⊥
+FirstLeft Out (y ∷ ys) x = (Out y × FirstLeft Out ys x) ⊎ ((Out y → ⊥) × (x ≡ y))
+
 -- How many of a list are such.
 abbrev pub Counted : {A : Type 0} → (A → Type 0) → List A → ℕ → Type 0
 Counted Such [] n = n ≡ 0

@@ -13,7 +13,7 @@ use std::thread::sleep;
 use std::time::Duration;
 
 /// A word for each mistake of the class, and the fault by which `keeper_variants` knows it.
-const CLASS: [(&str, &str); 7] = [
+const CLASS: [(&str, &str); 8] = [
     ("older-stamp", "a retry keeps its older stamp"),
     (
         "no-check-behind-a-shut-gate",
@@ -28,6 +28,10 @@ const CLASS: [(&str, &str); 7] = [
         "a peer one block ahead is a reason to switch",
     ),
     ("retry-to-a-stalled-peer", "a retry goes to a stalled peer"),
+    (
+        "retry-to-the-failed-peer",
+        "where the failed peer alone has not stalled, a retry goes to it again",
+    ),
     (
         "synced-by-any-peer",
         "an empty header list is Synced, from any peer",

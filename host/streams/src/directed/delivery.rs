@@ -71,13 +71,14 @@ fn timeouts(scripts: &mut Vec<Script>) {
 /// Where retries go, open and behind a shut gate, and with some of the listed peers stalled: none of them that matters, the
 /// first, all but the failed one, all.
 fn targets(scripts: &mut Vec<Script>) {
-    let lists: [&[u64]; 8] = [
+    let lists: [&[u64]; 9] = [
         &[],
         &[4],
         &[4, 4],
         &[5],
         &[4, 5],
         &[5, 4],
+        &[5, 5, 4],
         &[4, 4, 6, 5],
         &[9, 4, 5],
     ];
@@ -125,7 +126,7 @@ fn targets(scripts: &mut Vec<Script>) {
             }
         }
     }
-    let stalled: [&[u64]; 6] = [&[7], &[4], &[5], &[4, 5], &[9, 4], &[6, 5, 4, 9]];
+    let stalled: [&[u64]; 7] = [&[7], &[4], &[5], &[4, 5], &[9, 4], &[6, 4], &[6, 5, 4, 9]];
     for peers in lists {
         for stalled in stalled {
             let state = State {
@@ -169,14 +170,23 @@ pub fn d2() -> Script {
     retried(5, &[4], &[&[4, 5, 6]])
 }
 
-/// Short streams for each case of the choice: a peer to pass over, only the failed one not stalled, all stalled; and two of
-/// them one after the other.
+/// The smallest input in which F-8 parts from F-2: of the listed 4 and 5 the first is stalled and the second has failed.
+pub fn d2_parting() -> Script {
+    retried(5, &[4], &[&[4, 5]])
+}
+
+/// Short streams for each case of the choice: a peer to pass over; only the failed one not stalled, which is where F-8 parts
+/// from F-2; all stalled; none listed. And two of them one after the other.
 fn passed_over(scripts: &mut Vec<Script>) {
     scripts.extend([
         d2(),
-        retried(5, &[4], &[&[4, 5]]),
+        retried(5, &[4], &[&[6, 4]]),
+        d2_parting(),
+        retried(5, &[4], &[&[5, 5, 4]]),
+        retried(5, &[4, 6], &[&[5, 6, 4]]),
         retried(4, &[4, 5], &[&[4, 5]]),
         retried(4, &[4], &[&[4]]),
+        retried(9, &[4], &[&[]]),
         retried(5, &[4, 7], &[&[4, 5], &[4, 7]]),
         retried(5, &[7, 4], &[&[5, 4], &[7, 4]]),
     ]);
