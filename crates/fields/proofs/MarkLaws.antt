@@ -13,11 +13,11 @@ use Rattle.fields.specs.Overwrite.{overwritten}
 use Rattle.fields.proofs.AllLaws.{all_by_index, all_marked}
 use Rattle.fields.proofs.FilterLaws.{marked_kept, marked_behind}
 
-and_turned : (a b : Bool) → a && b ≡ b && a
-and_turned true true = refl
-and_turned true false = refl
-and_turned false true = refl
-and_turned false false = refl
+and_comm : (a b : Bool) → a && b ≡ b && a
+and_comm true true = refl
+and_comm true false = refl
+and_comm false true = refl
+and_comm false false = refl
 
 module _ {ℓ} {A : Type ℓ} where
   pub kept_all : (test : A → Bool) (xs : List A) → All (λ (x : A). test x ≡ true) xs → kept test xs ≡ xs
@@ -39,7 +39,7 @@ module _ {ℓ} {A : Type ℓ} where
   -- two tests, in either order
   pub kept_turned : (p q : A → Bool) (xs : List A) → kept p (kept q xs) ≡ kept q (kept p xs)
   kept_turned p q xs =
-      kept_kept p q xs ∙ kept_same_test (λ (x : A). q x && p x) (λ (x : A). p x && q x) (λ (x : A). and_turned (q x) (p x)) xs ∙ sym (kept_kept q p xs)
+      kept_kept p q xs ∙ kept_same_test (λ (x : A). q x && p x) (λ (x : A). p x && q x) (λ (x : A). and_comm (q x) (p x)) xs ∙ sym (kept_kept q p xs)
 
   pub kept_map {κ} : {B : Type κ} (f : A → B) (test : B → Bool) (xs : List A) → kept test (map f xs) ≡ map f (kept (λ (x : A). test (f x)) xs)
   kept_map f test [] = refl

@@ -12,6 +12,7 @@ use Rattle.model.specs.Peers.{is_listed, first_of, or_else, peer_or, is_some, un
 use Rattle.model.specs.Check.{others, retry_target}
 use Rattle.model.specs.FormerTarget.{former_target, StalledOther, Collide, Compared, TargetsCompared}
 use Rattle.model.specs.Promises.Words.{Among, FirstLeft}
+use Rattle.model.specs.Promises.Pending.{FailedOrStalled}
 use Rattle.model.proofs.Promises.ListLaws.{all_among}
 use Rattle.model.proofs.Promises.SearchLaws.{Searched, found, nobody, search_unstalled, search_others, search_neither, first_among}
 
@@ -22,9 +23,8 @@ module _ (stalled_peers peers : List ℕ) (failed : ℕ) where
   abbrev IsFailed : ℕ → Type 0
   IsFailed p = p ≡ failed
 
-  -- failed or stalled
   abbrev Passed : ℕ → Type 0
-  Passed p = IsFailed p ⊎ IsStalled p
+  Passed = FailedOrStalled stalled_peers failed
 
   abbrev IsStalledOther : ℕ → Type 0
   IsStalledOther p = StalledOther stalled_peers failed p

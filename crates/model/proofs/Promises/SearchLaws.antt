@@ -12,6 +12,7 @@ use Rattle.fields.proofs.MarkLaws.{kept_kept}
 use Rattle.model.specs.Peers.{is_listed, first_of, first_unstalled}
 use Rattle.model.specs.Check.{others}
 use Rattle.model.specs.Promises.Words.{Among, FirstLeft}
+use Rattle.model.specs.Promises.Pending.{FailedOrStalled}
 use Rattle.model.proofs.Promises.TellsLaws.{Tells, is_tells, both_tell}
 use Rattle.model.proofs.Promises.WordLaws.{listed_tells}
 
@@ -70,11 +71,12 @@ module _ (stalled_peers peers : List ℕ) where
     pub search_others : Searched (λ (p : ℕ). p ≡ failed) peers (first_of (others failed peers))
     search_others = searched (λ (p : ℕ). p ≡ failed) is_other (λ (p : ℕ). is_tells p failed) peers
 
-    abbrev Passed : ℕ → Type 0
-    Passed p = (p ≡ failed) ⊎ Among p stalled_peers
+    abbrev passes : ℕ → Bool
+    passes p = is_other p && is_free p
 
-    pub search_neither : Searched Passed peers (first_unstalled stalled_peers (others failed peers))
+    tells : (p : ℕ) → Tells (passes p) (FailedOrStalled stalled_peers failed p)
+    tells p = both_tell (is_tells p failed) (λ e. listed_tells p stalled_peers)
+
+    pub search_neither : Searched (FailedOrStalled stalled_peers failed) peers (first_unstalled stalled_peers (others failed peers))
     unfolding first_unstalled
-    search_neither =
-        let tells : (p : ℕ) → Tells (is_other p && is_free p) (Passed p) = λ p. both_tell (is_tells p failed) (λ e. listed_tells p stalled_peers) in
-        rw (kept_kept is_free is_other peers) (searched Passed (λ (p : ℕ). is_other p && is_free p) tells peers)
+    search_neither = rw (kept_kept is_free is_other peers) (searched (FailedOrStalled stalled_peers failed) passes tells peers)

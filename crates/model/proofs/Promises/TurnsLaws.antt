@@ -8,8 +8,7 @@ use Rattle.fields.proofs.AllLaws.{all_weaker}
 use Rattle.model.specs.Peers.{first_of, or_else, peer_or, first_unstalled}
 use Rattle.model.specs.Check.{others, retry_target}
 use Rattle.model.specs.Promises.Words.{Seen, peers}
-use Rattle.model.specs.Promises.Marks.{IsStalled}
-use Rattle.model.specs.Promises.Pending.{Turns, unstalled, other, again}
+use Rattle.model.specs.Promises.Pending.{FailedOrStalled, Turns, unstalled, other, again}
 use Rattle.model.proofs.Promises.SearchLaws.{Searched, found, nobody, search_others, search_neither, first_only, first_not_all}
 
 abbrev pub target_in : Seen → ℕ → ℕ
@@ -23,7 +22,7 @@ module _ (s : Seen) where
       (search_neither s.before.sync.stalled_peers (peers s) failed) (search_others s.before.sync.stalled_peers (peers s) failed)
     where
       go :
-          (free first : Option ℕ) → Searched (λ (p : ℕ). (p ≡ failed) ⊎ IsStalled s p) (peers s) free
+          (free first : Option ℕ) → Searched (FailedOrStalled s.before.sync.stalled_peers failed) (peers s) free
           → Searched (λ (p : ℕ). p ≡ failed) (peers s) first → Turns s failed (peer_or failed (or_else free first))
       go free first (found p f) o = unstalled f
       go free first (nobody w) (found p f) = other w f
@@ -34,7 +33,7 @@ module _ (s : Seen) where
     IsFailed p = p ≡ failed
 
     abbrev Passed : ℕ → Type 0
-    Passed p = (p ≡ failed) ⊎ IsStalled s p
+    Passed = FailedOrStalled s.before.sync.stalled_peers failed
 
     all_passed : All IsFailed (peers s) → All Passed (peers s)
     all_passed v = all_weaker IsFailed Passed (λ p e. inl e) (peers s) v

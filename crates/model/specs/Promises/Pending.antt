@@ -7,13 +7,16 @@ use Rattle.model.specs.State.{syncing}
 use Rattle.model.specs.Book.{Requested, requested_in}
 use Rattle.model.specs.Promises.Numbers
 use Rattle.model.specs.Promises.Words.{Seen, ids, peers, Among, FirstLeft}
-use Rattle.model.specs.Promises.Marks.{IsStalled}
+
+-- Stalled peers, the peer that failed, and one that is passed over if another is listed.
+abbrev pub FailedOrStalled : List ℕ → ℕ → ℕ → Type 0
+FailedOrStalled stalled_peers failed p = (p ≡ failed) ⊎ Among p stalled_peers
 
 -- Where a retry goes, by the stalled set before the step. F-8: "Take the first listed peer neither failed nor stalled; else the
 -- first listed peer other than the failed one; else the failed one."
 pub data Turns (s : Seen) (failed peer : ℕ) : Type 0 where
-  unstalled : FirstLeft (λ (p : ℕ). (p ≡ failed) ⊎ IsStalled s p) (peers s) peer → Turns s failed peer
-  other : All (λ (p : ℕ). (p ≡ failed) ⊎ IsStalled s p) (peers s) → FirstLeft (λ (p : ℕ). p ≡ failed) (peers s) peer → Turns s failed peer
+  unstalled : FirstLeft (FailedOrStalled s.before.sync.stalled_peers failed) (peers s) peer → Turns s failed peer
+  other : All (FailedOrStalled s.before.sync.stalled_peers failed) (peers s) → FirstLeft (λ (p : ℕ). p ≡ failed) (peers s) peer → Turns s failed peer
   again : All (λ (p : ℕ). p ≡ failed) (peers s) → peer ≡ failed → Turns s failed peer
 
 -- ---- what a check makes of a request
