@@ -11,3 +11,5 @@ pub mod MergeLaws
 pub mod TurnLaws
 pub mod ManyLaws
 pub mod SortedLaws
+pub mod HeldLaws
+pub mod RowLaws

@@ -1,3 +1,4 @@
 pub mod Marking
 pub mod Choices
 pub mod Turns
+pub mod Rows

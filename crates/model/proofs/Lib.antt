@@ -31,9 +31,13 @@ pub mod MapRunLaws
 pub mod MapWrittenLaws
 pub mod MeanAgeLaws
 pub mod ModeLaws
+pub mod OnceLaws
 pub mod PeerLaws
 pub mod PendingLaws
 pub mod PlanLaws
+pub mod PooledLaws
+pub mod ServedLaws
+pub mod ProvisoLaws
 pub mod QuestionLaws
 pub mod RecordLaws
 pub mod RequestedLaws

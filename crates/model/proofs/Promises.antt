@@ -28,6 +28,7 @@ pub mod OrphansAsked
 pub mod VerdictLaws
 pub mod TurnsLaws
 pub mod CheckAsked
+pub mod PooledAsked
 pub mod BatchesKept
 -- what is pending, and what is told
 pub mod AskingLaws

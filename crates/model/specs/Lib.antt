@@ -16,6 +16,7 @@ pub mod Image
 pub mod Lists
 pub mod MeanAge
 pub mod Peers
+pub mod Pooled
 pub mod Protocol
 pub mod Requests
 pub mod Runs

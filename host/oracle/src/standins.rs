@@ -98,7 +98,9 @@ impl SyncTransport for Transport {
     #[track_caller]
     fn next_event(&mut self) -> impl Future<Output = Option<ProtocolEvent>> + Send {
         let waits = scene::function(Location::caller()) == "pick_sync_peer";
-        stopping(waits.then_some(Stop::Wait), |scene| scene.event.take())
+        stopping(waits.then_some(Stop::Wait), |scene| {
+            scene.events.pop_front()
+        })
     }
 }
 

@@ -18,6 +18,7 @@ mod ids;
 mod map;
 mod mean_age;
 mod measure;
+mod pooled;
 mod repeat;
 mod table;
 mod times;
@@ -64,6 +65,7 @@ fn show_all(areas: &mut Areas) -> Vec<String> {
     over.extend(map::show(areas));
     over.extend(forecast::show(areas));
     over.extend(mean_age::show(areas));
+    over.extend(pooled::show(areas));
     over.extend(growth::show(areas));
     over.extend(hostile::show(areas));
     over

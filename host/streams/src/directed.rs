@@ -9,6 +9,7 @@ mod heights;
 mod limits;
 mod messages;
 mod peers;
+mod pooled;
 mod runs;
 mod shapes;
 mod types;
@@ -29,5 +30,6 @@ pub fn scripts() -> Vec<Script> {
     scripts.extend(limits::scripts());
     scripts.extend(shapes::scripts());
     scripts.extend(types::scripts());
+    scripts.extend(pooled::scripts());
     scripts
 }

@@ -17,6 +17,7 @@ use Rattle.model.proofs.Promises.SectionsAsked.{sections_asked}
 use Rattle.model.proofs.Promises.OrphansAsked.{orphans_asked}
 use Rattle.model.proofs.Promises.CheckAsked.{check_asked}
 use Rattle.model.proofs.Promises.BatchesKept.{batches_kept}
+use Rattle.model.proofs.Promises.PooledAsked.{pooled_asked}
 use Rattle.model.proofs.Promises.PendingKept.{pending_kept, evicted_kept}
 use Rattle.model.proofs.Promises.ToldKept.{told_kept}
 use Rattle.model.proofs.Promises.RefusalsKept.{refusals_kept}
@@ -33,6 +34,7 @@ asks_kept st call f =
       sections = sections_asked st call f;
       orphans = orphans_asked st call f;
       checks = check_asked st call f;
+      pooled = λ open' k known. pooled_asked st call f k open' known;
     }
 
 kept : (st : State) (call : Call) → Finished st call → Promises (seen_as st call)

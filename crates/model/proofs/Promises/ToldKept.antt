@@ -106,6 +106,8 @@ none_refused st call p =
       le-leb st.last_clock call.clock p.clock,
       p.fits,
       p.lists,
+      p.pool,
+      p.pool_few,
       p.peers,
       p.view,
       p.in_view,
