@@ -22,6 +22,7 @@ use Rattle.model.specs.Commands as commands
 use Rattle.model.specs.Calls as calls
 use Rattle.model.specs.Cases as starred
 use Rattle.model.specs.CaseTables.{Hold, all_as_expected}
+use Rattle.model.specs.EdgeCases.{EdgesHold}
 use Rattle.model.specs.EdgeCases.{found, refusals, calls_read, picks_and_sends, announced_ids, pooled_lists, windows, view_readers, advances}
 use Rattle.model.specs.EdgeCases.{delivery_checks, retry_targets, messages, mode_steps, forecasts, means}
 use Rattle.model.proofs.CaseTables.{each}
@@ -143,3 +144,22 @@ mean_test = refl
 
 pub mean_cases : Hold found means
 mean_cases = each found means mean_test
+
+pub edges_hold : EdgesHold
+edges_hold =
+    record {
+      refusal_cases = refusal_cases;
+      call_read_cases = call_read_cases;
+      pick_and_send_cases = pick_and_send_cases;
+      announced_id_cases = announced_id_cases;
+      pooled_list_cases = pooled_list_cases;
+      window_cases = window_cases;
+      view_reader_cases = view_reader_cases;
+      advance_cases = advance_cases;
+      delivery_check_cases = delivery_check_cases;
+      retry_target_cases = retry_target_cases;
+      message_cases = message_cases;
+      mode_step_cases = mode_step_cases;
+      forecast_cases = forecast_cases;
+      mean_cases = mean_cases;
+    }

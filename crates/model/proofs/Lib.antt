@@ -2,11 +2,13 @@ pub mod AgreementLaws
 pub mod ArgumentLaws
 pub mod BalanceLaws
 pub mod BatchLaws
+pub mod BookCases
 pub mod BoundLaws
 pub mod Cases
 pub mod CaseTables
 pub mod CommandLaws
 pub mod Demand3
+pub mod Demand3Edges
 pub mod EdgeCases
 pub mod EnteringLaws
 pub mod EntryLaws
@@ -42,8 +44,10 @@ pub mod QuestionLaws
 pub mod RecordLaws
 pub mod RequestedLaws
 pub mod RoundLaws
+pub mod RowLaws
 pub mod SectionLaws
 pub mod SendingLaws
+pub mod SharedLaws
 pub mod StayLaws
 pub mod StepKindLaws
 pub mod StepLaws

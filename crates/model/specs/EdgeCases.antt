@@ -21,7 +21,7 @@ use Rattle.model.specs.Forecast.{figures}
 use Rattle.model.specs.MeanAge.{mean_of}
 use Rattle.model.specs.Cases.{case_settings, syncing_state, args_at, numbered}
 use Rattle.model.specs.Cases as starred
-use Rattle.model.specs.CaseTables.{Entry, ◌gives◌, lends, plain, flagged, pooling, forecast_numbers, mean_numbers}
+use Rattle.model.specs.CaseTables.{Entry, ◌gives◌, Hold, lends, plain, flagged, pooling, forecast_numbers, mean_numbers}
 
 -- Timeout 10,000, limit 2 where none is named, interval 200, stall timeout 60,000; last clock, last progress and last send 0; the
 -- sync peer, if there is one, is 7.
@@ -941,3 +941,20 @@ means =
     ∷ (mean latest (2 ^ 63 ∷ 0 ∷ 2 ^ 63 ∷ []) gives (0 ∷ 3 ∷ 12297829382473034409 ∷ 2 ∷ []) ∷ [])
     ∷ (mean latest (1 ∷ replicate 1023 0) gives (0 ∷ 1024 ∷ (latest - 1) ∷ 1023 ∷ []) ∷ [])
     ∷ (mean latest (replicate 1024 0) gives (0 ∷ 1024 ∷ latest ∷ 0 ∷ []) ∷ []) ∷ []
+
+-- Each case of each table gives what it should.
+pub record EdgesHold : Type 0 where
+  pub refusal_cases : Hold found refusals
+  pub call_read_cases : Hold found calls_read
+  pub pick_and_send_cases : Hold found picks_and_sends
+  pub announced_id_cases : Hold found announced_ids
+  pub pooled_list_cases : Hold found pooled_lists
+  pub window_cases : Hold found windows
+  pub view_reader_cases : Hold found view_readers
+  pub advance_cases : Hold found advances
+  pub delivery_check_cases : Hold found delivery_checks
+  pub retry_target_cases : Hold found retry_targets
+  pub message_cases : Hold found messages
+  pub mode_step_cases : Hold found mode_steps
+  pub forecast_cases : Hold found forecasts
+  pub mean_cases : Hold found means

@@ -1,6 +1,7 @@
 pub mod Layout
 pub mod LayoutCases
 pub mod Book
+pub mod BookCases
 pub mod Calls
 pub mod Cases
 pub mod CaseTables
@@ -8,6 +9,7 @@ pub mod Check
 pub mod Commands
 pub mod Delivery
 pub mod Demand3
+pub mod Demand3Edges
 pub mod EdgeCases
 pub mod Events
 pub mod Forecast
@@ -22,6 +24,7 @@ pub mod Requests
 pub mod Runs
 pub mod Sections
 pub mod Settings
+pub mod Shared
 pub mod State
 pub mod Steps
 pub mod Versions

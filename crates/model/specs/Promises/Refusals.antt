@@ -3,9 +3,10 @@ use Rattle.std.specs.Prelude.{ℕ, suc, ◌+◌, ◌*◌, ◌≤◌, ◌<◌, �
 use Rattle.std.proofs.Math.Option.{none}
 use Rattle.fields.specs.Order.{before}
 use Rattle.fields.specs.Entries.{entry}
-use Rattle.model.specs.Image.{field, well_formed}
+use Rattle.model.specs.Image.{field, decode, well_formed}
 use Rattle.model.specs.Steps.{after}
 use Rattle.model.specs.Calls.{Call, args_of, step}
+use Rattle.model.specs.MeanAge.{mean_age}
 use Rattle.model.specs.Promises.Numbers
 use Rattle.model.specs.Lists.{PoolEntry, pool_in}
 use Rattle.model.specs.Promises.Words
@@ -164,3 +165,23 @@ pub record Answered (state area : List ℕ) (call : Call) : Type 0 where
 -- Of any call on any areas.
 abbrev pub Refusals : Type 0
 Refusals = (state area : List ℕ) (call : Call) → Answered state area call
+
+-- ---- the mean age (F-7)
+
+-- 1 and 2 of the state area, and 4: "A clock before the image's last clock is number 4 here too."
+abbrev pub mean_age_wrongs : List ℕ → ℕ → List Says
+mean_age_wrongs state clock =
+    says 1 (length state ≡ 65536 → ⊥) ∷ says 2 (well_formed state ≡ false)
+    ∷ says 4 (clock < (decode state).last_clock) ∷ []
+
+pub record MeanAgeAnswered (state : List ℕ) (clock : ℕ) : Type 0 where
+  pub first : FirstWrong (mean_age state clock).number (mean_age_wrongs state clock)
+  -- all else 0
+  pub no_more :
+      ((mean_age state clock).number ≡ 0 → ⊥)
+      → mean_age state clock
+      ≡ record { number = (mean_age state clock).number; count = 0; quotient = 0; remainder = 0 }
+
+-- Of any state area and any clock.
+abbrev pub MeanAgeRefusals : Type 0
+MeanAgeRefusals = (state : List ℕ) (clock : ℕ) → MeanAgeAnswered state clock
