@@ -92,7 +92,7 @@ module _ (m : ℕ) (bytes : List ℕ) (whole : length bytes % id_size ≡ 0) whe
 
 -- ---- ids as arrays
 
-pub chunks_are_entries : (width n : ℕ) (bytes : List ℕ) → first_chunks width n bytes ≡ entries width n bytes
+chunks_are_entries : (width n : ℕ) (bytes : List ℕ) → first_chunks width n bytes ≡ entries width n bytes
 chunks_are_entries width zero bytes = refl
 chunks_are_entries width (suc n) bytes = ap (λ (es : List (List ℕ)). take width bytes ∷ es) (chunks_are_entries width n (drop width bytes))
 

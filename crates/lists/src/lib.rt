@@ -1,5 +1,4 @@
-// What a call is lent, known to fit: ids, the entries of pooled lists, stored pairs and a view, each with what is asked of it as
-// ghost fields.
+// What a call is lent, known to fit: ids, stored pairs and a view, each with what document 01 asks of it as ghost fields.
 //
 // Whoever holds one need not ask again. A list is tested in `refusals`, and made one of these where the tests have passed. No
 // code.
@@ -7,5 +6,4 @@
 
 pub mod ids;
 pub mod pairs;
-pub mod pool;
 pub mod view;

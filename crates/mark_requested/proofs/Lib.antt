@@ -11,5 +11,3 @@ pub mod MergeLaws
 pub mod TurnLaws
 pub mod ManyLaws
 pub mod SortedLaws
-pub mod HeldLaws
-pub mod RowLaws

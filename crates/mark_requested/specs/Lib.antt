@@ -1,4 +1,3 @@
 pub mod Marking
 pub mod Choices
 pub mod Turns
-pub mod Rows

@@ -2,7 +2,7 @@
 //
 // Equal to `mark_requested` of model/specs/Delivery.antt, one id after another. Only the table is written; where it would
 // hold too many, it stays. A few ids cost a search and a move of the records behind them each. Many are sorted and merged
-// with the table in one pass. `mark_with_rows` also tells where the request of each id stands then.
+// with the table in one pass.
 //
 // The table is written, so count and facts stand beside it: a ghost field would have to hold at each write.
 #![tactic(auto)]
@@ -10,16 +10,16 @@
 mod choosing;
 pub mod entering;
 pub mod merging;
-mod rows;
 
-ghost use Rattle.std.specs.Prelude.{◌≡◌, true, ◌+◌, ◌*◌, ◌/◌, ◌%◌, ◌≤◌, length, slice_index, EachIndex, IfOk};
+ghost use Rattle.std.specs.Prelude.{◌≡◌, true, ◌+◌, ◌*◌, ◌/◌, ◌%◌, ◌≤◌, length, slice_index, EachIndex};
+ghost use Rattle.fields.specs.Order.{before};
+ghost use Rattle.fields.specs.Sort.{sorted};
 ghost use Rattle.fields.specs.Entries.{entries, rising};
-ghost use Rattle.model.specs.Delivery.{ids_of, mark_requested};
+ghost use Rattle.model.specs.Delivery.{mark_requested};
 ghost use Rattle.model.specs.Lists.{ids_in};
-ghost use Rattle.commands.specs.Pending.{requests_in, holding};
+ghost use Rattle.commands.specs.Pending.{requests_in};
 ghost use Rattle.mark_requested.specs.Marking.{marked_as, held_within};
-ghost use Rattle.mark_requested.specs.Choices.{Listed};
-ghost use Rattle.mark_requested.specs.Rows.{AtRows, places_by_id};
+ghost use Rattle.mark_requested.specs.Choices.{Listed, ids_at};
 ghost use Rattle.model.specs.Layout.{id_list_size, id_size, record_size};
 ghost use Rattle.model.specs.Protocol.{tracked_limit};
 
@@ -41,7 +41,8 @@ pub struct Placed<'a> {
 // The places of all ids, in the order of the ids.
 fn sort_ids(ids: &[u8], places: &mut [u16], spare: &mut [u16])
     requires { (length places.old ≡ length ids.now / id_size) × ((length spare.old ≡ length places.old) × (length ids.now ≤ id_list_size)) }
-    ensures { places.new ≡ places_by_id ids.now }
+    ensures places_after { ids_at ids.now places.new ≡ sorted before (ids_in ids.now) }
+    ensures listed { EachIndex places.new (λ j. Listed ids.now (slice_index places.new j)) }
 {
     order::places::number(places);
     let whole = SortKey {
@@ -54,7 +55,6 @@ fn sort_ids(ids: &[u8], places: &mut [u16], spare: &mut [u16])
 }
 
 // The same as `mark_requested` for many ids at once, with room to work in: `places`, `spare` and `room`.
-// In `places` the ids are in order then.
 fn mark_many(
     table: &mut [u8],
     count: usize,
@@ -70,7 +70,6 @@ fn mark_many(
     requires table_value { rising id_size (entries record_size count table.old) ≡ true }
     ensures value { result ≡ marked_as most (mark_requested asking.clock asking.typeid asking.peer (ids_in ids.now) (requests_in count table.old)) }
     ensures table_after { table.new ≡ held_within most count (mark_requested asking.clock asking.typeid asking.peer (ids_in ids.now) (requests_in count table.old)) table.old }
-    ensures places_after { places.new ≡ places_by_id ids.now }
 {
     sort_ids(ids, places, spare);
     let pending = Pending { table, count };
@@ -118,96 +117,5 @@ pub fn mark_requested(
         &mut places[..number],
         &mut spare[..number],
         &mut room,
-    )
-}
-
-// Marks a few ids, all of which have room, and puts in `rows` where the request of each stands then.
-fn few_with_rows(
-    table: &mut [u8],
-    count: usize,
-    asking: Asking,
-    ids: &[u8],
-    rows: &mut [u16],
-) -> usize
-    requires room { (count + length ids.now / id_size) * record_size ≤ length table.old }
-    requires few { count + length ids.now / id_size ≤ tracked_limit }
-    requires rows_len { length rows.old ≡ length ids.now / id_size }
-    requires table_value { rising id_size (entries record_size count table.old) ≡ true }
-    ensures value { result ≡ length (mark_requested asking.clock asking.typeid asking.peer (ids_in ids.now) (requests_in count table.old)) }
-    ensures table_after { table.new ≡ holding count (mark_requested asking.clock asking.typeid asking.peer (ids_in ids.now) (requests_in count table.old)) table.old }
-    ensures rows_after { AtRows (ids_of (requests_in result table.new)) rows.new (ids_in ids.now) }
-{
-    let held = crate::entering::mark_each(table, count, asking, ids);
-    let pending = Pending { table, count: held };
-    crate::rows::search_rows(pending, ids, rows);
-    held
-}
-
-// The same for many ids at once, with room to work in.
-fn many_with_rows(
-    table: &mut [u8],
-    count: usize,
-    most: usize,
-    asking: Asking,
-    ids: &[u8],
-    places: &mut [u16],
-    spare: &mut [u16],
-    room: &mut [u8],
-    rows: &mut [u16],
-) -> Result<usize, TrackerError>
-    requires id_size_len { (length ids.now % id_size ≡ 0) × ((length ids.now ≤ id_list_size) × ((count ≤ most) × ((most ≤ tracked_limit) × (most * record_size ≤ length table.old)))) }
-    requires places_len { (length places.old ≡ length ids.now / id_size) × ((length spare.old ≡ length places.old) × (most * record_size + record_size ≤ length room.old)) }
-    requires rows_len { length rows.old ≡ length ids.now / id_size }
-    requires table_value { rising id_size (entries record_size count table.old) ≡ true }
-    ensures value { result ≡ marked_as most (mark_requested asking.clock asking.typeid asking.peer (ids_in ids.now) (requests_in count table.old)) }
-    ensures table_after { table.new ≡ held_within most count (mark_requested asking.clock asking.typeid asking.peer (ids_in ids.now) (requests_in count table.old)) table.old }
-    ensures rows_after { IfOk result (λ held. AtRows (ids_of (requests_in held table.new)) rows.new (ids_in ids.now)) }
-{
-    let held = mark_many(table, count, most, asking, ids, places, spare, room)?;
-    let pending = Pending { table, count: held };
-    crate::rows::walk_rows(pending, Placed { ids, places }, rows);
-    Ok(held)
-}
-
-// The same, and in `rows` where the request of each id stands then.
-pub fn mark_with_rows(
-    table: &mut [u8],
-    count: usize,
-    most: usize,
-    clock: u64,
-    typeid: u16,
-    peer: u64,
-    ids: &[u8],
-    rows: &mut [u16],
-) -> Result<usize, TrackerError>
-    requires id_size_len { (length ids.now % id_size ≡ 0) × ((length ids.now ≤ id_list_size) × ((count ≤ most) × ((most ≤ tracked_limit) × (most * record_size ≤ length table.old)))) }
-    requires rows_len { length rows.old ≡ length ids.now / id_size }
-    requires table_value { rising id_size (entries record_size count table.old) ≡ true }
-    ensures value { result ≡ marked_as most (mark_requested clock typeid peer (ids_in ids.now) (requests_in count table.old)) }
-    ensures table_after { table.new ≡ held_within most count (mark_requested clock typeid peer (ids_in ids.now) (requests_in count table.old)) table.old }
-    ensures rows_after { IfOk result (λ held. AtRows (ids_of (requests_in held table.new)) rows.new (ids_in ids.now)) }
-{
-    let asking = Asking {
-        clock,
-        typeid,
-        peer,
-    };
-    let wanted = rows.len();
-    if (wanted <= 8) & (count + wanted <= most) {
-        return Ok(few_with_rows(table, count, asking, ids, rows));
-    }
-    let mut places = [0u16; TRACKED_LIMIT];
-    let mut spare = [0u16; TRACKED_LIMIT];
-    let mut room = [0u8; 55350];
-    many_with_rows(
-        table,
-        count,
-        most,
-        asking,
-        ids,
-        &mut places[..wanted],
-        &mut spare[..wanted],
-        &mut room,
-        rows,
     )
 }

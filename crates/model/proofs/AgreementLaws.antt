@@ -48,12 +48,12 @@ pub record Agreement (st : State) (b : Book) : Type 0 where
   pub fair_ended : All (λ (e : Ended). Fair st.settings e.stay) b.ended
   pub entries : b.entries ≡ length b.open' + length b.ended
 
-known_kind : (st : State) (call : Call) → call_fits st call ≡ true → (1 ≤ call.kind) × (call.kind ≤ 17)
+known_kind : (st : State) (call : Call) → call_fits st call ≡ true → (1 ≤ call.kind) × (call.kind ≤ 16)
 unfolding call_fits
 known_kind st call e =
     let flags : Bool = is_flag call.gate && (is_flag call.parsed && is_flag call.hastip) in
-    let known = and_left (leb 1 call.kind && leb call.kind 17) (flags && of_mode st.mode st.sync.entry_sent (step_of call)) e in
-    (leb-true 1 call.kind (and_left (leb 1 call.kind) (leb call.kind 17) known), leb-true call.kind 17 (and_right (leb 1 call.kind) (leb call.kind 17) known))
+    let known = and_left (leb 1 call.kind && leb call.kind 16) (flags && of_mode st.mode st.sync.entry_sent (step_of call)) e in
+    (leb-true 1 call.kind (and_left (leb 1 call.kind) (leb call.kind 16) known), leb-true call.kind 16 (and_right (leb 1 call.kind) (leb call.kind 16) known))
 
 -- ---- the first half
 
@@ -138,7 +138,7 @@ module _ (settings : Settings) (clock : ℕ) (check : Bool) (fate : Request → 
 -- ---- one finished step
 
 module _ (st : State) (call : Call) (b : Book) (h : Agreement st b) (passes : Passed st call) (acts_well : All WellAct (plan st (args_of call)).acts) where
-  known : (1 ≤ call.kind) × (call.kind ≤ 17)
+  known : (1 ≤ call.kind) × (call.kind ≤ 16)
   known = known_kind st call passes.fits
 
   abbrev a : Args

@@ -17,19 +17,14 @@ use Rattle.fields.proofs.EntriesLaws.{length_entries, entries_at, length_entry}
 use Rattle.fields.proofs.AllLaws.{all_map, all_at, all_weaker, all_both, either, entries_all}
 use Rattle.fields.proofs.OrderLaws.{and_left, and_right}
 use Rattle.fields.proofs.PartLaws.{part_below}
-use Rattle.fields.proofs.TotalLaws.{total}
-use Rattle.model.specs.Requests.{Pair, Act, ask_pooled}
 use Rattle.model.specs.Sections.{absent, present}
 use Rattle.model.specs.Lists.{list_fits, ids_in, peers_in, pair_of, pairs_in, entries_of, ids_fit, continuation_fits, pairs_fit, view_fits, section_of, header_of, used_places, row_fits, rows_fit, first_height, row_count, view_of}
-use Rattle.model.specs.Lists.{pool_in, lists_in}
 use Rattle.model.specs.Calls.{Call, step_of, args_of, lists_fit}
 use Rattle.model.specs.Demand3.{InWidth}
-use Rattle.model.proofs.Well.{WellId, WellType}
+use Rattle.model.proofs.Well.{WellId}
 use Rattle.model.proofs.ListLaws.{ids_wide, length_ids, ids_bytes}
-use Rattle.model.proofs.Widths.{IfSome, WellPeer, WellHeight, WellPair, WellSection, WellHeader, WellView, WellAct, WellStep, WellArgs, ids_pooled}
-use Rattle.model.proofs.PooledLaws.{pool_well, lists_well, lists_few, asks_well, asks_weight}
-use Rattle.model.proofs.SendingLaws.{act_weight}
-use Rattle.model.specs.Layout.{command_size, id_size, pair_size, peer_size, place_size, row_size, type_size}
+use Rattle.model.proofs.Widths.{IfSome, WellPeer, WellHeight, WellPair, WellSection, WellHeader, WellView, WellStep, WellArgs}
+use Rattle.model.specs.Layout.{id_size, pair_size, peer_size, place_size, row_size, type_size}
 use Rattle.model.specs.Protocol.{tracked_limit}
 
 -- ---- lists
@@ -38,23 +33,6 @@ pub ids_well : (bytes : List ℕ) → Bytes bytes → All WellId (ids_in bytes)
 ids_well bytes b =
     all_weaker (λ (e : List ℕ). (length e ≡ id_size) × Bytes e) WellId (λ e p. record { long = p.0; bytes = p.1 }) (ids_in bytes)
     (all_both (λ (e : List ℕ). length e ≡ id_size) Bytes (ids_in bytes) (ids_wide bytes) (ids_bytes bytes b))
-
--- what is asked for pooled lists, by the bytes that are lent
-module _ (type_id : ℕ) (pairs : List Pair) (pool ids : List ℕ) where
-  abbrev pub pooled_asks : List Act
-  pooled_asks = ask_pooled type_id pairs (lists_in (pool_in pool) (ids_in ids))
-
-  pub pooled_asks_weight : total act_weight pooled_asks ≤ command_size * (length ids / id_size)
-  unfolding ask_pooled
-  pooled_asks_weight =
-      let few = lists_few (pool_in pool) (ids_in ids) in
-      omega (arith, asks_weight type_id pairs (lists_in (pool_in pool) (ids_in ids)), few, length_ids ids)
-
-  pub pooled_asks_well : WellType type_id → Bytes pool → Bytes ids → All WellAct pooled_asks
-  unfolding ask_pooled
-  pooled_asks_well t fp fi =
-      asks_well type_id pairs (lists_in (pool_in pool) (ids_in ids))
-      (lists_well type_id t (pool_in pool) (ids_in ids) (pool_well pool fp) (ids_well ids fi))
 
 pub ids_few : (most : ℕ) (bytes : List ℕ) → list_fits id_size most bytes ≡ true → length (ids_in bytes) ≤ most
 unfolding list_fits
@@ -172,8 +150,6 @@ module _ (call : Call) (width : InWidth call) (fits : lists_fit call ≡ true) w
   unfolding step_of ids_fit continuation_fits
   step_of_well =
       let few = ids_few tracked_limit call.ids ids_fit_lem in
-      let pooled : ids_pooled (lists_in (pool_in call.pool) (ids_in call.ids)) ≤ tracked_limit =
-      omega (arith, lists_few (pool_in call.pool) (ids_in call.ids)) in
       let all = ids_well call.ids width.ids in
       either WellStep (eqb call.kind 1) _ _ tt
       (either WellStep (eqb call.kind 2) _ _ tt
@@ -190,9 +166,7 @@ module _ (call : Call) (width : InWidth call) (fits : lists_fit call ≡ true) w
       (either WellStep (eqb call.kind 12) _ _ tt
       (either WellStep (eqb call.kind 13) _ _ tt
       (either WellStep (eqb call.kind 14) _ _ tt
-      (either WellStep (eqb call.kind 15) _ _ tt
-      (either WellStep (eqb call.kind 16) _ _ tt
-      (lists_well call.typeid width.typeid (pool_in call.pool) (ids_in call.ids) (pool_well call.pool width.pool) all, pooled))))))))))))))))
+      (either WellStep (eqb call.kind 15) _ _ tt tt))))))))))))))
 
   pub arguments_well : view_fits call.view ≡ true → WellArgs (args_of call)
   unfolding args_of

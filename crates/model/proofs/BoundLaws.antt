@@ -1,4 +1,4 @@
--- The command area is large enough: every finished step writes at most 50,176 bytes of its 65,536.
+-- The command area is large enough: every finished step writes at most 49,152 bytes, three quarters of 65,536.
 use Prim.Native.Nat.{ℕ, ◌+◌, ◌-◌, ◌*◌, ◌≤◌, min}
 use mathlib.Core.Path.{◌≡◌, refl}
 use mathlib.Core.Bool.{Bool, true, false, not, cond, ◌&&◌}
@@ -18,7 +18,7 @@ use Rattle.model.specs.Delivery as delivery
 use Rattle.model.specs.Delivery.{Request, orphans_of, judged, verdict, verdict_number}
 use Rattle.model.specs.State.{is_mode, syncing, seeking, SendClock, Sync, State}
 use Rattle.model.specs.Peers.{first_of, select_peer}
-use Rattle.model.specs.Requests.{PeerIds, ask_pooled, Pair, Sending, Act, ask, send, sync_info_to}
+use Rattle.model.specs.Requests.{Pair, Sending, Act, ask, send, sync_info_to}
 use Rattle.model.specs.Requests as requests
 use Rattle.model.specs.Sections.{View, Item, Batch, batches_of, window_within, request_sections_from, request_next_sections}
 use Rattle.model.specs.Check.{retry_target, retry_of, retries, mark_all_retried, retry_sendings, ask_fresh}
@@ -26,14 +26,13 @@ use Rattle.model.specs.Events.{Outcome, Continue, Synced, BehindPeer, SyncPeerGo
 use Rattle.model.specs.Events.{continuation}
 use Rattle.model.specs.Steps
 use Rattle.model.specs.Steps.{Step, Args, is_check, say_to, advance_from, sections_from, continues, leaves, advances, advances_and_requests, enters_syncing}
-use Rattle.model.specs.Steps.{picks, is_at_tip, answers, hears_sync_info, tells_tip, hears_announced, hears_pooled, ask_orphans, loses, ticks_syncing, ticks_synced, progresses, checks}
+use Rattle.model.specs.Steps.{picks, is_at_tip, answers, hears_sync_info, tells_tip, hears_announced, ask_orphans, loses, ticks_syncing, ticks_synced, progresses, checks}
 use Rattle.model.specs.Steps.{evicts, plan_of, plan, remaining, retried, performed, after, commands}
 use Rattle.model.specs.Commands.{commands_in}
 use Rattle.model.specs.Calls.{Call, args_of, step_bytes, call_refusal}
 use Rattle.model.specs.Demand3.{InWidth}
 use Rattle.model.proofs.Well.{Well}
-use Rattle.model.proofs.Widths.{WellSending, WellCommand, WellView, WellStep, WellArgs, ids_pooled}
-use Rattle.model.proofs.PooledLaws.{asks_weight}
+use Rattle.model.proofs.Widths.{WellSending, WellCommand, WellView, WellStep, WellArgs}
 use Rattle.model.proofs.FinishedLaws.{Passed, passed}
 use Rattle.model.proofs.SectionLaws.{window_few}
 use Rattle.model.proofs.PlanLaws.{WellPlan, plan_well}
@@ -149,14 +148,6 @@ module _ (st : State) (a : Args) (tracked : length st.pending + length st.sync.e
   hears_announced_weight peer type_id (id ∷ ids) l =
       either (λ (acts : List Act). total act_weight acts ≤ most_bytes) (is_announceable type_id) (ask type_id peer a.stored (id ∷ ids) ∷ []) [] (omega arith) (omega arith)
 
-  hears_pooled_weight : (type_id : ℕ) (lists : List PeerIds) → ids_pooled lists ≤ tracked_limit
-      → total act_weight (hears_pooled st a type_id lists).acts ≤ most_bytes
-  unfolding hears_pooled ask_pooled continues
-  hears_pooled_weight type_id lists few =
-      let asks = asks_weight type_id a.stored lists in
-      either (λ (acts : List Act). total act_weight acts ≤ most_bytes) (is_announceable type_id) (ask_pooled type_id a.stored lists) []
-      (omega arith) (omega arith)
-
   orphans_weight : (lost : ℕ) (peer : Option ℕ) → total act_weight (ask_orphans st a lost peer) ≤ most_bytes
   unfolding ask_orphans orphans_of
   orphans_weight lost none = omega arith
@@ -245,7 +236,6 @@ module _ (st : State) (a : Args) (tracked : length st.pending + length st.sync.e
   plan_of_weight (Steps.lost_peer peer) w = let l = loses_weight peer in omega arith
   plan_of_weight (Steps.received ids) w = omega arith
   plan_of_weight (Steps.evicted ids) w = omega arith
-  plan_of_weight (Steps.pooled type_id lists) w = let l = hears_pooled_weight type_id lists w.1 in omega arith
 
   pub plan_weight : command_size * length (retried st a) + total act_weight (plan st a).acts ≤ most_bytes
   unfolding plan retried

@@ -16,7 +16,7 @@ use Rattle.model.specs.Sections as sections
 use Rattle.model.specs.Check as check
 use Rattle.model.specs.Events as events
 use Rattle.model.specs.Steps as steps
-use Rattle.model.specs.Cases.{StarredHold, Starred, found, starred, same_lists, all_as_expected}
+use Rattle.model.specs.Cases.{Starred, found, starred, same_lists, all_as_expected}
 
 test : all_as_expected starred ≡ true
 unfolding same found protocol.is_transaction protocol.is_among protocol.is_announceable settings.patience settings.expired settings.given_up
@@ -42,5 +42,5 @@ each (s ∷ others) t = (
   each others (and_right (same_lists (found s.case) s.expected) (all_as_expected others) t),
 )
 
-pub starred_cases : StarredHold
+pub starred_cases : All (λ (s : Starred). found s.case ≡ s.expected) starred
 starred_cases = each starred test

@@ -65,7 +65,7 @@ called_finished : (core : Core) (l : Lent) → eqb (step_refusal core.area l.com
 unfolding called step noted finished_as step_answer
 called_finished core l e = rw e
 
-pub pending_read : (area : List ℕ) (st : State) → decode area ≡ st → pending_of area ≡ st.pending
+pending_read : (area : List ℕ) (st : State) → decode area ≡ st → pending_of area ≡ st.pending
 unfolding decode
 pending_read area st e = ap (λ (s : State). s.pending) e
 

@@ -14,7 +14,6 @@ use Rattle.model.specs.Sections as sections
 use Rattle.model.specs.Check as check
 use Rattle.model.specs.FormerTarget as former
 use Rattle.model.specs.Events as events
-use Rattle.model.specs.Requests.{ask_pooled}
 use Rattle.model.specs.Steps as steps
 use Rattle.model.specs.Lists as lists
 use Rattle.model.specs.MeanAge as means_of
@@ -22,8 +21,7 @@ use Rattle.model.specs.Commands as commands
 use Rattle.model.specs.Calls as calls
 use Rattle.model.specs.Cases as starred
 use Rattle.model.specs.CaseTables.{Hold, all_as_expected}
-use Rattle.model.specs.EdgeCases.{EdgesHold}
-use Rattle.model.specs.EdgeCases.{found, refusals, calls_read, picks_and_sends, announced_ids, pooled_lists, windows, view_readers, advances}
+use Rattle.model.specs.EdgeCases.{found, refusals, calls_read, picks_and_sends, announced_ids, windows, view_readers, advances}
 use Rattle.model.specs.EdgeCases.{delivery_checks, retry_targets, messages, mode_steps, forecasts, means}
 use Rattle.model.proofs.CaseTables.{each}
 
@@ -33,17 +31,16 @@ unfolding found starred.found before same entry rising protocol.is_transaction p
     settings.expired settings.given_up settings.throttled settings.stalled delivery.is_pending delivery.mark_received delivery.pending_after_eviction
     delivery.evicted_after_eviction delivery.purge_peer delivery.orphans_of delivery.purge_all delivery.verdict delivery.restarted delivery.judged
     state.opened peers.first_unstalled peers.select_peer peers.stalled_after_select peers.join_stalled peers.send_sync_info peers.reset_sends requests.is_stored
-    requests.runs requests.sync_info_to requests.wanted requests.once sections.advance_downloaded_height sections.item_below sections.batches_of
+    requests.runs requests.sync_info_to requests.wanted sections.advance_downloaded_height sections.item_below sections.batches_of
     sections.request_sections_from sections.request_next_sections check.retry_target former.former_target check.retry_of check.retries
     check.retry_sendings events.tip_outcome events.raised_tip events.continuation steps.of_mode steps.unmarked steps.without_peer steps.sent
     steps.say_to steps.advance_from steps.sections_from steps.continues steps.leaves steps.advances steps.advances_and_requests steps.enters_syncing
-    steps.picks steps.is_at_tip steps.answers steps.hears_sync_info steps.hears_announced requests.ask_pooled steps.hears_pooled
-    steps.ask_orphans steps.loses steps.ticks_syncing steps.ticks_synced steps.progresses steps.checks steps.evicts steps.plan_of
-    steps.plan steps.remaining steps.retried steps.performed steps.after steps.commands steps.count_of steps.fresh_count means_of.mean_of
+    steps.picks steps.is_at_tip steps.answers steps.hears_sync_info steps.hears_announced steps.ask_orphans steps.loses steps.ticks_syncing
+    steps.ticks_synced steps.progresses steps.checks steps.evicts steps.plan_of steps.plan steps.remaining steps.retried steps.performed steps.after
+    steps.commands steps.count_of steps.fresh_count means_of.mean_of
     lists.list_fits lists.ids_in lists.peers_in lists.pair_of lists.pairs_in lists.ids_fit lists.continuation_fits lists.pairs_fit lists.peers_fit
-    lists.pool_entry_of lists.pool_in lists.pool_whole lists.pool_adds_up lists.pool_few lists.section_of lists.header_of lists.used_places
-    lists.row_fits lists.first_height lists.row_count lists.view_fits lists.view_of
-    commands.command_bytes calls.step_of calls.args_of calls.call_fits calls.lists_fit calls.pool_fits calls.step_bytes calls.step_answer calls.result_refusal
+    lists.section_of lists.header_of lists.used_places lists.row_fits lists.first_height lists.row_count lists.view_fits lists.view_of
+    commands.command_bytes calls.step_of calls.args_of calls.call_fits calls.lists_fit calls.step_bytes calls.step_answer calls.result_refusal
     calls.call_refusal
 rules = 0
 
@@ -74,13 +71,6 @@ announced_id_test = refl
 
 pub announced_id_cases : Hold found announced_ids
 announced_id_cases = each found announced_ids announced_id_test
-
-pooled_list_test : all_as_expected found pooled_lists ≡ true
-unfolding rules
-pooled_list_test = refl
-
-pub pooled_list_cases : Hold found pooled_lists
-pooled_list_cases = each found pooled_lists pooled_list_test
 
 window_test : all_as_expected found windows ≡ true
 unfolding rules
@@ -144,22 +134,3 @@ mean_test = refl
 
 pub mean_cases : Hold found means
 mean_cases = each found means mean_test
-
-pub edges_hold : EdgesHold
-edges_hold =
-    record {
-      refusal_cases = refusal_cases;
-      call_read_cases = call_read_cases;
-      pick_and_send_cases = pick_and_send_cases;
-      announced_id_cases = announced_id_cases;
-      pooled_list_cases = pooled_list_cases;
-      window_cases = window_cases;
-      view_reader_cases = view_reader_cases;
-      advance_cases = advance_cases;
-      delivery_check_cases = delivery_check_cases;
-      retry_target_cases = retry_target_cases;
-      message_cases = message_cases;
-      mode_step_cases = mode_step_cases;
-      forecast_cases = forecast_cases;
-      mean_cases = mean_cases;
-    }

@@ -20,7 +20,7 @@ use Rattle.model.specs.Events.{Outcome, Continue, Synced, BehindPeer, SyncPeerGo
 use Rattle.model.specs.Steps
 use Rattle.model.specs.Steps.{Step, Args, Plan, unmarked, without_peer, sent, continues, leaves, advances, advances_and_requests, enters_syncing, picks}
 use Rattle.model.specs.Steps.{is_at_tip, answers, hears_sync_info, tells_tip, hears_announced, ask_orphans, loses, ticks_syncing, ticks_synced, progresses, checks, evicts}
-use Rattle.model.specs.Steps.{hears_pooled, plan_of, plan, after, commands}
+use Rattle.model.specs.Steps.{plan_of, plan, after, commands}
 use Rattle.model.specs.Image.{decode, encode}
 use Rattle.model.specs.Commands.{commands_in}
 use Rattle.model.specs.Calls.{Call, refused, args_of, step_bytes, step_answer, step_refusal, step}
@@ -134,7 +134,7 @@ module _ (st : State) (a : Args) where
       go false = sends
 
   goes_plan : (step : Step) → Goes step (plan_of st a step)
-  unfolding plan_of advances advances_and_requests checks evicts leaves continues without_peer unmarked hears_sync_info hears_pooled
+  unfolding plan_of advances advances_and_requests checks evicts leaves continues without_peer unmarked hears_sync_info
   goes_plan Steps.start = stays
   goes_plan Steps.pick = goes_picks (select_peer st.sync.stalled_peers a.peers)
   goes_plan Steps.progress = goes_progresses (is_mode st.mode syncing)
@@ -153,7 +153,6 @@ module _ (st : State) (a : Args) where
   goes_plan (Steps.lost_peer peer) = goes_loses peer
   goes_plan (Steps.received ids) = stays
   goes_plan (Steps.evicted ids) = stays
-  goes_plan (Steps.pooled type_id lists) = stays
 
   -- The send clock is "changed only by this rule and by picking".
   pub after_send_clock : SendClockAfter st.settings a.clock st.sync.send_clock a.step (after st a).sync.send_clock

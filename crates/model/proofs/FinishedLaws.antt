@@ -1,35 +1,29 @@
 -- What a call that nothing refuses has passed.
 use Prim.Native.Nat.{ℕ, ◌+◌, ◌≤◌, ◌<◌}
 use mathlib.Core.Path.{◌≡◌, refl}
-use mathlib.Core.Bool.{Bool, true, false, ◌&&◌}
+use mathlib.Core.Bool.{Bool, true, false}
 use mathlib.Core.List.{List}
 use lib.ListN.{length}
 use lib.Dec.{eqb, leb}
 use native.Mathlib.Omega.{arith}
 use borrow.Author.Tests.{leb-true, eqb-true}
-use Rattle.fields.proofs.OrderLaws.{and_left, and_right}
 use Rattle.model.specs.Protocol.{tracked_limit, stalled_limit}
 use Rattle.model.specs.State.{State}
 use Rattle.model.specs.Steps.{plan, after}
 use Rattle.model.specs.Image.{well_formed, decode}
-use Rattle.model.specs.Lists.{peers_fit, view_fits, pool_few}
-use Rattle.model.specs.Calls.{Call, args_of, unless, call_fits, lists_fit, pool_fits, result_refusal, call_refusal, step_refusal}
+use Rattle.model.specs.Lists.{peers_fit, view_fits}
+use Rattle.model.specs.Calls.{Call, args_of, unless, call_fits, lists_fit, result_refusal, call_refusal, step_refusal}
 use Rattle.model.specs.Layout.{area_size}
 
 -- a test whose number is not the answer is passed
-pub not_it : (ok : Bool) (number others answer : ℕ) → (number ≡ answer → ⊥) → unless ok number others ≡ answer → (ok ≡ true) × (others ≡ answer)
-not_it true number others answer n e = (refl, e)
-not_it false number others answer n e = absurd (n e)
-
 pub held : (ok : Bool) (number others : ℕ) → 0 < number → unless ok number others ≡ 0 → (ok ≡ true) × (others ≡ 0)
-held ok number others h = not_it ok number others 0 (λ e. omega arith)
+held true number others h e = (refl, e)
+held false number others h e = absurd (omega arith)
 
 pub record Passed (st : State) (call : Call) : Type 0 where
   pub clock : st.last_clock ≤ call.clock
   pub fits : call_fits st call ≡ true
   pub lists : lists_fit call ≡ true
-  pub pool : pool_fits call ≡ true
-  pub pool_few : pool_few call.pool ≡ true
   pub peers : peers_fit call.peers ≡ true
   pub view : view_fits call.view ≡ true
   pub in_view : (plan st (args_of call)).in_view ≡ true
@@ -46,14 +40,12 @@ passed st call e =
     let r9 = unless (plan st a).in_view 9 r10 in
     let r8 = unless (view_fits call.view) 8 r9 in
     let r7 = unless (peers_fit call.peers) 7 r8 in
-    let r13 = unless (pool_few call.pool) 13 r7 in
-    let r6 = unless (lists_fit call && pool_fits call) 6 r13 in
+    let r6 = unless (lists_fit call) 6 r7 in
     let r5 = unless (call_fits st call) 5 r6 in
     let h4 = held (leb st.last_clock call.clock) 4 r5 (omega arith) e in
     let h5 = held (call_fits st call) 5 r6 (omega arith) h4.1 in
-    let h6 = held (lists_fit call && pool_fits call) 6 r13 (omega arith) h5.1 in
-    let h13 = held (pool_few call.pool) 13 r7 (omega arith) h6.1 in
-    let h7 = held (peers_fit call.peers) 7 r8 (omega arith) h13.1 in
+    let h6 = held (lists_fit call) 6 r7 (omega arith) h5.1 in
+    let h7 = held (peers_fit call.peers) 7 r8 (omega arith) h6.1 in
     let h8 = held (view_fits call.view) 8 r9 (omega arith) h7.1 in
     let h9 = held (plan st a).in_view 9 r10 (omega arith) h8.1 in
     let h10 = held (leb (length s.pending + length s.sync.evicted) tracked_limit) 10 r11 (omega arith) h9.1 in
@@ -61,9 +53,7 @@ passed st call e =
     record {
       clock = leb-true st.last_clock call.clock h4.0;
       fits = h5.0;
-      lists = and_left (lists_fit call) (pool_fits call) h6.0;
-      pool = and_right (lists_fit call) (pool_fits call) h6.0;
-      pool_few = h13.0;
+      lists = h6.0;
       peers = h7.0;
       view = h8.0;
       in_view = h9.0;

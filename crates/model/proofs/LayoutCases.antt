@@ -14,7 +14,6 @@ use Rattle.model.specs.Calls as calls
 use Rattle.model.specs.Forecast as forecasts
 use Rattle.model.specs.MeanAge as ages
 use Rattle.model.specs.CaseTables.{Hold, all_as_expected}
-use Rattle.model.specs.LayoutCases.{LayoutsHold}
 use Rattle.model.specs.LayoutCases.{found, layouts, list_tests, area_tests, whole_areas}
 use Rattle.model.proofs.CaseTables.{each}
 
@@ -52,12 +51,3 @@ area_cases = each found area_tests area_test
 
 pub whole_area_cases : Hold found whole_areas
 whole_area_cases = each found whole_areas whole_area_test
-
-pub layouts_hold : LayoutsHold
-layouts_hold =
-    record {
-      layout_cases = layout_cases;
-      list_cases = list_cases;
-      area_cases = area_cases;
-      whole_area_cases = whole_area_cases;
-    }

@@ -10,7 +10,6 @@ use Rattle.model.specs.WindowMap as window
 use Rattle.model.specs.MapBytes as bytes
 use Rattle.model.specs.MapRuns as runs
 use Rattle.model.specs.CaseTables.{Hold, all_as_expected}
-use Rattle.model.specs.MapCases.{MapCasesHold}
 use Rattle.model.specs.MapCases.{found, arrivals, edges, slides, windows, slid_windows, fills, written, malformed}
 use Rattle.model.proofs.CaseTables.{each}
 
@@ -78,16 +77,3 @@ malformed_test = refl
 
 pub malformed_cases : Hold found malformed
 malformed_cases = each found malformed malformed_test
-
-pub map_cases_hold : MapCasesHold
-map_cases_hold =
-    record {
-      arrival_cases = arrival_cases;
-      edge_cases = edge_cases;
-      slide_cases = slide_cases;
-      window_cases = window_cases;
-      fill_cases = fill_cases;
-      slid_window_cases = slid_window_cases;
-      written_cases = written_cases;
-      malformed_cases = malformed_cases;
-    }

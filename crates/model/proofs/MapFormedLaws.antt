@@ -42,7 +42,7 @@ length_encode_map m l =
     in
     omega arith
 
-pub zeros_bytes : (n : ℕ) → Bytes (zeros n)
+zeros_bytes : (n : ℕ) → Bytes (zeros n)
 zeros_bytes n i = rw (zeros_at n i) (omega arith)
 
 cells_bytes : (cells : List Cell) → All WellCell cells → Bytes (map cell_byte cells)

@@ -113,8 +113,7 @@ module _ (st : State) (a : Args) where
 
   -- the mode that a step of its mode leaves
   pub mode_follows : (n : ℕ) → Listed n a.peers → (step : Step) → of_mode st.mode st.sync.entry_sent step ≡ true → Follows n step (plan_of st a step)
-  unfolding plan_of of_mode Steps.advances Steps.checks Steps.advances_and_requests Steps.leaves Steps.continues
-      Steps.hears_sync_info Steps.hears_pooled Steps.evicts
+  unfolding plan_of of_mode Steps.advances Steps.checks Steps.advances_and_requests Steps.leaves Steps.continues Steps.hears_sync_info Steps.evicts
   mode_follows n l Steps.start m = refl
   mode_follows n l Steps.pick m = pick_follows n l m
   mode_follows n l Steps.progress m = progress_follows n (is_mode st.mode syncing) refl
@@ -135,7 +134,6 @@ module _ (st : State) (a : Args) where
   mode_follows n l (Steps.lost_peer peer) m = loses_follows n peer
   mode_follows n l (Steps.received ids) m = refl
   mode_follows n l (Steps.evicted ids) m = refl
-  mode_follows n l (Steps.pooled type_id lists) m = refl
 
   -- ---- what it ends
 
@@ -174,7 +172,6 @@ module _ (st : State) (a : Args) where
   remaining_by_lem (Steps.lost_peer peer) = lost_remaining peer
   remaining_by_lem (Steps.received ids) = remaining_kept a.clock book.delivered (λ (r : Request). is_among r.id ids) st.pending
   remaining_by_lem (Steps.evicted ids) = remaining_kept a.clock book.evicted (λ (r : Request). is_among r.id ids) st.pending
-  remaining_by_lem (Steps.pooled type_id lists) = remaining_open a.clock st.pending
 
 -- ---- the peers' bytes
 

@@ -1,7 +1,7 @@
 -- Pending requests through a step: each stays within its widths and limits, and their ids rise.
 use Prim.Native.Nat.{ℕ, suc, ◌≤◌, ◌<◌, max}
 use mathlib.Core.Path.{◌≡◌, refl, ap, ◌∙◌}
-use mathlib.Core.Bool.{Bool, true, false, not, cond, ◌||◌}
+use mathlib.Core.Bool.{Bool, true, false, not, cond}
 use mathlib.Core.List.{List, [], ◌∷◌, map}
 use mathlib.Core.Option.{Option, none, some}
 use lib.Dec.{eqb, leb}
@@ -13,7 +13,7 @@ use Rattle.fields.specs.Filter.{cons_if, kept}
 use Rattle.fields.specs.Sort.{inserted}
 use Rattle.fields.proofs.AllLaws.{all_map, all_kept, all_weaker, either}
 use Rattle.fields.proofs.SortLaws.{all_inserted}
-use Rattle.fields.proofs.OrderLaws.{before_transitive, before_or_same, same_eq, same_refl, same_sym, neither}
+use Rattle.fields.proofs.OrderLaws.{before_transitive, before_or_same, same_sym, neither}
 use Rattle.model.specs.Protocol.{Id, is_among, is_transaction}
 use Rattle.model.specs.Settings.{Settings, expired, given_up, most_requests}
 use Rattle.model.specs.Delivery
@@ -24,7 +24,6 @@ use Rattle.model.specs.Peers.{peer_or, select_peer}
 use Rattle.model.specs.Check.{others, retry_target, retry_of, retries, mark_all_retried}
 use Rattle.model.proofs.Well.{WellId, WellRequest, RisingIds}
 use Rattle.model.proofs.Widths.{IfSome, WellPeer, WellItem, WellList, WellAct}
-use Rattle.model.proofs.IdLaws.{among_inserted}
 use Rattle.model.proofs.PeerLaws.{select_well}
 
 -- ---- M is above 0, and for what is no transaction it is at least the check limit
@@ -135,40 +134,6 @@ rising_act gate clock (send s) rs h = h
 pub rising_performed : (gate : Bool) (clock : ℕ) (acts : List Act) (rs : List Request) → RisingIds (ids_of rs) → RisingIds (ids_of (perform_all gate clock acts rs).pending)
 rising_performed gate clock [] rs h = h
 rising_performed gate clock (act ∷ acts) rs h = rising_performed gate clock acts (perform gate clock act rs).pending (rising_act gate clock act rs h)
-
--- ---- an id that is marked is pending
-
-abbrev pub entering : ℕ → ℕ → ℕ → Id → Request
-entering clock type_id peer id = record { id = id; type_id = type_id; peer = peer; stamp = clock; checks = 0 }
-
--- the requests after one id is marked
-abbrev pub marked_after : ℕ → ℕ → ℕ → Id → List Request → List Request
-marked_after clock type_id peer x pending = cond (is_pending x pending) pending (inserted id_before (entering clock type_id peer x) pending)
-
-pub marked_one : (clock type_id peer : ℕ) (id x : Id) (pending : List Request)
-    → is_pending id (marked_after clock type_id peer x pending) ≡ same id x || is_pending id pending
-unfolding is_pending
-marked_one clock type_id peer id x pending = go (is_among x (ids_of pending)) (same id x) refl refl
-  where
-    go : (t u : Bool) → is_among x (ids_of pending) ≡ t → same id x ≡ u
-        → is_among id (ids_of (cond t pending (inserted id_before (entering clock type_id peer x) pending))) ≡ same id x || is_among id (ids_of pending)
-    go true true e f = rw (same_eq id x f, e, same_refl x)
-    go true false e f = rw f
-    go false u e f = among_inserted (λ (r : Request). r.id) id_before id (entering clock type_id peer x) pending
-
-pub marked_pending : (clock type_id peer : ℕ) (id : Id) (ids : List Id) (pending : List Request)
-    → is_pending id (mark_requested clock type_id peer ids pending) ≡ is_among id ids || is_pending id pending
-unfolding is_among
-marked_pending clock type_id peer id [] pending = refl
-marked_pending clock type_id peer id (x ∷ ids) pending =
-    marked_pending clock type_id peer id ids (marked_after clock type_id peer x pending)
-    ∙ rw (marked_one clock type_id peer id x pending) (turned (is_among id ids) (same id x) (is_pending id pending))
-  where
-    turned : (a b c : Bool) → a || (b || c) ≡ (b || a) || c
-    turned true true c = refl
-    turned true false c = refl
-    turned false true c = refl
-    turned false false c = refl
 
 -- ---- widths and limits
 

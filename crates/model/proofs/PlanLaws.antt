@@ -16,18 +16,17 @@ use Rattle.model.specs.Delivery.{Request, orphans_of, evicted_after_eviction}
 use Rattle.model.specs.State.{with_last_progress, with_send_clock, with_known_tip, with_stalled_peers}
 use Rattle.model.specs.State.{Mode, seeking, syncing, ended, is_mode, has_sync_peer, Sync, State}
 use Rattle.model.specs.Peers.{first_of, select_peer, stalled_after_select, join_stalled, send_sync_info, reset_sends}
-use Rattle.model.specs.Requests.{PeerIds, ask_pooled, Act, ask, sync_info_to}
+use Rattle.model.specs.Requests.{Act, ask, sync_info_to}
 use Rattle.model.specs.Sections.{Advance, Item, Batch, batches_of}
 use Rattle.model.specs.Check.{ask_fresh}
 use Rattle.model.specs.Events.{Outcome, Continue, Synced, BehindPeer, SyncPeerGone, Stalled, EndOfStream, tip_outcome, raised_tip, not_above, announce}
 use Rattle.model.specs.Events.{continuation}
 use Rattle.model.specs.Steps
 use Rattle.model.specs.Steps.{Step, Args, Plan, of_mode, unmarked, without_peer, sent, say_to, advance_from, sections_from, continues, leaves, advances}
-use Rattle.model.specs.Steps.{advances_and_requests, enters_syncing, picks, is_at_tip, answers, hears_sync_info, tells_tip, hears_announced, hears_pooled}
-use Rattle.model.specs.Steps.{ask_orphans, loses, ticks_syncing, ticks_synced, progresses, checks, evicts, plan_of, plan}
+use Rattle.model.specs.Steps.{advances_and_requests, enters_syncing, picks, is_at_tip, answers, hears_sync_info, tells_tip, hears_announced, ask_orphans, loses}
+use Rattle.model.specs.Steps.{ticks_syncing, ticks_synced, progresses, checks, evicts, plan_of, plan}
 use Rattle.model.proofs.Well.{WellId, WellRequest, WellSync}
-use Rattle.model.proofs.Widths.{IfSome, WellPeer, WellHeight, WellItem, WellList, WellBatch, WellAct, WellPeerIds, WellStep, WellArgs}
-use Rattle.model.proofs.PooledLaws.{asks_well}
+use Rattle.model.proofs.Widths.{IfSome, WellPeer, WellHeight, WellItem, WellList, WellBatch, WellAct, WellStep, WellArgs}
 use Rattle.model.proofs.BatchLaws.{batches_well}
 use Rattle.model.proofs.SectionLaws.{sections_well, advance_well}
 use Rattle.model.proofs.PeerLaws.{WellSendClock, send_well, reset_well, say_well, first_well, select_well, WellStalled, none_stalled, selected_well}
@@ -170,12 +169,6 @@ module _ (st : State) (a : Args) (old : WellSync st.mode st.last_clock st.sync) 
       let acts = ask type_id peer a.stored (id ∷ ids) ∷ [] in
       continues_well (cond (is_announceable type_id) acts []) (either (All WellAct) (is_announceable type_id) acts [] (w, tt) tt)
 
-  hears_pooled_well : (type_id : ℕ) (lists : List PeerIds) → All (WellPeerIds type_id) lists → WellPlan a.clock (hears_pooled st a type_id lists)
-  unfolding hears_pooled ask_pooled
-  hears_pooled_well type_id lists w =
-      let acts = ask_pooled type_id a.stored lists in
-      continues_well (cond (is_announceable type_id) acts []) (either (All WellAct) (is_announceable type_id) acts [] (asks_well type_id a.stored lists w) tt)
-
   orphans_well : (lost : ℕ) (peer : Option ℕ) → IfSome WellPeer peer → All WellAct (ask_orphans st a lost peer)
   unfolding ask_orphans orphans_of
   orphans_well lost none p = tt
@@ -271,7 +264,6 @@ module _ (st : State) (a : Args) (old : WellSync st.mode st.last_clock st.sync) 
   plan_of_well (Steps.lost_peer peer) w mode few = loses_well peer
   plan_of_well (Steps.received ids) w mode few = advances_well st.mode unmarked_well
   plan_of_well (Steps.evicted ids) w mode few = evicts_well ids w
-  plan_of_well (Steps.pooled type_id lists) w mode few = hears_pooled_well type_id lists w.0
 
   pub plan_well : of_mode st.mode st.sync.entry_sent a.step ≡ true → length (plan st a).sync.stalled_peers ≤ stalled_limit → WellPlan a.clock (plan st a)
   unfolding plan

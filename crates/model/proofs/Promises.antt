@@ -1,5 +1,4 @@
--- The promises, proved: what specs/Promises says of any finished call, of any refused one, of any run, of any question and opening.
--- `Kept` has it all.
+-- The promises, proved: what specs/Promises says of any finished call, of any refused one, of any run. `Kept` has it all.
 
 -- what all start from: a finished call as it is seen, words and lists, modes
 pub mod SeenLaws
@@ -29,7 +28,6 @@ pub mod OrphansAsked
 pub mod VerdictLaws
 pub mod TurnsLaws
 pub mod CheckAsked
-pub mod PooledAsked
 pub mod BatchesKept
 -- what is pending, and what is told
 pub mod AskingLaws
@@ -56,8 +54,5 @@ pub mod MapChanged
 pub mod MapSlid
 pub mod MapsKept
 pub mod MapOnce
--- the question and the opening
-pub mod QuestionsKept
-pub mod OpeningsKept
 -- all of it
 pub mod Kept

@@ -17,7 +17,7 @@ use Rattle.fields.proofs.EntriesLaws.{Wide, length_joined, entries_joined}
 use Rattle.fields.proofs.OrderLaws.{before_transitive, before_or_same}
 use Rattle.model.specs.Protocol.{header_type, is_transaction, tracked_limit}
 use Rattle.model.specs.Delivery.{Request, orphans_of}
-use Rattle.model.specs.State.{State}
+use Rattle.model.specs.State.{State, has_sync_peer}
 use Rattle.model.specs.Lists.{list_fits, pairs_fit}
 use Rattle.model.specs.Calls.{pair_bytes, inserted_once, strictly_rising, question_pairs}
 use Rattle.model.proofs.Well.{Well, WellId, WellRequest, RisingIds}
@@ -91,7 +91,7 @@ strictly_answerable pairs w = let f = strictly_few pairs in let g = w.few in rec
 pub question_answerable : (st : State) (flag : ℕ) → Well st → Answerable (question_pairs st flag)
 unfolding question_pairs orphans_of
 question_answerable st flag well =
-    either Answerable _ (strictly_rising (cond (eqb flag 0) evicted orphans)) []
+    either Answerable (has_sync_peer st.mode) (strictly_rising (cond (eqb flag 0) evicted orphans)) []
     (strictly_answerable (cond (eqb flag 0) evicted orphans) (either Answerable (eqb flag 0) evicted orphans evicted_fit orphans_fit)) (record { long = tt; few = omega arith })
   where
     test : Request → Bool
@@ -124,15 +124,15 @@ question_answerable st flag well =
           few = rw (length-map (orphans_of st.sync.sync_peer st.pending) pair) (omega arith);
         }
 
-pub question_rises : (st : State) (flag : ℕ) → RisingIds (question_pairs st flag)
+question_rises : (st : State) (flag : ℕ) → RisingIds (question_pairs st flag)
 unfolding question_pairs
-question_rises st flag = go _ (cond (eqb flag 0) (map (pair_bytes header_type) st.sync.evicted) (map (λ (r : Request). pair_bytes r.type_id r.id) (orphans_of st.sync.sync_peer st.pending)))
+question_rises st flag = go (has_sync_peer st.mode) (cond (eqb flag 0) (map (pair_bytes header_type) st.sync.evicted) (map (λ (r : Request). pair_bytes r.type_id r.id) (orphans_of st.sync.sync_peer st.pending)))
   where
     go : (t : Bool) (pairs : List (List ℕ)) → RisingIds (cond t (strictly_rising pairs) [])
     go true pairs = strictly_rises pairs
     go false pairs = tt
 
-pub wide : (pairs : List (List ℕ)) → All PairLong pairs → Wide pair_size pairs
+wide : (pairs : List (List ℕ)) → All PairLong pairs → Wide pair_size pairs
 wide [] h = tt
 wide (e ∷ es) h = (h.0, wide es h.1)
 

@@ -51,7 +51,7 @@ requested_runs : (batch type_id peer : ℕ) (all : List (List Id))
 requested_runs batch type_id peer [] = refl
 requested_runs batch type_id peer (run ∷ others) = rw (requested_runs batch type_id peer others) (sym (map-append (requested type_id peer) run (together others)))
 
-pub requested_one : (batch : ℕ) (s : Sending) → requested_in (commands_of batch s) ≡ requested_by_sendings (s ∷ [])
+requested_one : (batch : ℕ) (s : Sending) → requested_in (commands_of batch s) ≡ requested_by_sendings (s ∷ [])
 unfolding runs
 requested_one batch (request type_id peer ids) =
     requested_runs batch type_id peer (runs ids) ∙ ap (map (requested type_id peer)) (runs_together (length ids) ids (omega arith)) ∙ sym (append-nil (map (requested type_id peer) ids))

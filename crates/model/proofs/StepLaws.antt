@@ -75,7 +75,6 @@ module _ (st : State) (a : Args) where
       (all_kept (WellRequest st.settings a.clock) (λ (r : Request). not (eqb r.peer peer)) st.pending w) w
   remaining_well (Steps.received ids) w = all_kept (WellRequest st.settings a.clock) (λ (r : Request). not (is_among r.id ids)) st.pending w
   remaining_well (Steps.evicted ids) w = all_kept (WellRequest st.settings a.clock) (λ (r : Request). not (is_among r.id ids)) st.pending w
-  remaining_well (Steps.pooled type_id lists) w = w
 
   remaining_rising : (step : Step) → RisingIds (ids_of st.pending) → RisingIds (ids_of (remaining st a step))
   unfolding remaining mark_received pending_after_eviction purge_peer purge_all
@@ -97,7 +96,6 @@ module _ (st : State) (a : Args) where
       (rising_kept (λ (r : Request). not (eqb r.peer peer)) st.pending w) w
   remaining_rising (Steps.received ids) w = rising_kept (λ (r : Request). not (is_among r.id ids)) st.pending w
   remaining_rising (Steps.evicted ids) w = rising_kept (λ (r : Request). not (is_among r.id ids)) st.pending w
-  remaining_rising (Steps.pooled type_id lists) w = w
 
   pub retried_items_well : WellArgs a → All (WellRequest st.settings st.last_clock) st.pending → All WellItem (retried st a)
   unfolding retried
@@ -128,7 +126,7 @@ module _ (st : State) (a : Args) where
 pub of_mode_lem : (st : State) (call : Call) → call_fits st call ≡ true → of_mode st.mode st.sync.entry_sent (step_of call) ≡ true
 unfolding call_fits
 of_mode_lem st call h =
-    let known = leb 1 call.kind && leb call.kind 17 in
+    let known = leb 1 call.kind && leb call.kind 16 in
     let flags = is_flag call.gate && (is_flag call.parsed && is_flag call.hastip) in
     let m = of_mode st.mode st.sync.entry_sent (step_of call) in
     and_right flags m (and_right known (flags && m) h)

@@ -25,8 +25,7 @@ use Rattle.model.specs.Image.{pending_count, stalled_count, evicted_count, setti
 use Rattle.model.specs.Calls.{Call, args_of, step_refusal, step, question_refusal, question}
 use Rattle.model.specs.Forecast.{forecast_refusal, forecast}
 use Rattle.model.specs.MeanAge.{mean_age_refusal, mean_age}
-use Rattle.model.specs.Versions.{as_version, as_newest, ReadAsFirst, SameAsNewest, NewestHolds}
-use Rattle.model.specs.Versions.{FirstHolds, AllWrittenBack}
+use Rattle.model.specs.Versions.{as_version, as_newest, ReadAsFirst, SameAsNewest}
 use Rattle.model.specs.Layout.{area_size, id_size, peer_size, record_size, region_at, stalled_at}
 use Rattle.model.proofs.HeaderLaws.{mark}
 use Rattle.model.proofs.Well.{Well}
@@ -34,7 +33,6 @@ use Rattle.model.proofs.RecordLaws.{types_low, types_narrow_lem}
 use Rattle.model.proofs.ImageLaws.{Laid, well_requests, well_laid, encode_length}
 use Rattle.model.proofs.FormedLaws.{Formed, formed, well_formed_lem}
 use Rattle.model.proofs.RoundLaws.{records_are, laid_formed, decode_encode, encode_decode}
-use Rattle.model.proofs.RoundLaws.{decode_well, well_formed_encode}
 use Rattle.model.proofs.EntryLaws.{step_refused, step_finished}
 
 -- ---- two areas that are the same behind the version
@@ -305,21 +303,3 @@ module _ (area : List ℕ) (l : length area ≡ area_size) where
           foretold = foretold;
           aged = aged;
         }
-
--- ---- F-6, entire
-
-pub newest_holds : NewestHolds
-newest_holds area l f ok = same_as_newest area l f ok
-
-pub first_holds : FirstHolds
-first_holds area l f ok low = read_as_first (decode area) (decode_well area l f ok) low
-
-pub all_written_back : AllWrittenBack
-all_written_back area l f ok =
-    let well : Well (decode area) = decode_well area l f ok in
-    record {
-      meaning = decode_encode (decode area) well;
-      formed = well_formed_encode (decode area) well;
-      size = encode_length (decode area) well;
-      same = encode_decode area l f ok;
-    }

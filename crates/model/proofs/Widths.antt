@@ -1,12 +1,12 @@
 -- What holds of a step's arguments once they are read, and of all that the rules work out from them: every number is within its
 -- width, every id is 32 bytes, and lists are as short as their limits say.
-use Prim.Native.Nat.{ℕ, ◌+◌, ◌≤◌, ◌<◌, ◌^◌}
-use mathlib.Core.List.{List, [], ◌∷◌}
+use Prim.Native.Nat.{ℕ, ◌≤◌, ◌<◌, ◌^◌}
+use mathlib.Core.List.{List}
 use mathlib.Core.Option.{Option, none, some}
 use lib.ListN.{length}
 use Rattle.fields.specs.Facts.{All}
 use Rattle.model.specs.Protocol.{Id, header_type, tracked_limit}
-use Rattle.model.specs.Requests.{PeerIds, Pair, Sending, Act, Command}
+use Rattle.model.specs.Requests.{Pair, Sending, Act, Command}
 use Rattle.model.specs.Requests as requests
 use Rattle.model.specs.Sections.{Section, Header, absent, present, View, Item, Batch}
 use Rattle.model.specs.Steps
@@ -73,14 +73,6 @@ WellHeader (present sections) = All WellSection sections × (length sections ≤
 abbrev pub WellView : View → Type 0
 WellView view = (height : ℕ) → IfSome WellHeader (view height)
 
-abbrev pub WellPeerIds : ℕ → PeerIds → Type 0
-WellPeerIds type_id l = WellList type_id l.peer l.ids
-
--- how many ids are pooled
-abbrev pub ids_pooled : List PeerIds → ℕ
-ids_pooled [] = 0
-ids_pooled (l ∷ lists) = length l.ids + ids_pooled lists
-
 abbrev pub WellStep : Step → Type 0
 WellStep Steps.start = Unit {0}
 WellStep Steps.pick = Unit {0}
@@ -98,7 +90,6 @@ WellStep (Steps.sync_info peer parsed tip ids) = (WellPeer peer × IfSome WellHe
 WellStep (Steps.lost_peer peer) = Unit {0}
 WellStep (Steps.received ids) = Unit {0}
 WellStep (Steps.evicted ids) = All WellId ids
-WellStep (Steps.pooled type_id lists) = All (WellPeerIds type_id) lists × (ids_pooled lists ≤ tracked_limit)
 
 pub record WellArgs (a : Args) : Type 0 where
   pub clock : a.clock < 2 ^ 64

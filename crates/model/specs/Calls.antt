@@ -1,5 +1,5 @@
 -- The entries on raw calls: numbers and byte lists of any content and length. The exported functions cite these.
-use Rattle.std.specs.Prelude.{ℕ, ◌+◌, Bool, true, false, not, cond, ◌&&◌, ◌||◌, List, [], ◌∷◌, ◌++◌, map, length, replicate, eqb, leb}
+use Rattle.std.specs.Prelude.{ℕ, ◌+◌, Bool, true, false, not, cond, ◌&&◌, ◌||◌, List, [], ◌∷◌, ◌++◌, map, length, eqb, leb}
 use Rattle.std.proofs.Math.Option.{Option, none, some}
 use Rattle.fields.specs.Number.{to_be}
 use Rattle.fields.specs.Overwrite.{overwritten}
@@ -14,7 +14,6 @@ use Rattle.model.specs.Steps
 use Rattle.model.specs.Steps.{Step, Args, of_mode, plan, after, commands, count_of, fresh_count}
 use Rattle.model.specs.Image.{encode, decode, well_formed}
 use Rattle.model.specs.Lists.{ids_in, peers_in, pairs_in, view_of, ids_fit, continuation_fits, pairs_fit, peers_fit, view_fits}
-use Rattle.model.specs.Lists.{pool_in, lists_in, pool_whole, pool_adds_up, pool_few}
 use Rattle.model.specs.Commands.{all_command_bytes}
 use Rattle.model.specs.Layout.{area_size, type_size}
 
@@ -35,32 +34,8 @@ pub record Call : Type 0 where
   pub stored : List ℕ
   pub peers : List ℕ
   pub view : List ℕ
-  pub pool : List ℕ
 
--- F-9: the call of the entry for pooled announcements, which lends these lists alone: clock, gate, type, ids, pool, stored pairs. Its view
--- is four bytes without a row.
-abbrev pub pooled_call : ℕ → ℕ → ℕ → List ℕ → List ℕ → List ℕ → Call
-pooled_call clock gate type_id ids pool stored =
-    record {
-      kind = 17;
-      clock = clock;
-      gate = gate;
-      height = 0;
-      peer = 0;
-      typeid = type_id;
-      fork = 0;
-      parsed = 0;
-      hastip = 0;
-      tip = 0;
-      ids = ids;
-      continuation = [];
-      stored = stored;
-      peers = [];
-      view = replicate 4 0;
-      pool = pool;
-    }
-
--- docs/LAYOUT.md, "Step kinds"; a kind outside 1 to 17 is refused before it is read.
+-- docs/LAYOUT.md, "Step kinds"; a kind outside 1 to 16 is refused before it is read.
 unfoldable pub step_of : Call → Step
 step_of call =
     cond (eqb call.kind 1) Steps.start
@@ -79,8 +54,7 @@ step_of call =
     (cond (eqb call.kind 13) Steps.scheduled_tick
     (cond (eqb call.kind 14) Steps.section_tick
     (cond (eqb call.kind 15) Steps.send_failure
-    (cond (eqb call.kind 16) Steps.end_of_stream
-    (Steps.pooled call.typeid (lists_in (pool_in call.pool) (ids_in call.ids))))))))))))))))))
+    Steps.end_of_stream))))))))))))))
 
 unfoldable pub args_of : Call → Args
 args_of call =
@@ -106,7 +80,7 @@ is_flag n = leb n 1
 -- "step unknown or not of this mode, a flag not 0 or 1, or a send failure after anything but an entry that sent"
 unfoldable pub call_fits : State → Call → Bool
 call_fits st call =
-    (leb 1 call.kind && leb call.kind 17)
+    (leb 1 call.kind && leb call.kind 16)
     && ((is_flag call.gate && (is_flag call.parsed && is_flag call.hastip))
     && of_mode st.mode st.sync.entry_sent (step_of call))
 
@@ -115,10 +89,6 @@ unfoldable pub lists_fit : Call → Bool
 lists_fit call =
     (ids_fit call.ids && (not (eqb call.kind 3) || eqb (length call.ids) 32))
     && (continuation_fits call.continuation && pairs_fit call.stored)
-
--- F-9: "A bad entry length, counts that don't add up to the ids" are 6 too; only pooled ids are counted.
-unfoldable pub pool_fits : Call → Bool
-pool_fits call = pool_whole call.pool && (not (eqb call.kind 17) || pool_adds_up call.pool call.ids)
 
 -- Nine numbers, in the order of docs/LAYOUT.md.
 pub record Answer : Type 0 where
@@ -168,15 +138,14 @@ module _ (st : State) (a : Args) where
       (unless (leb (length (after st a).pending + length (after st a).sync.evicted) tracked_limit) 10
       (unless (leb (length (after st a).sync.stalled_peers) stalled_limit) 11 0))
 
--- 4 to 8, and 13 after 6: what the call is given
+-- 4 to 8: what the call is given
 unfoldable pub call_refusal : State → Call → ℕ
 call_refusal st call =
     unless (leb st.last_clock call.clock) 4
     (unless (call_fits st call) 5
-    (unless (lists_fit call && pool_fits call) 6
-    (unless (pool_few call.pool) 13
+    (unless (lists_fit call) 6
     (unless (peers_fit call.peers) 7
-    (unless (view_fits call.view) 8 (result_refusal st (args_of call)))))))
+    (unless (view_fits call.view) 8 (result_refusal st (args_of call))))))
 
 -- 1 and 2, of every entry that is lent a state, before its other numbers
 abbrev pub image_refusal : List ℕ → ℕ → ℕ

@@ -26,7 +26,7 @@ module _ {Case : Type 0} (found : Case → List (List ℕ)) where
   all_as_expected (e ∷ others) = same_lists (found e.case) e.expected && all_as_expected others
 
 -- A call: kind, clock, gate, chain height, parsed, hastip; ids, continuation ids, stored pairs, peers, view. Peer, type, fork point
--- and tip are 9, 104, 33 and 44; no lists are pooled.
+-- and tip are 9, 104, 33 and 44.
 abbrev pub call_of : ℕ → ℕ → ℕ → ℕ → ℕ → ℕ → List ℕ → List ℕ → List ℕ → List ℕ → List ℕ → Call
 call_of kind clock gate height parsed hastip ids continuation stored peers view =
     record {
@@ -45,29 +45,6 @@ call_of kind clock gate height parsed hastip ids continuation stored peers view 
       stored = stored;
       peers = peers;
       view = view;
-      pool = [];
-    }
-
--- the same with an entry for each of some lists, as bytes
-abbrev pub pooling : List ℕ → Call → Call
-pooling pool c =
-    record {
-      kind = c.kind;
-      clock = c.clock;
-      gate = c.gate;
-      height = c.height;
-      peer = c.peer;
-      typeid = c.typeid;
-      fork = c.fork;
-      parsed = c.parsed;
-      hastip = c.hastip;
-      tip = c.tip;
-      ids = c.ids;
-      continuation = c.continuation;
-      stored = c.stored;
-      peers = c.peers;
-      view = c.view;
-      pool = pool;
     }
 
 -- lending lists: ids, continuation ids, stored pairs, peers, view

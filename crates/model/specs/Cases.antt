@@ -1,8 +1,7 @@
 -- The starred cases of document 01 in one table: what a step of the rules gives, in numbers, and what it should.
-use Rattle.std.specs.Prelude.{ℕ, zero, suc, ◌-◌, ◌≡◌, Bool, true, false, cond, ◌&&◌, List, [], ◌∷◌, map, length, get_or}
+use Rattle.std.specs.Prelude.{ℕ, zero, suc, ◌-◌, Bool, true, false, cond, ◌&&◌, List, [], ◌∷◌, map, length, get_or}
 use Rattle.std.proofs.Math.Option.{some}
 use Rattle.fields.specs.Number.{from_be, to_be}
-use Rattle.fields.specs.Facts.{All}
 use Rattle.fields.specs.Order.{same}
 use Rattle.model.specs.Protocol.{Id}
 use Rattle.model.specs.Settings.{Settings}
@@ -136,7 +135,3 @@ same_lists (x ∷ xs) (y ∷ ys) = same x y && same_lists xs ys
 abbrev pub all_as_expected : List Starred → Bool
 all_as_expected [] = true
 all_as_expected (s ∷ others) = same_lists (found s.case) s.expected && all_as_expected others
-
--- Each starred case gives what it should.
-abbrev pub StarredHold : Type 0
-StarredHold = All (λ (s : Starred). found s.case ≡ s.expected) starred

@@ -71,7 +71,6 @@ pub record InWidth (call : Call) : Type 0 where
   pub stored : Bytes call.stored
   pub peers : Bytes call.peers
   pub view : Bytes call.view
-  pub pool : Bytes call.pool
 
 pub record OpeningInWidth (o : Opening) : Type 0 where
   pub timeout : o.settings.timeout < 2 ^ 32

@@ -6,7 +6,7 @@ use Rattle.model.specs.Protocol.{Id}
 use Rattle.model.specs.Delivery.{Request}
 use Rattle.model.specs.State.{Mode, new, seeking, syncing, synced, ended, mode_number, State, Sync}
 use Rattle.model.specs.State.{with_downloaded, with_send_clock, with_known_tip, with_stalled_peers, with_evicted, with_sync_peer}
-use Rattle.model.specs.Requests.{PeerIds, Pair, Command, runs}
+use Rattle.model.specs.Requests.{Pair, Command, runs}
 use Rattle.model.specs.Requests as sending
 use Rattle.model.specs.Sections.{View, Section, Header, absent, present}
 use Rattle.model.specs.Check.{retry_target}
@@ -15,13 +15,13 @@ use Rattle.model.specs.Events.{outcome_number}
 use Rattle.model.specs.Image.{bit}
 use Rattle.model.specs.Steps.{Step, Args, plan, after, commands}
 use Rattle.model.specs.Steps.{start, pick, progress, check, scheduled_tick, section_tick, send_failure, end_of_stream, other_message}
-use Rattle.model.specs.Steps.{needed_modifier, reorg, announced, sync_info, lost_peer, received, evicted, pooled}
-use Rattle.model.specs.Calls.{Call, Answer, pooled_call, step_of, args_of, call_fits, call_refusal, step_answer, result_refusal}
+use Rattle.model.specs.Steps.{needed_modifier, reorg, announced, sync_info, lost_peer, received, evicted}
+use Rattle.model.specs.Calls.{Call, Answer, step_of, args_of, call_fits, call_refusal, step_answer, result_refusal}
 use Rattle.model.specs.Forecast.{figures}
 use Rattle.model.specs.MeanAge.{mean_of}
 use Rattle.model.specs.Cases.{case_settings, syncing_state, args_at, numbered}
 use Rattle.model.specs.Cases as starred
-use Rattle.model.specs.CaseTables.{Entry, ◌gives◌, Hold, lends, plain, flagged, pooling, forecast_numbers, mean_numbers}
+use Rattle.model.specs.CaseTables.{Entry, ◌gives◌, lends, plain, flagged, forecast_numbers, mean_numbers}
 
 -- Timeout 10,000, limit 2 where none is named, interval 200, stall timeout 60,000; last clock, last progress and last send 0; the
 -- sync peer, if there is one, is 7.
@@ -34,7 +34,7 @@ pub data Case : Type 0 where
   mean : ℕ → List ℕ → Case
   -- the number of 4 to 11 that a call is refused with
   called : State → Call → Case
-  -- the kinds of steps that a mode takes: of 0 to 18, with the entry mark or without
+  -- the kinds of steps that a mode takes: of 0 to 17, with the entry mark or without
   taken : Mode → Bool → Case
   -- a call's step, and its other arguments
   step_read args_read : Call → Case
@@ -104,10 +104,6 @@ module _ (a : Args) where
 
 abbrev pub pair : ℕ → ℕ → Pair
 pair type_id id = record { type_id = type_id; id = to_be 32 id }
-
--- a peer's list
-abbrev pub of_peer : ℕ → List ℕ → PeerIds
-of_peer peer numbers = record { peer = peer; ids = ids numbers }
 
 -- a section: type, id, stored
 abbrev pub section : ℕ → ℕ → Bool → Section
@@ -179,7 +175,6 @@ step_numbers scheduled_tick = (13 ∷ []) ∷ []
 step_numbers section_tick = (14 ∷ []) ∷ []
 step_numbers send_failure = (15 ∷ []) ∷ []
 step_numbers end_of_stream = (16 ∷ []) ∷ []
-step_numbers (pooled type_id lists) = (17 ∷ type_id ∷ []) ∷ map (λ (l : PeerIds). l.peer ∷ map from_be l.ids) lists
 
 -- expected rows: a request, an announcement and a sync info by batch, peer and ids; a pending request
 abbrev pub requests : ℕ → ℕ → ℕ → List ℕ → List ℕ
@@ -203,19 +198,6 @@ number n = (n ∷ []) ∷ []
 abbrev pub lending : ℕ → Call
 lending kind =
     lends kind 1000 1 50 (to_be 32 5) (to_be 32 6) (0 ∷ 101 ∷ to_be 32 8) (to_be 8 4) (0 ∷ 0 ∷ 1 ∷ 0x91 ∷ 255 ∷ replicate 105 0)
-
--- a pool's entry: peer, count
-abbrev pub pool_entry : ℕ → ℕ → List ℕ
-pool_entry peer count = to_be 8 peer ++ to_be 4 count
-
--- so many lists without ids
-abbrev pub empty_lists : ℕ → List ℕ
-empty_lists zero = []
-empty_lists (suc n) = pool_entry 4 0 ++ empty_lists n
-
--- lists of type 104 at clock 1,000: ids and pool as bytes
-abbrev pub pools : List ℕ → List ℕ → Call
-pools ids pool = pooled_call 1000 1 104 ids pool []
 
 -- in syncing, clock 1,000
 abbrev pub waiting : State
@@ -330,7 +312,7 @@ found (forecast st a) = forecast_numbers (figures (step_answer st a) (commands s
 found (mean clock stamps) = mean_numbers (mean_of clock (map stamped stamps)) ∷ []
 found (refused_as st a) = number (result_refusal st a)
 found (called st c) = number (call_refusal st c)
-found (taken mode entry_sent) = taken_from 19 0 (core mode (with_sync_peer base_sync 7 false entry_sent)) ∷ []
+found (taken mode entry_sent) = taken_from 18 0 (core mode (with_sync_peer base_sync 7 false entry_sent)) ∷ []
 found (step_read c) = step_numbers (step_of c)
 found (args_read c) =
     let a : Args = args_of c in
@@ -350,10 +332,9 @@ refusals =
     -- 4: the last clock is 1,000
     (called waiting (plain 7 999 1) gives number 4)
     ∷ (called waiting (plain 7 1000 1) gives number 0)
-    -- 5: kinds 0 and 18, a kind of another mode, each flag
+    -- 5: kinds 0 and 17, a kind of another mode, each flag
     ∷ (called waiting (plain 0 1000 1) gives number 5)
-    ∷ (called waiting (plain 17 1000 1) gives number 0)
-    ∷ (called waiting (plain 18 1000 1) gives number 5)
+    ∷ (called waiting (plain 17 1000 1) gives number 5)
     ∷ (called waiting (plain 14 1000 1) gives number 5)
     ∷ (called waiting (plain 7 1000 2) gives number 5)
     ∷ (called waiting (flagged 7 2 0) gives number 5)
@@ -374,21 +355,6 @@ refusals =
     ∷ (called waiting (lends 3 1000 1 0 (replicate 32 0) [] [] [] (replicate 4 0)) gives number 0)
     ∷ (called waiting (lends 3 1000 1 0 (replicate 64 0) [] [] [] (replicate 4 0)) gives number 6)
     ∷ (called waiting (lends 9 1000 1 0 (replicate 64 0) [] [] [] (replicate 4 0)) gives number 0)
-    -- 6: entries that are not whole, in any step; counts that don't add up to the ids, in a pooled one, exactly and not modulo 2^32
-    ∷ (called waiting (pooling (replicate 11 0) (plain 7 1000 1)) gives number 6)
-    ∷ (called waiting (pooling (pool_entry 4 3) (plain 7 1000 1)) gives number 0)
-    ∷ (called waiting (pools (replicate 64 0) (pool_entry 4 2)) gives number 0)
-    ∷ (called waiting (pools (replicate 64 0) (pool_entry 4 1 ++ (pool_entry 5 0 ++ pool_entry 6 1))) gives number 0)
-    ∷ (called waiting (pools (replicate 64 0) (pool_entry 4 1)) gives number 6)
-    ∷ (called waiting (pools (replicate 64 0) (pool_entry 4 2 ++ pool_entry 5 1)) gives number 6)
-    ∷ (called waiting (pools (replicate 64 0) []) gives number 6)
-    ∷ (called waiting (pools (replicate 64 0) (pool_entry 4 4294967295 ++ pool_entry 5 3)) gives number 6)
-    -- 13: 17 lists; behind 6, before 7
-    ∷ (called waiting (pools [] (empty_lists 16)) gives number 0)
-    ∷ (called waiting (pools [] (empty_lists 17)) gives number 13)
-    ∷ (called waiting (pooling (empty_lists 17) (plain 7 1000 1)) gives number 13)
-    ∷ (called waiting (pools (replicate 32 0) (empty_lists 17)) gives number 6)
-    ∷ (called waiting (pooling (empty_lists 17) (lends 17 1000 1 0 [] [] [] (replicate 7 0) (replicate 4 0))) gives number 13)
     -- 7, 8, and 9: progress reads height 1 if a peer is listed and the chain is that high
     ∷ (called waiting (lends 7 1000 1 0 [] [] [] (replicate 7 0) (replicate 4 0)) gives number 7)
     ∷ (called waiting (lends 7 1000 1 0 [] [] [] [] (replicate 3 0)) gives number 8)
@@ -418,9 +384,9 @@ abbrev pub calls_read : List (Entry Case)
 calls_read =
     (taken new false gives (1 ∷ []) ∷ [])
     ∷ (taken seeking false gives (2 ∷ 16 ∷ []) ∷ [])
-    ∷ (taken syncing false gives (3 ∷ 4 ∷ 5 ∷ 6 ∷ 7 ∷ 8 ∷ 9 ∷ 10 ∷ 11 ∷ 12 ∷ 13 ∷ 16 ∷ 17 ∷ []) ∷ [])
-    ∷ (taken syncing true gives (3 ∷ 4 ∷ 5 ∷ 6 ∷ 7 ∷ 8 ∷ 9 ∷ 10 ∷ 11 ∷ 12 ∷ 13 ∷ 15 ∷ 16 ∷ 17 ∷ []) ∷ [])
-    ∷ (taken synced true gives (3 ∷ 4 ∷ 5 ∷ 6 ∷ 7 ∷ 8 ∷ 9 ∷ 10 ∷ 11 ∷ 12 ∷ 13 ∷ 14 ∷ 16 ∷ 17 ∷ []) ∷ [])
+    ∷ (taken syncing false gives (3 ∷ 4 ∷ 5 ∷ 6 ∷ 7 ∷ 8 ∷ 9 ∷ 10 ∷ 11 ∷ 12 ∷ 13 ∷ 16 ∷ []) ∷ [])
+    ∷ (taken syncing true gives (3 ∷ 4 ∷ 5 ∷ 6 ∷ 7 ∷ 8 ∷ 9 ∷ 10 ∷ 11 ∷ 12 ∷ 13 ∷ 15 ∷ 16 ∷ []) ∷ [])
+    ∷ (taken synced true gives (3 ∷ 4 ∷ 5 ∷ 6 ∷ 7 ∷ 8 ∷ 9 ∷ 10 ∷ 11 ∷ 12 ∷ 13 ∷ 14 ∷ 16 ∷ []) ∷ [])
     ∷ (taken ended false gives [] ∷ [])
     ∷ (step_read (lending 1) gives (1 ∷ []) ∷ [])
     ∷ (step_read (lending 2) gives (2 ∷ []) ∷ [])
@@ -440,9 +406,6 @@ calls_read =
     ∷ (step_read (lending 14) gives (14 ∷ []) ∷ [])
     ∷ (step_read (lending 15) gives (15 ∷ []) ∷ [])
     ∷ (step_read (lending 16) gives (16 ∷ []) ∷ [])
-    ∷ (step_read (lending 17) gives (17 ∷ 104 ∷ []) ∷ [])
-    ∷ (step_read (pools (to_be 32 5 ++ (to_be 32 6 ++ to_be 32 7)) (pool_entry 258 2 ++ (pool_entry 8 0 ++ pool_entry 7 1))) gives
-    (17 ∷ 104 ∷ []) ∷ (258 ∷ 5 ∷ 6 ∷ []) ∷ (8 ∷ []) ∷ (7 ∷ 7 ∷ []) ∷ [])
     ∷ (args_read (lending 7) gives (1000 ∷ 1 ∷ 50 ∷ []) ∷ (4 ∷ []) ∷ (255 ∷ []) ∷ (101 ∷ 8 ∷ []) ∷ [])
     ∷ (args_read (plain 7 5 0) gives (5 ∷ 0 ∷ 0 ∷ []) ∷ [] ∷ [] ∷ []) ∷ []
 
@@ -500,40 +463,6 @@ announced_ids =
     ∷ (in_runs 801 gives (400 ∷ 400 ∷ 1 ∷ []) ∷ [])
     ∷ (in_commands (401 ∷ 2 ∷ []) gives
     (1 ∷ 102 ∷ 0 ∷ 7 ∷ 400 ∷ 400 ∷ 1 ∷ []) ∷ (1 ∷ 102 ∷ 0 ∷ 7 ∷ 1 ∷ 0 ∷ 0 ∷ []) ∷ (1 ∷ 102 ∷ 1 ∷ 7 ∷ 2 ∷ 1 ∷ 0 ∷ []) ∷ []) ∷ []
-
--- Pooled announcements (F-9).
-abbrev pub pooled_lists : List (Entry Case)
-pooled_lists =
-    -- to the peer of the first list that holds it, once; each list a batch
-    (sends syncing_core (at 50 (pooled 102 (of_peer 8 (6 ∷ 5 ∷ 6 ∷ []) ∷ of_peer 9 (5 ∷ 4 ∷ 5 ∷ []) ∷ []))) gives
-    (0 ∷ 2 ∷ []) ∷ requests 0 102 8 (6 ∷ 5 ∷ []) ∷ requests 1 102 9 (4 ∷ [])
-    ∷ pending 4 102 9 50 0 ∷ pending 5 102 8 50 0 ∷ pending 6 102 8 50 0 ∷ [])
-    -- two lists of one peer
-    ∷ (sends synced_core (at 50 (pooled 2 (of_peer 8 (6 ∷ []) ∷ of_peer 8 (5 ∷ []) ∷ []))) gives
-    (0 ∷ 3 ∷ []) ∷ requests 0 2 8 (6 ∷ []) ∷ requests 1 2 8 (5 ∷ []) ∷ pending 5 2 8 50 0 ∷ pending 6 2 8 50 0 ∷ [])
-    -- nothing left of the first and the third, none in the second: no number
-    ∷ (sends (holding syncing (waits 5 102 7 0 1 ∷ []))
-    (at 50 (pooled 102 (of_peer 8 (5 ∷ []) ∷ of_peer 9 [] ∷ of_peer 4 (5 ∷ 5 ∷ []) ∷ of_peer 9 (6 ∷ 5 ∷ []) ∷ []))) gives
-    (0 ∷ 2 ∷ []) ∷ requests 0 102 9 (6 ∷ []) ∷ pending 5 102 7 0 1 ∷ pending 6 102 9 50 0 ∷ [])
-    -- stored under this type, and under another
-    ∷ (sends syncing_core (storing (at 50 (pooled 102 (of_peer 8 (6 ∷ []) ∷ of_peer 9 (6 ∷ 5 ∷ []) ∷ []))) (pair 101 5 ∷ pair 102 6 ∷ [])) gives
-    (0 ∷ 2 ∷ []) ∷ requests 0 102 9 (5 ∷ []) ∷ pending 5 102 9 50 0 ∷ [])
-    -- an empty list of headers from the sync peer is no reason to be synced
-    ∷ (leaves syncing_core (at 50 (pooled 101 (of_peer 7 [] ∷ []))) gives
-    (0 ∷ 2 ∷ []) ∷ (7 ∷ 0 ∷ 0 ∷ []) ∷ (50 ∷ 0 ∷ 0 ∷ 0 ∷ []) ∷ (0 ∷ 0 ∷ []) ∷ [] ∷ [] ∷ [])
-    -- the entry mark is cleared, and nothing else
-    ∷ (leaves marked_core (at 50 (pooled 102 (of_peer 8 (5 ∷ []) ∷ []))) gives
-    (0 ∷ 2 ∷ []) ∷ (7 ∷ 0 ∷ 0 ∷ []) ∷ (50 ∷ 0 ∷ 0 ∷ 0 ∷ []) ∷ (1 ∷ 0 ∷ []) ∷ [] ∷ [] ∷ [])
-    -- a type that is not announced; gate shut; no lists
-    ∷ (sends syncing_core (at 50 (pooled 103 (of_peer 8 (5 ∷ []) ∷ []))) gives (0 ∷ 2 ∷ []) ∷ [])
-    ∷ (sends syncing_core (gate_shut (at 50 (pooled 102 (of_peer 8 (5 ∷ []) ∷ [])))) gives (0 ∷ 2 ∷ []) ∷ [])
-    ∷ (sends syncing_core (at 50 (pooled 102 [])) gives (0 ∷ 2 ∷ []) ∷ [])
-    -- 10: by the end; ids that are met again take no room
-    ∷ (refused_as full_core (at 0 (pooled 102 (of_peer 8 (5000 ∷ 5000 ∷ []) ∷ of_peer 9 (5000 ∷ []) ∷ []))) gives number 0)
-    ∷ (refused_as full_core (at 0 (pooled 102 (of_peer 8 (5000 ∷ []) ∷ of_peer 9 (5001 ∷ []) ∷ []))) gives number 10)
-    -- the figures: three lists, one of them with nothing left
-    ∷ (forecast syncing_core (at 50 (pooled 102 (of_peer 8 (5 ∷ 6 ∷ []) ∷ of_peer 9 (6 ∷ []) ∷ of_peer 8 (7 ∷ []) ∷ []))) gives
-    (0 ∷ 0 ∷ 3 ∷ 0 ∷ 2 ∷ 130 ∷ []) ∷ []) ∷ []
 
 -- Rule 4, by progress in synced, which runs no other: peers 5 and 6.
 abbrev pub windows : List (Entry Case)
@@ -941,20 +870,3 @@ means =
     ∷ (mean latest (2 ^ 63 ∷ 0 ∷ 2 ^ 63 ∷ []) gives (0 ∷ 3 ∷ 12297829382473034409 ∷ 2 ∷ []) ∷ [])
     ∷ (mean latest (1 ∷ replicate 1023 0) gives (0 ∷ 1024 ∷ (latest - 1) ∷ 1023 ∷ []) ∷ [])
     ∷ (mean latest (replicate 1024 0) gives (0 ∷ 1024 ∷ latest ∷ 0 ∷ []) ∷ []) ∷ []
-
--- Each case of each table gives what it should.
-pub record EdgesHold : Type 0 where
-  pub refusal_cases : Hold found refusals
-  pub call_read_cases : Hold found calls_read
-  pub pick_and_send_cases : Hold found picks_and_sends
-  pub announced_id_cases : Hold found announced_ids
-  pub pooled_list_cases : Hold found pooled_lists
-  pub window_cases : Hold found windows
-  pub view_reader_cases : Hold found view_readers
-  pub advance_cases : Hold found advances
-  pub delivery_check_cases : Hold found delivery_checks
-  pub retry_target_cases : Hold found retry_targets
-  pub message_cases : Hold found messages
-  pub mode_step_cases : Hold found mode_steps
-  pub forecast_cases : Hold found forecasts
-  pub mean_cases : Hold found means

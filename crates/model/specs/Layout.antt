@@ -37,10 +37,6 @@ command_header = 17
 abbrev pub command_size : ℕ
 command_size = 49
 
--- F-9: "for each list an entry of peer, 8 bytes, and count, 4"
-abbrev pub pool_entry_size : ℕ
-pool_entry_size = 12
-
 -- ---- the areas
 
 abbrev pub area_size : ℕ

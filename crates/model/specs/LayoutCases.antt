@@ -13,7 +13,7 @@ use Rattle.model.specs.Calls.{Call, question_pairs, step_refusal}
 use Rattle.model.specs.Forecast.{forecast}
 use Rattle.model.specs.MeanAge.{mean_age}
 use Rattle.model.specs.Cases.{syncing_state}
-use Rattle.model.specs.CaseTables.{Entry, ◌gives◌, Hold, plain, forecast_numbers, mean_numbers}
+use Rattle.model.specs.CaseTables.{Entry, ◌gives◌, plain, forecast_numbers, mean_numbers}
 
 pub data Case : Type 0 where
   -- a state's header; parts of its whole area: an offset and at most so many bytes from there on, and so on
@@ -474,10 +474,3 @@ whole_areas =
     ∷ (aged (with_bytes (2609 ∷ 0xe7 ∷ []) whole_area) 1200 gives (0 ∷ 2 ∷ 200 ∷ 1 ∷ []) ∷ [])
     ∷ (aged (with_bytes (4 ∷ 1 ∷ 2609 ∷ 0xe7 ∷ []) whole_area) 1200 gives (0 ∷ 2 ∷ 200 ∷ 1 ∷ []) ∷ [])
     ∷ (aged (with_bytes (2609 ∷ 0xe7 ∷ []) whole_area) 1000 gives (0 ∷ 2 ∷ 0 ∷ 1 ∷ []) ∷ []) ∷ []
-
--- Each case of each table gives what it should.
-pub record LayoutsHold : Type 0 where
-  pub layout_cases : Hold found layouts
-  pub list_cases : Hold found list_tests
-  pub area_cases : Hold found area_tests
-  pub whole_area_cases : Hold found whole_areas

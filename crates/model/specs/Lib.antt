@@ -1,7 +1,6 @@
 pub mod Layout
 pub mod LayoutCases
 pub mod Book
-pub mod BookCases
 pub mod Calls
 pub mod Cases
 pub mod CaseTables
@@ -9,7 +8,6 @@ pub mod Check
 pub mod Commands
 pub mod Delivery
 pub mod Demand3
-pub mod Demand3Edges
 pub mod EdgeCases
 pub mod Events
 pub mod Forecast
@@ -18,13 +16,11 @@ pub mod Image
 pub mod Lists
 pub mod MeanAge
 pub mod Peers
-pub mod Pooled
 pub mod Protocol
 pub mod Requests
 pub mod Runs
 pub mod Sections
 pub mod Settings
-pub mod Shared
 pub mod State
 pub mod Steps
 pub mod Versions

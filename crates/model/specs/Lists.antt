@@ -4,11 +4,10 @@ use Rattle.std.proofs.Math.Option.{Option, none, some}
 use Rattle.fields.specs.Number.{from_be}
 use Rattle.fields.specs.Zero.{all_zero}
 use Rattle.fields.specs.Entries.{entries, entry, rising}
-use Rattle.model.specs.Protocol.{Id, list_limit, continuation_limit, peer_limit, pool_limit}
+use Rattle.model.specs.Protocol.{Id, list_limit, continuation_limit, peer_limit}
 use Rattle.model.specs.Requests.{Pair}
 use Rattle.model.specs.Sections.{Section, Header, absent, present, View}
-use Rattle.model.specs.Requests.{PeerIds}
-use Rattle.model.specs.Layout.{id_size, pair_size, peer_size, place_size, pool_entry_size, row_size, type_size}
+use Rattle.model.specs.Layout.{id_size, pair_size, peer_size, place_size, row_size, type_size}
 
 -- whole entries, at most so many
 unfoldable pub list_fits : ℕ → ℕ → List ℕ → Bool
@@ -49,38 +48,6 @@ pairs_fit bytes = list_fits pair_size list_limit bytes && rising pair_size (entr
 -- "peers, 8 bytes each, at most 128"
 unfoldable pub peers_fit : List ℕ → Bool
 peers_fit bytes = list_fits peer_size peer_limit bytes
-
--- F-9: "for each list an entry of peer, 8 bytes, and count, 4", here called the pool.
-pub record PoolEntry : Type 0 where
-  pub peer : ℕ
-  pub count : ℕ
-
-unfoldable pub pool_entry_of : List ℕ → PoolEntry
-pool_entry_of bytes = record { peer = from_be (take peer_size bytes); count = from_be (drop peer_size bytes) }
-
-unfoldable pub pool_in : List ℕ → List PoolEntry
-pool_in bytes = map pool_entry_of (entries_of pool_entry_size bytes)
-
-abbrev pub counted : List PoolEntry → ℕ
-counted [] = 0
-counted (e ∷ pool) = e.count + counted pool
-
--- "their ids joined": the lists by their counts
-abbrev pub lists_in : List PoolEntry → List Id → List PeerIds
-lists_in [] ids = []
-lists_in (e ∷ pool) ids = record { peer = e.peer; ids = take e.count ids } ∷ lists_in pool (drop e.count ids)
-
--- whole entries
-unfoldable pub pool_whole : List ℕ → Bool
-pool_whole bytes = eqb (length bytes % pool_entry_size) 0
-
--- "counts that don't add up to the ids"
-unfoldable pub pool_adds_up : List ℕ → List ℕ → Bool
-pool_adds_up bytes ids = eqb (counted (pool_in bytes)) (length ids / id_size)
-
--- 13: "more than 16 lists"
-unfoldable pub pool_few : List ℕ → Bool
-pool_few bytes = leb (length bytes) (pool_limit * pool_entry_size)
 
 -- A row: "count 0 to 3 or 255 (header absent), then three places of type, id, stored 0 or 1; unused places zero".
 unfoldable pub section_of : List ℕ → Section

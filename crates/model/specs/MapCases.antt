@@ -3,7 +3,7 @@ use Rattle.std.specs.Prelude.{ℕ, true, false, cond, List, [], ◌∷◌, ◌++
 use Rattle.std.proofs.Math.Option.{some}
 use Rattle.fields.specs.Number.{to_be}
 use Rattle.model.specs.Sections.{View, present}
-use Rattle.model.specs.CaseTables.{Entry, ◌gives◌, Hold}
+use Rattle.model.specs.CaseTables.{Entry, ◌gives◌}
 use Rattle.model.specs.WindowMap.{Cell, mark, filled, slid, complete_run, Mapped, map_passable}
 use Rattle.model.specs.MapBytes.{run_over_words}
 use Rattle.model.specs.MapRuns.{MapCall, fill, change, slide, map_called}
@@ -276,14 +276,3 @@ malformed =
     ∷ (spoilt (fill 0 3 three) 67 64 gives refused_all)
     ∷ (spoilt (fill 0 3 three) 256 1 gives refused_all)
     ∷ (spoilt (fill 0 3 three) 511 1 gives refused_all) ∷ []
-
--- Each case of each table gives what it should.
-pub record MapCasesHold : Type 0 where
-  pub arrival_cases : Hold found arrivals
-  pub edge_cases : Hold found edges
-  pub slide_cases : Hold found slides
-  pub window_cases : Hold found windows
-  pub fill_cases : Hold found fills
-  pub slid_window_cases : Hold found slid_windows
-  pub written_cases : Hold found written
-  pub malformed_cases : Hold found malformed

@@ -14,8 +14,6 @@ pub mod Batches
 pub mod Refusals
 pub mod Runs
 pub mod Maps
-pub mod Questions
-pub mod Openings
 
 -- All promises of a finished call.
 pub record Promises (s : Words.Seen) : Type 0 where
@@ -35,7 +33,7 @@ pub record Promises (s : Words.Seen) : Type 0 where
   pub evicted : Pending.Evicted s
   pub told : Told.Told s
 
--- For any finished call on any areas. Refusals, runs, the map, the question and the opening have statements of their own
--- (Promises.Refusals, Runs, Maps, Questions, Openings).
+-- For any finished call on any areas. Refusals, runs and the map have statements of their own (Promises.Refusals,
+-- Promises.Runs, Promises.Maps).
 abbrev pub AnyFinished : Type 0
 AnyFinished = Words.Promised Promises

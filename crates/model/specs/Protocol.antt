@@ -51,7 +51,3 @@ continuation_limit = 400
 -- "peers, 8 bytes each, at most 128"
 abbrev pub peer_limit : ℕ
 peer_limit = 128
-
--- F-9: "up to 16 lists of one type"
-abbrev pub pool_limit : ℕ
-pool_limit = 16

@@ -65,21 +65,6 @@ unfoldable pub wanted : List Request → ℕ → List Pair → List Id → List 
 wanted pending type_id pairs ids =
     kept (λ (id : Id). not (is_stored pairs type_id id)) (kept (λ (id : Id). not (is_pending id pending)) ids)
 
--- F-9: a list of ids, and the peer that announces it.
-pub record PeerIds : Type 0 where
-  pub peer : ℕ
-  pub ids : List Id
-
--- F-9: "Repeats of an id in one list shrink to one".
-unfoldable pub once : List Id → List Id
-once [] = []
-once (id ∷ ids) = id ∷ kept (λ (other : Id). not (same other id)) (once ids)
-
--- F-9: "each id neither pending nor stored goes, one time, to the peer of the first list that holds it": when a list is asked for, those
--- before it are pending. "Each list is a batch of its own".
-unfoldable pub ask_pooled : ℕ → List Pair → List PeerIds → List Act
-ask_pooled type_id pairs lists = map (λ (l : PeerIds). ask type_id l.peer pairs (once l.ids)) lists
-
 -- A list from which nothing is left sends nothing and takes no batch number.
 abbrev pub request_of : ℕ → ℕ → List Id → List Sending
 request_of type_id peer [] = []

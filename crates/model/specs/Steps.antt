@@ -9,14 +9,14 @@ use Rattle.model.specs.Delivery.{Request, orphans_of}
 use Rattle.model.specs.State.{Mode, new, seeking, syncing, synced, ended, is_mode, has_sync_peer, SendClock, Sync, State}
 use Rattle.model.specs.State.{with_downloaded, with_last_progress, with_send_clock, with_known_tip, with_stalled_peers, with_evicted, with_sync_peer}
 use Rattle.model.specs.Peers.{first_of, select_peer, stalled_after_select, join_stalled, send_sync_info, reset_sends}
-use Rattle.model.specs.Requests.{Pair, Sending, Act, ask, PeerIds, ask_pooled, Done, perform_all, sync_info_to, Command, commands_from}
+use Rattle.model.specs.Requests.{Pair, Sending, Act, ask, Done, perform_all, sync_info_to, Command, commands_from}
 use Rattle.model.specs.Sections.{View, Item, Batch, batches_of, Advance, advance_downloaded_height, Sections, request_next_sections}
 use Rattle.model.specs.Check.{retry_target, retries, mark_all_retried, retry_sendings, ask_fresh}
 use Rattle.model.specs.Events.{Outcome, Continue, Synced, BehindPeer, SyncPeerGone, Stalled, EndOfStream, tip_outcome, raised_tip, continuation}
 
 -- The kinds of steps, with what only they read: "start, pick, control event, message, lost peer, received ids, evicted ids,
 -- progress, check, scheduled and section tick, send failure, end of stream". A control event is a needed modifier or a
--- reorg; a message is a list of announced ids, a sync info or another. F-9 adds pooled announcements.
+-- reorg; a message is a list of announced ids, a sync info or another.
 pub data Step : Type 0 where
   start pick progress check scheduled_tick section_tick send_failure end_of_stream other_message : Step
   needed_modifier : ℕ → List Id → Step
@@ -26,7 +26,6 @@ pub data Step : Type 0 where
   lost_peer : ℕ → Step
   received : List Id → Step
   evicted : List Id → Step
-  pooled : ℕ → List PeerIds → Step
 
 -- What a step is given.
 pub record Args : Type 0 where
@@ -56,7 +55,6 @@ of_mode mode entry_sent (sync_info peer parsed tip ids) = has_sync_peer mode
 of_mode mode entry_sent (lost_peer peer) = has_sync_peer mode
 of_mode mode entry_sent (received ids) = has_sync_peer mode
 of_mode mode entry_sent (evicted ids) = has_sync_peer mode
-of_mode mode entry_sent (pooled type_id lists) = has_sync_peer mode
 
 abbrev pub is_check : Step → Bool
 is_check start = false
@@ -75,7 +73,6 @@ is_check (sync_info peer parsed tip ids) = false
 is_check (lost_peer peer) = false
 is_check (received ids) = false
 is_check (evicted ids) = false
-is_check (pooled type_id lists) = false
 
 -- What a step comes to, but for pending requests: outcome, mode, what it asks for and sends, the rest of the state, and whether
 -- every height that it read is in the view.
@@ -193,10 +190,6 @@ module _ (st : State) (a : Args) where
   hears_announced peer type_id [] = cond (tells_tip peer type_id) (is_at_tip [] st.sync.known_tip) (continues [])
   hears_announced peer type_id (id ∷ ids) = continues (cond (is_announceable type_id) (ask type_id peer a.stored (id ∷ ids) ∷ []) [])
 
-  -- F-9: "a type that rule 7 doesn't request sends nothing". Empty lists are no reason for Synced.
-  unfoldable pub hears_pooled : ℕ → List PeerIds → Plan
-  hears_pooled type_id lists = continues (cond (is_announceable type_id) (ask_pooled type_id a.stored lists) [])
-
   -- the lost peer's non-transactions by type, for the first listed peer
   unfoldable pub ask_orphans : ℕ → Option ℕ → List Act
   ask_orphans lost none = []
@@ -296,7 +289,6 @@ module _ (st : State) (a : Args) where
   plan_of (lost_peer peer) = loses peer
   plan_of (received ids) = advances st.mode
   plan_of (evicted ids) = evicts ids
-  plan_of (pooled type_id lists) = hears_pooled type_id lists
 
   unfoldable pub plan : Plan
   plan = plan_of a.step
@@ -319,7 +311,6 @@ module _ (st : State) (a : Args) where
   remaining (lost_peer peer) = cond (eqb peer st.sync.sync_peer && is_mode st.mode syncing) (delivery.purge_peer peer st.pending) st.pending
   remaining (received ids) = delivery.mark_received ids st.pending
   remaining (evicted ids) = delivery.pending_after_eviction ids st.pending
-  remaining (pooled type_id lists) = st.pending
 
   -- the retries of a check
   unfoldable pub retried : List Item

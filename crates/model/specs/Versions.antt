@@ -1,6 +1,6 @@
 -- F-6: an image with another version written into it: what version 1 wrote, and what version 2 makes of it.
-use Rattle.std.specs.Prelude.{ℕ, ◌<◌, ◌^◌, ◌≡◌, ◌⊎◌, true, List, length}
-use Rattle.fields.specs.Facts.{All, Bytes}
+use Rattle.std.specs.Prelude.{ℕ, ◌<◌, ◌^◌, ◌≡◌, ◌⊎◌, true, List}
+use Rattle.fields.specs.Facts.{All}
 use Rattle.fields.specs.Number.{to_be}
 use Rattle.fields.specs.Overwrite.{overwritten}
 use Rattle.model.specs.Delivery.{Request}
@@ -9,7 +9,6 @@ use Rattle.model.specs.Image.{newest_version, version, encode, decode, well_form
 use Rattle.model.specs.Calls.{Call, step, question}
 use Rattle.model.specs.Forecast.{forecast}
 use Rattle.model.specs.MeanAge.{mean_age}
-use Rattle.model.specs.Layout.{area_size}
 
 -- The image with a version's number.
 unfoldable pub as_version : ℕ → List ℕ → List ℕ
@@ -42,32 +41,3 @@ pub record SameAsNewest (area : List ℕ) : Type 0 where
   pub asked : (commands : List ℕ) (flag : ℕ) → question area commands flag ≡ question (as_newest area) commands flag
   pub foretold : (call : Call) → forecast area call ≡ forecast (as_newest area) call
   pub aged : (clock : ℕ) → mean_age area clock ≡ mean_age (as_newest area) clock
-
--- ---- F-6, entire
-
--- Of every well-formed area, of version 1 or 2: what it means, and what every entry answers, is what
--- it is as version 2.
-abbrev pub NewestHolds : Type 0
-NewestHolds =
-    (area : List ℕ) → length area ≡ area_size → Bytes area → well_formed area ≡ true → SameAsNewest area
-
--- Of every state that an area can hold, if its types are what version 1 can say: what version 1 wrote
--- of it is read as that state.
-abbrev pub FirstHolds : Type 0
-FirstHolds =
-    (area : List ℕ) → length area ≡ area_size → Bytes area → well_formed area ≡ true
-    → All (λ (r : Request). r.type_id < 2 ^ 8) (decode area).pending → ReadAsFirst (decode area)
-
--- ---- there and back
-
--- The image of what a well-formed area means: of version 2, with that meaning, and the area itself
--- where it is of version 2.
-pub record WrittenBack (area : List ℕ) : Type 0 where
-  pub meaning : decode (encode (decode area)) ≡ decode area
-  pub formed : well_formed (encode (decode area)) ≡ true
-  pub size : length (encode (decode area)) ≡ area_size
-  pub same : version area ≡ newest_version → encode (decode area) ≡ area
-
-abbrev pub AllWrittenBack : Type 0
-AllWrittenBack =
-    (area : List ℕ) → length area ≡ area_size → Bytes area → well_formed area ≡ true → WrittenBack area

@@ -31,14 +31,6 @@ pub const COMMAND_HEADER: usize = 17;
 // A request for one id.
 pub const COMMAND_SIZE: usize = 49;
 
-// A pool's entry, and where in it the count stands behind the peer.
-pub const POOL_ENTRY_SIZE: usize = 12;
-
-pub const POOL_COUNT_AT: usize = 8;
-
-// Most lists in a pool.
-pub const POOL_LIMIT: usize = 16;
-
 pub const AREA_SIZE: usize = 65536;
 
 pub const STALLED_AT: usize = 512;

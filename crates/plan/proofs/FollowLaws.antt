@@ -12,7 +12,7 @@ use Rattle.model.specs.Events as events
 use Rattle.model.specs.Check.{retry_target, retries}
 use Rattle.model.specs.Requests.{ask}
 use Rattle.model.specs.Peers.{first_of, select_peer}
-use Rattle.model.specs.Lists.{ids_in, peers_in, pairs_in, pool_in, lists_in}
+use Rattle.model.specs.Lists.{ids_in, peers_in, pairs_in}
 use Rattle.model.specs.Steps as steps
 use Rattle.model.specs.Steps.{Step, is_check, plan_of, remaining}
 use Rattle.model.specs.Calls.{Call, step_of, args_of}
@@ -21,7 +21,7 @@ use Rattle.peers.specs.Aims.{aimed_at}
 use Rattle.peers.specs.declared.aim.Aim.{Aim}
 use Rattle.plan.specs.declared.Plan.{Plan}
 use Rattle.plan.specs.declared.Work.{Work}
-use Rattle.plan.specs.declared.Work.TheVariants.{Nothing, Ids, Pooled, Sections, Received, Evicted, Purge, PurgeSections, Lose, LoseAsk, Check, CheckFresh}
+use Rattle.plan.specs.declared.Work.TheVariants.{Nothing, Ids, Sections, Received, Evicted, Purge, PurgeSections, Lose, LoseAsk, Check, CheckFresh}
 use Rattle.plan.specs.Plans.{Follows, is_quiet, is_check_by, aim_by, remaining_by, retried_by, evicted_by, sketch_in, sketch_of, head_by}
 use Rattle.plan.specs.Plans.{sections_work, check_work, lose_work}
 use Rattle.plan.proofs.AimedLaws.{retries_alike}
@@ -33,7 +33,6 @@ module _ (st : State) (c : Call) where
   quiet : (w : Work) → is_quiet w ≡ true → (remaining_by st c w ≡ st.pending) × (evicted_by st c w ≡ st.sync.evicted) × (is_check_by w ≡ false)
   quiet Nothing q = (refl, refl, refl)
   quiet (Ids peer) q = (refl, refl, refl)
-  quiet Pooled q = (refl, refl, refl)
   quiet (Sections peer) q = (refl, refl, refl)
   quiet Received q = absurd (false≢true q)
   quiet Evicted q = absurd (false≢true q)
@@ -152,15 +151,10 @@ module _ (st : State) (c : Call) where
     unfolding step_of plan_of remaining steps.leaves steps.without_peer
     failure_follows e q k = follows-quietly p steps.send_failure (rw e) k q refl refl refl
 
-    pub end_follows : c.kind ≡ 16 → is_quiet p.work ≡ true
+    pub end_follows : (c.kind < 1) ⊎ (16 ≤ c.kind) → is_quiet p.work ≡ true
         → sketch_in st c p ≡ sketch_of st c (steps.leaves st (args_of c) events.EndOfStream (cond (is_mode st.mode seeking) ended seeking) []) → Follows st c p
-    unfolding step_of plan_of remaining steps.leaves steps.without_peer
-    end_follows e q k = follows-quietly p steps.end_of_stream (rw e) k q refl refl refl
-
-    pub pooled_follows : (c.kind < 1) ⊎ (17 ≤ c.kind) → is_quiet p.work ≡ true
-        → sketch_in st c p ≡ sketch_of st c (steps.hears_pooled st (args_of c) c.typeid (lists_in (pool_in c.pool) (ids_in c.ids))) → Follows st c p
-    unfolding plan_of remaining steps.hears_pooled steps.continues steps.unmarked
-    pooled_follows e q k = follows-quietly p (steps.pooled c.typeid (lists_in (pool_in c.pool) (ids_in c.ids))) (last_kind c e) k q refl refl refl
+    unfolding plan_of remaining steps.leaves steps.without_peer
+    end_follows e q k = follows-quietly p steps.end_of_stream (last_kind c e) k q refl refl refl
 
     -- ---- those that take out
 

@@ -9,14 +9,13 @@ use native.Mathlib.Omega.{arith}
 use lib.Dec.{eqb}
 use borrow.Author.Tests.{ne_eqb}
 use Rattle.model.specs.Steps as steps
-use Rattle.model.specs.Lists.{ids_in, pool_in, lists_in}
 use Rattle.model.specs.Calls.{Call, step_of}
 
 above : (k n : ℕ) → n < k → eqb k n ≡ false
 above k n h = ne_eqb k n (λ e. absurd (lt_irrefl 0 (omega arith)))
 
--- a kind outside 1 to 16 is read as pooled ids
-pub last_kind : (c : Call) → (c.kind < 1) ⊎ (17 ≤ c.kind) → step_of c ≡ steps.pooled c.typeid (lists_in (pool_in c.pool) (ids_in c.ids))
+-- a kind outside 1 to 15 is read as the end of the stream
+pub last_kind : (c : Call) → (c.kind < 1) ⊎ (16 ≤ c.kind) → step_of c ≡ steps.end_of_stream
 unfolding step_of
 last_kind c =
     ⊎_elim
@@ -39,7 +38,6 @@ last_kind c =
       above k 13 (omega arith),
       above k 14 (omega arith),
       above k 15 (omega arith),
-      above k 16 (omega arith),
     ))
 
 -- n is ruled out

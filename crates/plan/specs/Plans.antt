@@ -4,12 +4,12 @@ use Rattle.std.proofs.Math.Option.{Option, none, some}
 use Rattle.model.specs.Protocol.{Id}
 use Rattle.model.specs.Delivery.{Request, mark_received, pending_after_eviction, evicted_after_eviction, purge_all, purge_peer, check_timeouts}
 use Rattle.model.specs.State.{Mode, Sync, State, with_evicted}
-use Rattle.model.specs.Requests.{Act, ask, ask_pooled, send, sync_info}
+use Rattle.model.specs.Requests.{Act, ask, send, sync_info}
 use Rattle.model.specs.Sections.{Item, request_sections_from}
 use Rattle.model.specs.Check.{retries, ask_fresh}
 use Rattle.model.specs.Events.{outcome_number, announce}
 use Rattle.model.specs.Steps as steps
-use Rattle.model.specs.Lists.{ids_in, pairs_in, view_of, pool_in, lists_in}
+use Rattle.model.specs.Lists.{ids_in, pairs_in, view_of}
 use Rattle.model.specs.Calls as calls
 use Rattle.model.specs.Calls.{step_of, args_of}
 use Rattle.peers.specs.Peers.{listed_peer}
@@ -20,7 +20,7 @@ use Rattle.image.specs.declared.head.Head.{Head}
 use Rattle.image.specs.Heads.{head_of}
 use Rattle.plan.specs.declared.Call.{Call}
 use Rattle.plan.specs.declared.Work.{Work}
-use Rattle.plan.specs.declared.Work.TheVariants.{Nothing, Ids, Pooled, Sections, Received, Evicted, Purge, PurgeSections, Lose, LoseAsk, Check, CheckFresh}
+use Rattle.plan.specs.declared.Work.TheVariants.{Nothing, Ids, Sections, Received, Evicted, Purge, PurgeSections, Lose, LoseAsk, Check, CheckFresh}
 use Rattle.plan.specs.declared.Stalling.{Stalling}
 use Rattle.plan.specs.declared.Stalling.TheVariants.{Stay, Empty, Join}
 use Rattle.plan.specs.declared.Plan.{Plan}
@@ -38,8 +38,8 @@ pub record Shows (c : calls.Call) (shown : Shown) : Type 0 where
   pub view : c.view ≡ shown.view.bytes.now
 
 -- a call from its numbers and its lists
-unfoldable pub call_of : Call → List ℕ → List ℕ → List ℕ → List ℕ → List ℕ → List ℕ → calls.Call
-call_of n ids continuation stored peers view pool =
+unfoldable pub call_of : Call → List ℕ → List ℕ → List ℕ → List ℕ → List ℕ → calls.Call
+call_of n ids continuation stored peers view =
     record {
       kind = n.kind;
       clock = n.clock;
@@ -56,13 +56,11 @@ call_of n ids continuation stored peers view pool =
       stored = stored;
       peers = peers;
       view = view;
-      pool = pool;
     }
 
 abbrev pub is_check_by : Work → Bool
 is_check_by Nothing = false
 is_check_by (Ids peer) = false
-is_check_by Pooled = false
 is_check_by (Sections peer) = false
 is_check_by Received = false
 is_check_by Evicted = false
@@ -77,7 +75,6 @@ is_check_by (CheckFresh peer aim) = true
 abbrev pub aim_by : Work → Aim
 aim_by Nothing = Same
 aim_by (Ids peer) = Same
-aim_by Pooled = Same
 aim_by (Sections peer) = Same
 aim_by Received = Same
 aim_by Evicted = Same
@@ -92,7 +89,6 @@ aim_by (CheckFresh peer aim) = aim
 abbrev pub is_quiet : Work → Bool
 is_quiet Nothing = true
 is_quiet (Ids peer) = true
-is_quiet Pooled = true
 is_quiet (Sections peer) = true
 is_quiet Received = false
 is_quiet Evicted = false
@@ -144,7 +140,6 @@ module _ (st : State) (c : calls.Call) where
   abbrev pub remaining_by : Work → List Request
   remaining_by Nothing = st.pending
   remaining_by (Ids peer) = st.pending
-  remaining_by Pooled = st.pending
   remaining_by (Sections peer) = st.pending
   remaining_by Received = mark_received (ids_in c.ids) st.pending
   remaining_by Evicted = pending_after_eviction (ids_in c.ids) st.pending
@@ -163,7 +158,6 @@ module _ (st : State) (c : calls.Call) where
   abbrev pub evicted_by : Work → List Id
   evicted_by Nothing = st.sync.evicted
   evicted_by (Ids peer) = st.sync.evicted
-  evicted_by Pooled = st.sync.evicted
   evicted_by (Sections peer) = st.sync.evicted
   evicted_by Received = st.sync.evicted
   evicted_by Evicted = evicted_after_eviction (ids_in c.ids) st.sync.evicted
@@ -178,7 +172,6 @@ module _ (st : State) (c : calls.Call) where
   abbrev pub acts_by : ℕ → Work → List Act
   acts_by height Nothing = []
   acts_by height (Ids peer) = ask c.typeid peer (pairs_in c.stored) (ids_in c.ids) ∷ []
-  acts_by height Pooled = ask_pooled c.typeid (pairs_in c.stored) (lists_in (pool_in c.pool) (ids_in c.ids))
   acts_by height (Sections peer) = (request_sections_from (view_of c.view) c.height height (some peer)).acts
   acts_by height Received = []
   acts_by height Evicted = []

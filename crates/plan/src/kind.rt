@@ -32,5 +32,3 @@ pub const SECTION_TICK: u8 = 14;
 pub const SEND_FAILURE: u8 = 15;
 
 pub const END_OF_STREAM: u8 = 16;
-
-pub const POOLED: u8 = 17;

@@ -40,8 +40,6 @@ pub enum Work {
     Nothing,
     // rule 3, the listed ids
     Ids(u64),
-    // rule 3, each pooled list to its peer
-    Pooled,
     // rule 4
     Sections(u64),
     Received,

@@ -25,16 +25,12 @@ use image::head::Head;
 pub fn sections_work(purges: bool, peers: &[u8]) -> Work
     ensures { result ≡ sections_work purges (first_of (peers_in peers.now)) }
 {
-    let Some(peer) = peers::first_listed(peers) else {
-        if purges {
-            return Work::Purge;
-        }
-        return Work::Nothing;
-    };
-    if purges {
-        return Work::PurgeSections(peer);
+    match (peers::first_listed(peers), purges) {
+        (None, false) => Work::Nothing,
+        (None, true) => Work::Purge,
+        (Some(peer), false) => Work::Sections(peer),
+        (Some(peer), true) => Work::PurgeSections(peer),
     }
-    Work::Sections(peer)
 }
 
 // Whether all heights that rule 4 reads are in the view.
@@ -42,10 +38,10 @@ pub fn sections_work(purges: bool, peers: &[u8]) -> Work
 pub fn sections_seen(shown: Shown, downloaded: u32) -> bool
     ensures { result ≡ (request_next_sections (view_of shown.entry.view.bytes.now) shown.entry.height downloaded (peers_in shown.entry.peers.now)).in_view }
 {
-    let Some(_) = peers::first_listed(shown.peers) else {
-        return true;
-    };
-    heights::window::window_seen(shown.view, shown.height, downloaded)
+    match peers::first_listed(shown.peers) {
+        None => true,
+        Some(_) => heights::window::window_seen(shown.view, shown.height, downloaded),
+    }
 }
 
 // Rules 5 and 4, from a downloaded height on.

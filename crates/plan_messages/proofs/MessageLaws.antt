@@ -11,9 +11,9 @@ use lib.Dec.{eqb, ltb}
 use Rattle.fields.proofs.EntriesLaws.{length_entries}
 use Rattle.model.specs.Protocol.{Id, header_type, is_announceable}
 use Rattle.model.specs.State.{State}
-use Rattle.model.specs.Requests.{Act, ask, PeerIds, ask_pooled}
+use Rattle.model.specs.Requests.{Act, ask}
 use Rattle.model.specs.Events.{Outcome, tip_outcome, raised_tip, not_above, continuation, announce}
-use Rattle.model.specs.Lists.{ids_in, pairs_in, pool_in, lists_in}
+use Rattle.model.specs.Lists.{ids_in, pairs_in}
 use Rattle.model.specs.Steps as steps
 use Rattle.model.specs.Steps.{Args}
 use Rattle.model.specs.Calls.{Call, args_of}
@@ -134,17 +134,3 @@ answered_alike st c p before tip k e f = rw (e, f) k
 pub quiet_tip : (t : Bool) (o : Option ℕ) → is_quiet (cond t (sections_work false o) Nothing) ≡ true
 quiet_tip true o = quiet_sections o
 quiet_tip false o = refl
-
--- pooled lists, by whether their type is one that is announced
-module _ (st : State) (c : Call) (type_id : ℕ) (typed : c.typeid ≡ type_id) where
-  abbrev lists : List PeerIds
-  lists = lists_in (pool_in c.pool) (ids_in c.ids)
-
-  pub pool_served : is_announceable type_id ≡ true
-      → steps.continues st (args_of c) (ask_pooled c.typeid (pairs_in c.stored) lists) ≡ steps.hears_pooled st (args_of c) c.typeid lists
-  unfolding steps.hears_pooled args_of
-  pool_served e = rw (typed, e)
-
-  pub pool_unserved : is_announceable type_id ≡ false → steps.continues st (args_of c) [] ≡ steps.hears_pooled st (args_of c) c.typeid lists
-  unfolding steps.hears_pooled args_of
-  pool_unserved e = rw (typed, e)

@@ -22,14 +22,14 @@ pub enum Heard {
 pub fn is_announceable(typeid: u16) -> bool
     ensures { result ≡ model.is_announceable typeid }
 {
-    match typeid {
-        TRANSACTION_TYPE_ID => true,
-        HEADER_TYPE_ID => true,
-        BLOCK_TRANSACTIONS_TYPE_ID => true,
-        AD_PROOFS_TYPE_ID => true,
-        EXTENSION_TYPE_ID => true,
-        _ => false,
-    }
+    matches!(
+        typeid,
+        TRANSACTION_TYPE_ID
+            | HEADER_TYPE_ID
+            | BLOCK_TRANSACTIONS_TYPE_ID
+            | AD_PROOFS_TYPE_ID
+            | EXTENSION_TYPE_ID
+    )
 }
 
 // Sync peer with a tip not above ours: Synced; else a tip above ours + 1: behind.

@@ -1,4 +1,4 @@
-// What a message comes to (rule 7): announced ids, pooled lists of them and sync infos, by value.
+// What a message comes to (rule 7): announced ids and sync infos, by value.
 //
 // Each equals the model's plan of its name for every state with the header that it is given. Other messages do nothing.
 ghost use Rattle.std.specs.Prelude.{◌≡◌, true, cond, eqb};
@@ -6,7 +6,7 @@ ghost use Rattle.std.proofs.Math.Option.{none, some};
 ghost use Rattle.model.specs.State.{State};
 ghost use Rattle.model.specs.Events.{BehindPeer};
 ghost use Rattle.model.specs.Steps as steps;
-ghost use Rattle.model.specs.Lists.{ids_in, pool_in, lists_in};
+ghost use Rattle.model.specs.Lists.{ids_in};
 ghost use Rattle.model.specs.Calls as calls;
 ghost use Rattle.model.specs.Calls.{args_of};
 ghost use Rattle.peers.specs.Peers.{listed_peer};
@@ -39,18 +39,6 @@ pub fn hears_announced(head: Head, call: Call, ids: &[u8], shown: Shown) -> Plan
     let tells_tip = (call.typeid == HEADER_TYPE_ID) & (call.peer == head.peer);
     if tells_tip {
         return plan::next_sections::is_at_tip(head, call.clock, head.tip, None, shown);
-    }
-    plan::continuing::continues(head, call.clock, Work::Nothing)
-}
-
-// Pooled lists use rule 3, each to its sender (F-9). Whether there are any ids makes no difference.
-pub fn hears_pooled(head: Head, call: Call) -> Plan
-    ensures work_value { is_quiet result.work ≡ true }
-    ensures result_value { (st : State) (c : calls.Call) → head_of st ≡ head → numbers_of c ≡ call
-        → sketch_in st c result ≡ sketch_of st c (steps.hears_pooled st (args_of c) c.typeid (lists_in (pool_in c.pool) (ids_in c.ids))) }
-{
-    if crate::events::is_announceable(call.typeid) {
-        return plan::continuing::continues(head, call.clock, Work::Pooled);
     }
     plan::continuing::continues(head, call.clock, Work::Nothing)
 }

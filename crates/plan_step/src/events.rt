@@ -1,7 +1,7 @@
-// handle_event (rule 7): a message by its kind, and pooled lists.
+// handle_event (rule 7): a message by its kind.
 //
 // A kind is any byte here: any other than the two is a message that does nothing.
-ghost use Rattle.std.specs.Prelude.{◌≡◌, ◌≤◌, ◌<◌, ◌⊎◌};
+ghost use Rattle.std.specs.Prelude.{◌≡◌, ◌≤◌, ◌<◌};
 ghost use Rattle.model.specs.State.{State};
 ghost use Rattle.model.specs.Calls as calls;
 ghost use Rattle.image.specs.Heads.{head_of};
@@ -11,13 +11,6 @@ use image::head::Head;
 use plan::kind::{ANNOUNCED, SYNC_INFO};
 use plan::shown::Shown;
 use plan::{Call, Plan, Work};
-
-// Lists of ids that several peers announced (F-9).
-pub fn pooled_step(head: Head, call: Call) -> Plan
-    ensures { (st : State) (c : calls.Call) → head_of st ≡ head → numbers_of c ≡ call → (c.kind < 1) ⊎ (17 ≤ c.kind) → Follows st c result }
-{
-    plan_messages::messages::hears_pooled(head, call)
-}
 
 // Announced ids, sync infos, and other messages, which do nothing.
 pub fn handle_event(head: Head, call: Call, ids: &[u8], shown: Shown) -> Plan

@@ -6,13 +6,12 @@ ghost use Rattle.model.specs.State.{State};
 ghost use Rattle.model.specs.Calls as calls;
 ghost use Rattle.image.specs.Heads.{head_of};
 ghost use Rattle.plan.specs.Plans.{numbers_of, Shows, Follows};
-ghost use Rattle.plan_step.specs.declared.step.Group.TheVariants.{Control, Event, Ids, Timed, Mode, Pooled};
+ghost use Rattle.plan_step.specs.declared.step.Group.TheVariants.{Control, Event, Ids, Timed, Mode};
 
 use image::head::Head;
 use peers::stalled_set::StalledPlaces;
 use plan::kind::{
-    ANNOUNCED, END_OF_STREAM, EVICTED, LOST_PEER, NEEDED_MODIFIER, OTHER_MESSAGE, PICK, PROGRESS,
-    REORG, SCHEDULED_TICK, SECTION_TICK, START,
+    ANNOUNCED, EVICTED, LOST_PEER, NEEDED_MODIFIER, OTHER_MESSAGE, PROGRESS, REORG, SCHEDULED_TICK,
 };
 use plan::shown::Shown;
 use plan::{Call, Plan};
@@ -26,30 +25,26 @@ enum Group {
     Ids,
     Timed,
     Mode,
-    Pooled,
 }
 
-// The kinds of each group; any other kind is read as pooled ids.
+// The kinds of each group, one after another; any other kind goes by mode.
 fn group_of(kind: u8) -> Group
     ensures control { result ≡ Control → (3 ≤ kind) × (kind < 5) }
     ensures event { result ≡ Event → (5 ≤ kind) × (kind < 8) }
     ensures ids { result ≡ Ids → (8 ≤ kind) × (kind < 11) }
     ensures timed { result ≡ Timed → (11 ≤ kind) × (kind < 14) }
-    ensures mode { result ≡ Mode → ((1 ≤ kind) × (kind < 3)) ⊎ ((14 ≤ kind) × (kind < 17)) }
-    ensures pooled { result ≡ Pooled → (kind < 1) ⊎ (17 ≤ kind) }
+    ensures mode { result ≡ Mode → (kind < 3) ⊎ (14 ≤ kind) }
 {
     match kind {
         NEEDED_MODIFIER..=REORG => Group::Control,
         ANNOUNCED..=OTHER_MESSAGE => Group::Event,
         LOST_PEER..=EVICTED => Group::Ids,
         PROGRESS..=SCHEDULED_TICK => Group::Timed,
-        START..=PICK => Group::Mode,
-        SECTION_TICK..=END_OF_STREAM => Group::Mode,
-        _ => Group::Pooled,
+        _ => Group::Mode,
     }
 }
 
-// `places` are the state area's 256 places of stalled peers.
+// `places` are the state area's 256 places of stalled peers. A kind outside 1 to 16 is read as the end of the stream.
 pub fn plan_step(head: Head, call: Call, places: StalledPlaces, ids: &[u8], shown: Shown) -> Plan
     ensures { (st : State) (c : calls.Call) → head_of st ≡ head → numbers_of c ≡ call → c.ids ≡ ids.now → Shows c shown.entry → st.sync.stalled_peers ≡ map from_be (entries 8 places.entry.count places.entry.bytes.now) → Follows st c result }
 {
@@ -59,6 +54,5 @@ pub fn plan_step(head: Head, call: Call, places: StalledPlaces, ids: &[u8], show
         Group::Ids => crate::wakes::ids_step(head, call, shown),
         Group::Timed => crate::wakes::timed_step(head, call, places, shown),
         Group::Mode => crate::wakes::mode_step(head, call, places, shown),
-        Group::Pooled => crate::events::pooled_step(head, call),
     }
 }

@@ -87,9 +87,7 @@ fn ended_mode(mode: u8) -> u8
 
 // The steps that one mode takes, and the end of the stream.
 pub fn mode_step(head: Head, call: Call, places: StalledPlaces, shown: Shown) -> Plan
-    ensures { (st : State) (c : calls.Call) → head_of st ≡ head → numbers_of c ≡ call → Shows c shown.entry
-        → st.sync.stalled_peers ≡ map from_be (entries 8 places.entry.count places.entry.bytes.now)
-        → ((1 ≤ c.kind) × (c.kind < 3)) ⊎ ((14 ≤ c.kind) × (c.kind < 17)) → Follows st c result }
+    ensures { (st : State) (c : calls.Call) → head_of st ≡ head → numbers_of c ≡ call → Shows c shown.entry → st.sync.stalled_peers ≡ map from_be (entries 8 places.entry.count places.entry.bytes.now) → (c.kind < 3) ⊎ (14 ≤ c.kind) → Follows st c result }
 {
     match call.kind {
         START => continuing::advances(

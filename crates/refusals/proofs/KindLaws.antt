@@ -1,13 +1,12 @@
 -- The modes that a kind's step is of.
 use Prim.Native.Nat.{ℕ, ◌≤◌, ◌<◌}
 use mathlib.Core.Path.{◌≡◌, refl}
-use mathlib.Core.Bool.{Bool, true, false}
+use mathlib.Core.Bool.{Bool, ◌||◌}
 use mathlib.Core.Logic.{◌⊎◌, inl, inr, ⊎_elim}
-use native.Mathlib.Nat.{lt_irrefl, eq-or-lt_of_le}
+use native.Mathlib.Nat.{lt_irrefl}
 use native.Mathlib.Omega.{arith}
-use lib.Dec.{leb}
-use borrow.Author.Tests.{leb-true, leb-false}
-use Rattle.model.specs.State.{State, has_sync_peer}
+use lib.Dec.{eqb}
+use Rattle.model.specs.State.{State, mode_number, has_sync_peer}
 use Rattle.model.specs.Steps.{of_mode}
 use Rattle.model.specs.Calls.{Call, step_of}
 use Rattle.model.proofs.StepKindLaws.{by_kind}
@@ -21,7 +20,7 @@ module _ (st : State) (c : Call) where
   served_case k = c.kind ≡ k → 3 ≤ k → k ≤ 13 → has_sync_peer st.mode ≡ allowed
 
   -- what syncing and synced both do
-  served : 3 ≤ c.kind → c.kind ≤ 13 → has_sync_peer st.mode ≡ allowed
+  pub served : 3 ≤ c.kind → c.kind ≤ 13 → has_sync_peer st.mode ≡ allowed
   unfolding served_case allowed step_of of_mode
   served l h =
       by_kind served_case
@@ -29,29 +28,18 @@ module _ (st : State) (c : Call) where
       (λ e l h. rw e) (λ e l h. rw e) (λ e l h. rw e) (λ e l h. rw e) (λ e l h. rw e) (λ e l h. rw e)
       (λ e l h. rw e) (λ e l h. rw e) (λ e l h. rw e) (λ e l h. rw e) (λ e l h. rw e)
       (λ e l h. absurd (lt_irrefl 0 (omega arith))) (λ e l h. absurd (lt_irrefl 0 (omega arith))) (λ e l h. absurd (lt_irrefl 0 (omega arith)))
-      (λ e l h. absurd (lt_irrefl 0 (omega arith)))
       c.kind (omega arith) (omega arith) refl l h
 
-  pooled : (c.kind < 1) ⊎ (17 ≤ c.kind) → has_sync_peer st.mode ≡ allowed
-  unfolding allowed of_mode
-  pooled h = rw (last_kind c h)
+  -- the two arms that are no single number
+  module _ (kind : ℕ) (e : c.kind ≡ kind) where
+    pub middle_kinds : 1 ≤ kind → kind < 14 → (kind ≡ 1 → ⊥) → (kind ≡ 2 → ⊥) → has_sync_peer st.mode ≡ allowed
+    middle_kinds l h n m =
+        let over : 3 ≤ kind = beyond kind 2 m (beyond kind 1 n l) in
+        served (omega arith) (omega arith)
 
-  -- the arm of all kinds that are not named
-  pub other_kinds :
-      (kind : ℕ) → c.kind ≡ kind → (kind ≡ 1 → ⊥) → (kind ≡ 2 → ⊥) → (kind ≡ 14 → ⊥) → (kind ≡ 15 → ⊥) → (kind ≡ 16 → ⊥)
-      → has_sync_peer st.mode ≡ allowed
-  other_kinds kind e n1 n2 n14 n15 n16 =
-      let low : 0 ≤ kind = omega arith in
-      ⊎_elim (λ z. pooled (inl (omega arith))) some (eq-or-lt_of_le low)
-    where
-      some : 1 ≤ kind → has_sync_peer st.mode ≡ allowed
-      some l =
-          let three : 3 ≤ kind = beyond kind 2 n2 (beyond kind 1 n1 l) in
-          go (leb kind 13) refl three
-        where
-          go : (t : Bool) → leb kind 13 ≡ t → 3 ≤ kind → has_sync_peer st.mode ≡ allowed
-          go true h l = let m : kind ≤ 13 = leb-true kind 13 h in served (omega arith) (omega arith)
-          go false h l =
-              let m : 14 ≤ kind = leb-false kind 13 h in
-              let over : 17 ≤ kind = beyond kind 16 n16 (beyond kind 15 n15 (beyond kind 14 n14 m)) in
-              pooled (inr (omega arith))
+    pub end_kinds : (kind < 1) ⊎ (14 ≤ kind) → (kind ≡ 14 → ⊥) → (kind ≡ 15 → ⊥) → (eqb (mode_number st.mode) 1 || has_sync_peer st.mode) ≡ allowed
+    unfolding allowed of_mode
+    end_kinds h n m =
+        let last : (c.kind < 1) ⊎ (16 ≤ c.kind) =
+        ⊎_elim (λ l. inl (omega arith)) (λ l. let over : 16 ≤ kind = beyond kind 15 m (beyond kind 14 n l) in inr (omega arith)) h in
+        rw (last_kind c last)

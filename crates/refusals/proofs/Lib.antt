@@ -3,5 +3,4 @@ pub mod ViewLaws
 pub mod KindLaws
 pub mod ReadyLaws
 pub mod NumberLaws
-pub mod PoolLaws
 pub mod RefusalLaws

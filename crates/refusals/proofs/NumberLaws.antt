@@ -2,7 +2,7 @@
 use Prim.Native.Nat.{◌<◌}
 use native.Mathlib.Omega.{arith}
 use Rattle.refusals.specs.declared.refusal.Refusal.{Refusal}
-use Rattle.refusals.specs.declared.refusal.Refusal.TheVariants.{StateArea, Image, CommandArea, Clock, Call, Lists, Peers, View, Unseen, Full, Stalled, Map, Pool}
+use Rattle.refusals.specs.declared.refusal.Refusal.TheVariants.{StateArea, Image, CommandArea, Clock, Call, Lists, Peers, View, Unseen, Full, Stalled, Map}
 use Rattle.refusals.specs.Numbers.{number_of}
 
 pub positive : (refusal : Refusal) → 0 < number_of refusal
@@ -18,4 +18,3 @@ positive Unseen = omega arith
 positive Full = omega arith
 positive Stalled = omega arith
 positive Map = omega arith
-positive Pool = omega arith

@@ -11,8 +11,8 @@ use borrow.Author.Tests.{leb-true, eqb-true, ne_eqb, lt-leb, le-leb}
 use Rattle.fields.proofs.OrderLaws.{and_left, and_right}
 use Rattle.model.specs.State.{State}
 use Rattle.model.specs.Image.{well_formed, decode}
-use Rattle.model.specs.Lists.{ids_fit, continuation_fits, pairs_fit, peers_fit, view_fits, pool_few}
-use Rattle.model.specs.Calls.{Call, args_of, unless, call_fits, lists_fit, pool_fits, image_refusal, result_refusal, call_refusal, step_refusal, question_refusal, is_flag}
+use Rattle.model.specs.Lists.{ids_fit, continuation_fits, pairs_fit, peers_fit, view_fits}
+use Rattle.model.specs.Calls.{Call, args_of, unless, call_fits, lists_fit, image_refusal, result_refusal, call_refusal, step_refusal, question_refusal, is_flag}
 use Rattle.model.specs.MeanAge.{mean_age_refusal}
 use Rattle.model.proofs.FinishedLaws.{held}
 use Rattle.image.specs.declared.head.Head.{Head}
@@ -27,7 +27,7 @@ split_unless : (ok : Bool) (number whole first last : ℕ) → 0 < number → wh
 split_unless true number whole first last h e = e
 split_unless false number whole first last h e = rw (ne_eqb number 0 (λ z. lt_irrefl 0 (omega arith)))
 
--- 4 to 8 and 13, then 9 to 11
+-- 4 to 8, then 9 to 11
 lent_split : (st : State) (call : Call)
     → call_refusal st call ≡ cond (eqb (lent_refusal st call) 0) (result_refusal st (args_of call)) (lent_refusal st call)
 unfolding call_refusal lent_refusal
@@ -35,18 +35,16 @@ lent_split st call =
     let last : ℕ = result_refusal st (args_of call) in
     let ok8 : Bool = view_fits call.view in
     let ok7 : Bool = peers_fit call.peers in
-    let ok13 : Bool = pool_few call.pool in
-    let ok6 : Bool = lists_fit call && pool_fits call in
+    let ok6 : Bool = lists_fit call in
     let ok5 : Bool = call_fits st call in
     let ok4 : Bool = leb st.last_clock call.clock in
-    split_unless ok4 4 _ (unless ok5 5 (unless ok6 6 (unless ok13 13 (unless ok7 7 (unless ok8 8 0))))) last (omega arith)
-    (split_unless ok5 5 _ (unless ok6 6 (unless ok13 13 (unless ok7 7 (unless ok8 8 0)))) last (omega arith)
-    (split_unless ok6 6 _ (unless ok13 13 (unless ok7 7 (unless ok8 8 0))) last (omega arith)
-    (split_unless ok13 13 _ (unless ok7 7 (unless ok8 8 0)) last (omega arith)
+    split_unless ok4 4 _ (unless ok5 5 (unless ok6 6 (unless ok7 7 (unless ok8 8 0)))) last (omega arith)
+    (split_unless ok5 5 _ (unless ok6 6 (unless ok7 7 (unless ok8 8 0))) last (omega arith)
+    (split_unless ok6 6 _ (unless ok7 7 (unless ok8 8 0)) last (omega arith)
     (split_unless ok7 7 _ (unless ok8 8 0) last (omega arith)
-    (split_unless ok8 8 last 0 last (omega arith) refl)))))
+    (split_unless ok8 8 last 0 last (omega arith) refl))))
 
--- 1 to 8 and 13, then 9 to 11
+-- 1 to 8, then 9 to 11
 pub refusal_split : (state area : List ℕ) (call : Call)
     → step_refusal state area call
     ≡ cond (eqb (given_refusal state (length area) call) 0) (result_refusal (decode state) (args_of call)) (given_refusal state (length area) call)
@@ -59,7 +57,7 @@ refusal_split state area call =
     (split_unless (well_formed state) 2 _ (unless ok3 3 first) last (omega arith)
     (split_unless ok3 3 _ first last (omega arith) (lent_split (decode state) call)))
 
--- What a call has passed that 1 to 8 and 13 let through.
+-- What a call has passed that 1 to 8 let through.
 pub record Given (state : List ℕ) (room : ℕ) (call : Call) : Type 0 where
   pub state_size : length state ≡ area_size
   pub image : well_formed state ≡ true
@@ -71,8 +69,6 @@ pub record Given (state : List ℕ) (room : ℕ) (call : Call) : Type 0 where
   pub one_id : not (eqb call.kind 3) || eqb (length call.ids) 32 ≡ true
   pub continuation : continuation_fits call.continuation ≡ true
   pub stored : pairs_fit call.stored ≡ true
-  pub pool : pool_fits call ≡ true
-  pub pool_few : pool_few call.pool ≡ true
   pub peers : peers_fit call.peers ≡ true
   pub view : view_fits call.view ≡ true
 
@@ -82,8 +78,7 @@ given state room call e =
     let st : State = decode state in
     let r8 : ℕ = unless (view_fits call.view) 8 0 in
     let r7 : ℕ = unless (peers_fit call.peers) 7 r8 in
-    let r13 : ℕ = unless (pool_few call.pool) 13 r7 in
-    let r6 : ℕ = unless (lists_fit call && pool_fits call) 6 r13 in
+    let r6 : ℕ = unless (lists_fit call) 6 r7 in
     let r5 : ℕ = unless (call_fits st call) 5 r6 in
     let r4 : ℕ = unless (leb st.last_clock call.clock) 4 r5 in
     let r3 : ℕ = unless (leb area_size room) 3 r4 in
@@ -93,25 +88,21 @@ given state room call e =
     let h3 = held (leb area_size room) 3 r4 (omega arith) h2.1 in
     let h4 = held (leb st.last_clock call.clock) 4 r5 (omega arith) h3.1 in
     let h5 = held (call_fits st call) 5 r6 (omega arith) h4.1 in
-    let h6 = held (lists_fit call && pool_fits call) 6 r13 (omega arith) h5.1 in
-    let h13 = held (pool_few call.pool) 13 r7 (omega arith) h6.1 in
-    let h7 = held (peers_fit call.peers) 7 r8 (omega arith) h13.1 in
-    let lists : lists_fit call ≡ true = and_left (lists_fit call) (pool_fits call) h6.0 in
+    let h6 = held (lists_fit call) 6 r7 (omega arith) h5.1 in
+    let h7 = held (peers_fit call.peers) 7 r8 (omega arith) h6.1 in
     let h8 = held (view_fits call.view) 8 0 (omega arith) h7.1 in
     let one : Bool = not (eqb call.kind 3) || eqb (length call.ids) 32 in
     let front : Bool = ids_fit call.ids && one in
     let back : Bool = continuation_fits call.continuation && pairs_fit call.stored in
-    let f : front ≡ true = and_left front back lists in
-    let b : back ≡ true = and_right front back lists in
+    let f : front ≡ true = and_left front back h6.0 in
+    let b : back ≡ true = and_right front back h6.0 in
     record {
       state_size = eqb-true (length state) area_size h1.0;
       image = h2.0;
       commands_size = leb-true area_size room h3.0;
       clock = leb-true st.last_clock call.clock h4.0;
       fits = h5.0;
-      lists = lists;
-      pool = and_right (lists_fit call) (pool_fits call) h6.0;
-      pool_few = h13.0;
+      lists = h6.0;
       ids = and_left (ids_fit call.ids) one f;
       one_id = and_right (ids_fit call.ids) one f;
       continuation = and_left (continuation_fits call.continuation) (pairs_fit call.stored) b;
@@ -147,29 +138,19 @@ module _ (st : State) (call : Call) where
       lent_6 lists = rw (clock, fits, lists)
 
       module _ (lists : lists_fit call ≡ true) where
-        pub lent_6_pool : pool_fits call ≡ false → 6 ≡ lent_refusal st call
+        pub lent_7 : peers_fit call.peers ≡ false → 7 ≡ lent_refusal st call
         unfolding lent_refusal
-        lent_6_pool pool = rw (clock, fits, lists, pool)
+        lent_7 peers = rw (clock, fits, lists, peers)
 
-        module _ (pool : pool_fits call ≡ true) where
-          pub lent_13 : pool_few call.pool ≡ false → 13 ≡ lent_refusal st call
+        module _ (peers : peers_fit call.peers ≡ true) where
+          -- 8 or none
+          pub lent_8 : view_fits call.view ≡ false → 8 ≡ lent_refusal st call
           unfolding lent_refusal
-          lent_13 few = rw (clock, fits, lists, pool, few)
+          lent_8 view = rw (clock, fits, lists, peers, view)
 
-          module _ (few : pool_few call.pool ≡ true) where
-            pub lent_7 : peers_fit call.peers ≡ false → 7 ≡ lent_refusal st call
-            unfolding lent_refusal
-            lent_7 peers = rw (clock, fits, lists, pool, few, peers)
-
-            module _ (peers : peers_fit call.peers ≡ true) where
-              -- 8 or none
-              pub lent_8 : view_fits call.view ≡ false → 8 ≡ lent_refusal st call
-              unfolding lent_refusal
-              lent_8 view = rw (clock, fits, lists, pool, few, peers, view)
-
-              pub lent_none : view_fits call.view ≡ true → 0 ≡ lent_refusal st call
-              unfolding lent_refusal
-              lent_none view = rw (clock, fits, lists, pool, few, peers, view)
+          pub lent_none : view_fits call.view ≡ true → 0 ≡ lent_refusal st call
+          unfolding lent_refusal
+          lent_none view = rw (clock, fits, lists, peers, view)
 
 -- 1 and 2, whatever comes behind them
 module _ (state : List ℕ) (behind : ℕ) where

@@ -1,7 +1,7 @@
 -- The numbers of refusals: docs/LAYOUT.md, "Refusals".
 use Rattle.std.specs.Prelude.{ℕ, Result, Ok, Err}
 use Rattle.refusals.specs.declared.refusal.Refusal.{Refusal}
-use Rattle.refusals.specs.declared.refusal.Refusal.TheVariants.{StateArea, Image, CommandArea, Clock, Call, Lists, Peers, View, Unseen, Full, Stalled, Map, Pool}
+use Rattle.refusals.specs.declared.refusal.Refusal.TheVariants.{StateArea, Image, CommandArea, Clock, Call, Lists, Peers, View, Unseen, Full, Stalled, Map}
 
 abbrev pub number_of : Refusal → ℕ
 number_of StateArea = 1
@@ -16,7 +16,6 @@ number_of Unseen = 9
 number_of Full = 10
 number_of Stalled = 11
 number_of Map = 12
-number_of Pool = 13
 
 -- what an entry answers: 0 where nothing refuses
 abbrev pub number_in : {A : Type 0} → Result A Refusal → ℕ

@@ -1,20 +1,17 @@
 // What a call is lent: whether its lists are as they should be, exactly.
 //
-// Numbers 6, 13 and 7 of the refusals. Any bytes are answered, in one pass over them; a list that may stand in any order
+// Numbers 6 and 7 of the refusals. Any bytes are answered, in one pass over them; a list that may stand in any order
 // is judged by its length alone.
 //
 // Kinds are any bytes, as C gives them.
 ghost use Rattle.std.specs.Prelude.{◌≡◌, not, ◌&&◌, ◌||◌, ◌*◌, ◌^◌, ◌<◌, eqb, length};
 ghost use Rattle.model.specs.Lists.{list_fits, ids_fit, continuation_fits, pairs_fit, peers_fit};
-ghost use Rattle.model.specs.Lists.{pool_in, counted, pool_whole, pool_adds_up, pool_few};
 
 use crate::lent::Lists;
 use keys::Entries;
 use model::MAX_MODIFIER_REQUEST_IDS;
-use model::layout::{
-    ID_SIZE, PAIR_SIZE, PEER_SIZE, POOL_COUNT_AT, POOL_ENTRY_SIZE, POOL_LIMIT, TRACKED_LIMIT,
-};
-use plan::kind::{NEEDED_MODIFIER, POOLED};
+use model::layout::{ID_SIZE, PAIR_SIZE, PEER_SIZE, TRACKED_LIMIT};
+use plan::kind::NEEDED_MODIFIER;
 
 // Whole entries, at most so many.
 fn list_fits(list: &[u8], size: usize, most: usize) -> bool
@@ -67,39 +64,4 @@ pub fn lists_fit(kind: u8, lists: Lists) -> bool
 {
     let one = (kind != NEEDED_MODIFIER) | (lists.ids.len() == ID_SIZE);
     (ids_fit(lists.ids) & one) & (continuation_fits(lists.continuation) & pairs_fit(lists.stored))
-}
-
-// Whether the counts of the entries add up to so many. Counted down, since a sum of any number of counts has no width.
-fn adds_up(pool: &[u8], ids: usize) -> bool
-    ensures { result ≡ eqb (counted (pool_in pool.now)) ids }
-{
-    let mut left = ids;
-    for entry in pool.as_chunks::<POOL_ENTRY_SIZE>().0 {
-        let count = fields::read_u32(entry, POOL_COUNT_AT) as usize;
-        if left < count {
-            return false;
-        }
-        left -= count;
-    }
-    left == 0
-}
-
-// The entries of pooled lists are whole, and where ids are pooled, kind 17, their counts add up to these.
-pub fn pool_fits(kind: u8, lists: Lists) -> bool
-    ensures { let given = lists.entry in result ≡ pool_whole given.pool.now && (not (eqb kind 17) || pool_adds_up given.pool.now given.ids.now) }
-{
-    if lists.pool.len() % POOL_ENTRY_SIZE != 0 {
-        return false;
-    }
-    if kind != POOLED {
-        return true;
-    }
-    adds_up(lists.pool, lists.ids.len() / ID_SIZE)
-}
-
-// Pooled lists: at most 16.
-pub fn pool_few(pool: &[u8]) -> bool
-    ensures { result ≡ pool_few pool.now }
-{
-    pool.len() <= POOL_LIMIT * POOL_ENTRY_SIZE
 }

@@ -1,7 +1,7 @@
 // What a call is lent beside its numbers.
 ghost use Rattle.fields.specs.Facts.{Bytes};
 
-// The lists of a call. The ghost fields say that they are bytes, which a slice in a struct does not say by itself.
+// The five lists of a call. The ghost fields say that they are bytes, which a slice in a struct does not say by itself.
 #[derive(Clone, Copy)]
 pub struct Lists<'a> {
     pub ids: &'a [u8],
@@ -9,11 +9,9 @@ pub struct Lists<'a> {
     pub stored: &'a [u8],
     pub peers: &'a [u8],
     pub view: &'a [u8],
-    pub pool: &'a [u8],
     ghost ids_bytes: { Bytes ids.now },
     ghost continuation_bytes: { Bytes continuation.now },
     ghost stored_bytes: { Bytes stored.now },
     ghost peers_bytes: { Bytes peers.now },
     ghost view_bytes: { Bytes view.now },
-    ghost pool_bytes: { Bytes pool.now },
 }

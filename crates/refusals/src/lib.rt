@@ -1,5 +1,5 @@
-// Why a call is refused, and the refusals that are known before a step is worked out: 1 to 8 and 13, in their order; for a question
-// 1, 2, 3 and 5, for the mean age 1, 2 and 4.
+// Why a call is refused, and the refusals that are known before a step is worked out: 1 to 8, in document 01's order; for a
+// question 1, 2, 3 and 5, for the mean age 1, 2 and 4.
 //
 // Equal to these of `step_refusal` and `question_refusal` in model/specs/Calls.antt, and of `mean_age_refusal` in MeanAge.antt.
 // Reads only. A refused call costs what was read up to the fault: one pass over the state area, then the lists, then the view.
@@ -28,7 +28,9 @@ use image::head::Head;
 use image::mode::{NEW, SEEKING, SYNCED, SYNCING};
 use model::layout::AREA_SIZE;
 use plan::Call;
-use plan::kind::{END_OF_STREAM, PICK, POOLED, SECTION_TICK, SEND_FAILURE, START};
+use plan::kind::{
+    END_OF_STREAM, NEEDED_MODIFIER, PICK, SCHEDULED_TICK, SECTION_TICK, SEND_FAILURE, START,
+};
 
 // Whether a step of this kind may be taken in this mode (document 01, "Steps by mode").
 fn of_mode(mode: u8, sent: bool, kind: u8) -> bool
@@ -40,8 +42,8 @@ fn of_mode(mode: u8, sent: bool, kind: u8) -> bool
         PICK => mode == SEEKING,
         SECTION_TICK => mode == SYNCED,
         SEND_FAILURE => (mode == SYNCING) & sent,
-        END_OF_STREAM => (mode == SEEKING) | synced,
-        _ => synced,
+        NEEDED_MODIFIER..=SCHEDULED_TICK => synced,
+        _ => (mode == SEEKING) | synced,
     }
 }
 
@@ -49,7 +51,7 @@ fn of_mode(mode: u8, sent: bool, kind: u8) -> bool
 fn call_fits(head: Head, call: Call) -> bool
     ensures { (st : State) (c : calls.Call) → head_of st ≡ head → numbers_of c ≡ call → result ≡ call_fits st c }
 {
-    let known = (START <= call.kind) & (call.kind <= POOLED);
+    let known = (START <= call.kind) & (call.kind <= END_OF_STREAM);
     let flags = (call.gate <= 1) & ((call.parsed <= 1) & (call.hastip <= 1));
     known & (flags & of_mode(head.mode, head.sent, call.kind))
 }
@@ -78,7 +80,7 @@ fn areas_refusal(state: &[u8], room: usize) -> Result<(), Refusal>
     Ok(())
 }
 
-// 4 to 6, 13, 7 and 8.
+// 4 to 8.
 fn lent_refusal(head: Head, call: Call, lists: Lists) -> Result<(), Refusal>
     ensures { (st : State) → head_of st ≡ head → number_in result ≡ lent_refusal st (call_with call lists.entry) }
 {
@@ -91,12 +93,6 @@ fn lent_refusal(head: Head, call: Call, lists: Lists) -> Result<(), Refusal>
     if !crate::fitting::lists_fit(call.kind, lists) {
         return Err(Refusal::Lists);
     }
-    if !crate::fitting::pool_fits(call.kind, lists) {
-        return Err(Refusal::Lists);
-    }
-    if !crate::fitting::pool_few(lists.pool) {
-        return Err(Refusal::Pool);
-    }
     if !crate::fitting::peers_fit(lists.peers) {
         return Err(Refusal::Peers);
     }
@@ -106,7 +102,7 @@ fn lent_refusal(head: Head, call: Call, lists: Lists) -> Result<(), Refusal>
     Ok(())
 }
 
-// 1 to 8 and 13 for a step; `room` is the command area's length.
+// 1 to 8 for a step; `room` is the command area's length.
 pub fn step_refusal(state: &[u8], room: usize, call: Call, lists: Lists) -> Result<(), Refusal>
     ensures { number_in result ≡ given_refusal state.now room (call_with call lists.entry) }
 {

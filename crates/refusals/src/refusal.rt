@@ -20,7 +20,6 @@ pub enum Refusal {
     Full = 10,
     Stalled = 11,
     Map = 12,
-    Pool = 13,
 }
 
 impl Refusal {

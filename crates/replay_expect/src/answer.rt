@@ -18,7 +18,7 @@ pub fn answered(areas: &mut Areas, words: &Words, replay: Replay) -> Result<Repl
             ..replay
         }),
         Call::Area(AreaCall::Age) => settle(areas, replay, false),
-        Call::Area(AreaCall::Open | AreaCall::Step | AreaCall::Pooled) => {
+        Call::Area(AreaCall::Open | AreaCall::Step) => {
             if replay.answer[0] != 0 {
                 return settle(areas, replay, false);
             }

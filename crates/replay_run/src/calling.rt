@@ -33,23 +33,6 @@ fn step(state: &mut [u8], commands: &mut [u8], words: &Words) -> [u64; 9] {
     nine(answer)
 }
 
-// A pooled step through its own entry.
-fn pooled(state: &mut [u8], commands: &mut [u8], words: &Words) -> [u64; 9] {
-    let call = numbers::of_pooled(&words.numbers);
-    let [.., ids, pool, stored] = words.lists();
-    let answer = request_keeper::pooled::request_keeper_pooled(
-        state,
-        commands,
-        call.clock,
-        call.gate,
-        call.typeid,
-        ids,
-        pool,
-        stored,
-    );
-    nine(answer)
-}
-
 // The nine numbers of an answer, as a line lists them. No `From`: both types are of other crates.
 fn nine(answer: Answer) -> [u64; 9] {
     [
@@ -102,7 +85,6 @@ fn run(state: &mut [u8], commands: &mut [u8], call: AreaCall, words: &Words) -> 
     match call {
         AreaCall::Open => open(state, words),
         AreaCall::Step => step(state, commands, words),
-        AreaCall::Pooled => pooled(state, commands, words),
         AreaCall::Ask => ask(state, commands, words),
         AreaCall::Age => age(state, words),
     }

@@ -18,7 +18,7 @@ fn map_call(
     Ok(crate::mapping::make(areas, call, replay.map, words))
 }
 
-// `open`, `step`, `pooled`, `ask` or `age`.
+// `open`, `step`, `ask` or `age`.
 fn area_call(
     areas: &mut Areas,
     call: AreaCall,

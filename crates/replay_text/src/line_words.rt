@@ -18,7 +18,6 @@ pub enum MapCall {
 pub enum AreaCall {
     Open,
     Step,
-    Pooled,
     Ask,
     Age,
 }
@@ -54,7 +53,6 @@ impl AreaCall {
         match word {
             b"open" => Some(AreaCall::Open),
             b"step" => Some(AreaCall::Step),
-            b"pooled" => Some(AreaCall::Pooled),
             b"ask" => Some(AreaCall::Ask),
             b"age" => Some(AreaCall::Age),
             _ => None,
@@ -95,7 +93,6 @@ impl Call {
         match self {
             Call::Area(AreaCall::Open) => b"844444",
             Call::Area(AreaCall::Step) => b"1814xxx824114xxs",
-            Call::Area(AreaCall::Pooled) => b"812xxx",
             Call::Area(AreaCall::Ask) => b"1",
             Call::Area(AreaCall::Age) => b"8",
             Call::Map(MapCall::Fill) => b"44x",
@@ -110,7 +107,7 @@ impl Call {
         ensures { length result.now ≤ 17 }
     {
         match self {
-            Call::Area(AreaCall::Step | AreaCall::Pooled) => b"444444444",
+            Call::Area(AreaCall::Step) => b"444444444",
             Call::Area(AreaCall::Age) => b"4488",
             Call::Area(AreaCall::Ask) | Call::Map(MapCall::Passable) => b"44",
             Call::Area(AreaCall::Open) | Call::Map(_) => b"4",

@@ -1,6 +1,5 @@
 // The numbers of a line, as wide as the exported entries take them. The shape of a line has bounded them, so that each fits.
-// `of_step`, `of_pooled` and `of_opening` name the order of a line. A generic function in place of `byte`, `quarter` and `half` would be
-// given the greatest number at each call.
+// `of_step` and `of_opening` name the order of a line. A generic function in place of `byte`, `quarter` and `half` would be given the greatest number at each call.
 
 // The numbers of a step, in the order of its line.
 #[derive(Clone, Copy)]
@@ -15,14 +14,6 @@ pub struct Step {
     pub parsed: u8,
     pub hastip: u8,
     pub tip: u32,
-}
-
-// The numbers of a pooled step, in the order of its line.
-#[derive(Clone, Copy)]
-pub struct Pooled {
-    pub clock: u64,
-    pub gate: u8,
-    pub typeid: u16,
 }
 
 // The numbers of an opening, in the order of its line.
@@ -64,15 +55,6 @@ pub fn of_step(numbers: &[u64; 17]) -> Step {
         parsed: byte(numbers[10]),
         hastip: byte(numbers[11]),
         tip: half(numbers[12]),
-    }
-}
-
-// The numbers of a pooled step's line.
-pub fn of_pooled(numbers: &[u64; 17]) -> Pooled {
-    Pooled {
-        clock: numbers[0],
-        gate: byte(numbers[1]),
-        typeid: quarter(numbers[2]),
     }
 }
 

@@ -1,7 +1,7 @@
 -- The loop over the types: one run of places after another.
 use Prim.Native.Nat.{ℕ, suc, ◌+◌, ◌-◌, ◌*◌, ◌/◌, ◌^◌, ◌≤◌, ◌<◌}
-use mathlib.Core.Path.{◌≡◌, refl, ◌∙◌}
-use mathlib.Core.Bool.{true}
+use mathlib.Core.Path.{◌≡◌, refl, sym, ◌∙◌}
+use mathlib.Core.Bool.{true, false≢true}
 use mathlib.Core.List.{List, [], ◌∷◌}
 use native.Mathlib.Omega.{arith}
 use lib.ListN.{length, take, drop, get_or, drop_of_length-le}
@@ -20,7 +20,7 @@ use Rattle.request_announced.specs.declared.request.Written.{Written}
 use Rattle.request_announced.specs.Pairs.{Within, pairs_at, type_at, of_type}
 use Rattle.request_announced.specs.ByType.{asks_by_type, asks_of}
 use Rattle.request_announced.specs.Run.{Run, Ready, asked_of, Asked}
-use Rattle.request_announced.proofs.RequestedLaws.{answered_full}
+use Rattle.request_announced.proofs.RequestedLaws.{many_requested}
 use Rattle.request_announced.proofs.PerformLaws.{Performing, perform_starts, perform_ends, act_room, act_number, perform_full, perform_turn}
 use Rattle.request_announced.proofs.FrontLaws.{sorted_within, sorted_long}
 use Rattle.request_announced.proofs.ByTypeLaws.{gathered_long, run_within_lem, run_long, run_asked, asks_of_places, asks_weight, asks_count, asks_well}
@@ -59,10 +59,10 @@ RequestAsks r ids table rest out done =
     × ((rising id_size (entries record_size done.count table) ≡ true)
     × ((length ids ≤ length rest) × ((done.place.at + length ids / id_size * command_size ≤ length out) × (done.place.batch + 1 < 65536))))
 
-abbrev pub RequestSays : ℕ → Done → Written → List ℕ → List ℕ → Result Written TrackerError → List ℕ → List ℕ → Type 0
-RequestSays most did done table out answer table' out' =
-    (answer ≡ requested_as most done.place did)
-    × ((table' ≡ held_within most done.count did.pending table) × (out' ≡ sent_within most done.place did out))
+abbrev RequestSays : Run → Done → Written → List ℕ → List ℕ → Result Written TrackerError → List ℕ → List ℕ → Type 0
+RequestSays r did done table out answer table' out' =
+    (answer ≡ requested_as r.most done.place did)
+    × ((table' ≡ held_within r.most done.count did.pending table) × (out' ≡ sent_within r.most done.place did out))
 
 module _ {r : Run} (ready : Ready r) where
   pub within : All (Within r.pairs) r.places
@@ -134,11 +134,16 @@ module _ {r : Run} (ready : Ready r) where
       abbrev did : Done
       did = perform r.gate r.clock (ask_of r i type_id next) (requests_in done.count table)
 
-      module _ {answer : Result Written TrackerError} {table' out' : List ℕ} (says : RequestSays r.most did done table out answer table' out') where
+      module _ {answer : Result Written TrackerError} {table' out' : List ℕ} (says : RequestSays r did done table out answer table' out') where
         pub ask_full : {table'' out'' : List ℕ} → answer ≡ Err Full → Asked r (Err Full) table'' out''
         ask_full full =
             let q : Err Full ≡ requested_as r.most done.place did = rw full at says.0 in
-            answered_full r.most r.place (asked_of r) (perform_full s.acts asked_here ready.fits q) r.count r.table r.out
+            let m = perform_full s.acts asked_here ready.fits q in
+            record {
+              answered = sym (many_requested r.most r.place (asked_of r) m);
+              left = λ y. absurd (false≢true (sym m ∙ y));
+              written = λ y. absurd (false≢true (sym m ∙ y));
+            }
 
         pub ask_turn : {rest' : List ℕ} (w : Written) → answer ≡ Ok w → r.clock < 2 ^ 64 → Bytes table' → length rest' ≡ length rest
             → Asking r table' rest' out' w next

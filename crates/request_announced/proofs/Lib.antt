@@ -1,14 +1,7 @@
 pub mod WantedLaws
-pub mod MetLaws
-pub mod RepeatLaws
-pub mod ClaimedLaws
 pub mod PerformLaws
 pub mod RequestedLaws
 pub mod FrontLaws
 pub mod PlacesLaws
 pub mod AskLaws
 pub mod ByTypeLaws
-pub mod GatherLaws
-pub mod ServedLaws
-pub mod ServingLaws
-pub mod PoolLaws

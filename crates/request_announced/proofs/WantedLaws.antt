@@ -6,7 +6,7 @@ use mathlib.Core.List.{List, [], ◌∷◌, ◌++◌, map}
 use native.Mathlib.Omega.{arith}
 use native.Mathlib.Numerals.{add-one}
 use lib.Dec.{eqb}
-use lib.ListN.{length, take, drop, get_or, length-drop, take-append-drop, drop_of_length-le}
+use lib.ListN.{length, take, drop, get_or, length-append, length-drop, take-append-drop, drop_of_length-le}
 use lib.Seq.{drop-cons, take_all, length-take-le}
 use Rattle.fields.specs.Facts.{All, Bytes}
 use Rattle.fields.specs.Number.{to_be}
@@ -106,14 +106,6 @@ wanted_kept pending type_id pairs ids = kept_both (λ (id : Id). not (is_stored 
 
 pub kept_wide : (width : ℕ) (test : List ℕ → Bool) (es : List (List ℕ)) → Wide width es → Wide width (kept test es)
 kept_wide width = all_kept (λ (e : List ℕ). length e ≡ width)
-
--- what is wanted of ids: no more than they, each as long
-module _ (pending : List Request) (type_id : ℕ) (pairs : List Pair) (ids : List Id) where
-  pub wanted_few : length (wanted pending type_id pairs ids) ≤ length ids
-  wanted_few = rw (wanted_kept pending type_id pairs ids) (length_kept (is_wanted pending type_id pairs) ids)
-
-  pub wanted_wide : Wide id_size ids → Wide id_size (wanted pending type_id pairs ids)
-  wanted_wide w = rw (wanted_kept pending type_id pairs ids) (kept_wide id_size (is_wanted pending type_id pairs) ids w)
 
 -- The pass at id i: what is left of the wanted ones, written behind those kept, gives the whole.
 pub record Wanting (test : Id → Bool) (ids : List Id) (d rest : List ℕ) (c i : ℕ) : Type 0 where

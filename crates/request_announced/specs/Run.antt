@@ -1,11 +1,12 @@
 -- The loop over the types: what it runs on, what it requires of that, what it leaves.
-use Rattle.std.specs.Prelude.{ℕ, ◌+◌, ◌*◌, ◌/◌, ◌≤◌, ◌<◌, ◌≡◌, Bool, true, List, length, Result}
+use Rattle.std.specs.Prelude.{ℕ, ◌+◌, ◌*◌, ◌/◌, ◌≤◌, ◌<◌, ◌≡◌, Bool, true, List, length, leb, Result}
 use Rattle.fields.specs.Entries.{entries, rising, joined}
 use Rattle.model.specs.Lists.{pairs_in, entries_of}
 use Rattle.model.specs.Requests.{Done}
-use Rattle.commands.specs.Pending.{requests_in}
+use Rattle.commands.specs.Pending.{requests_in, holding}
+use Rattle.commands.specs.Sent.{sent_at}
 use Rattle.commands.specs.declared.place.Place.{Place}
-use Rattle.request_announced.specs.Requested.{Answered}
+use Rattle.request_announced.specs.Requested.{requested_as}
 use Rattle.commands.specs.declared.tracker.TrackerError.{TrackerError}
 use Rattle.request_announced.specs.declared.asks.Asks.{Asks}
 use Rattle.request_announced.specs.declared.request.Written.{Written}
@@ -65,6 +66,8 @@ pub record Ready (r : Run) : Type 0 where
 abbrev pub asked_of : Run → Done
 asked_of r = performed_by_type r.gate r.clock r.peer (pairs_in r.stored) (entries_of pair_size r.pairs) (requests_in r.count r.table)
 
--- what they answer and leave
-abbrev pub Asked : Run → Result Written TrackerError → List ℕ → List ℕ → Type 0
-Asked r = Answered r.most r.count r.place (asked_of r) r.table r.out
+-- the answer, and the table and the area after it where there is room
+pub record Asked (r : Run) (answer : Result Written TrackerError) (table out : List ℕ) : Type 0 where
+  pub answered : answer ≡ requested_as r.most r.place (asked_of r)
+  pub left : leb (length (asked_of r).pending) r.most ≡ true → table ≡ holding r.count (asked_of r).pending r.table
+  pub written : leb (length (asked_of r).pending) r.most ≡ true → out ≡ sent_at r.place (asked_of r).sendings r.out

@@ -1,5 +1,5 @@
-// The entries: opening, step, its forecast and question, in `pooled` step and forecast of pooled announcements, in `mean_age` that of
-// the mean age, and in `map` those of the map of the window, on numbers and byte slices. The crate `request_keeper_c` exports them.
+// The entries: opening, step, its forecast and question, in `mean_age` that of the mean age, and in `map` those of the map of the
+// window, on numbers and byte slices. The crate `request_keeper_c` exports them.
 //
 // None demands anything of its caller: any number and any bytes are answered, as docs/LAYOUT.md says. Each is one equation
 // with the entry's definition in model/specs/Calls.antt, which demand 3 speaks of, in Forecast.antt, in MeanAge.antt, or in
@@ -11,9 +11,8 @@
 
 pub mod map;
 pub mod mean_age;
-pub mod pooled;
 
-ghost use Rattle.std.specs.Prelude.{◌≡◌, []};
+ghost use Rattle.std.specs.Prelude.{◌≡◌};
 ghost use Rattle.model.specs.Calls.{open', step, question};
 ghost use Rattle.model.specs.Forecast.{forecast};
 ghost use Rattle.refusals.specs.Lent.{call_with};
@@ -54,7 +53,7 @@ pub fn request_keeper_open(
 }
 
 // A step: the refusals that are known before it, then the step itself.
-pub(crate) fn take_step(
+fn take_step(
     state: &mut [u8],
     commands: &mut [u8],
     call: Call,
@@ -86,39 +85,7 @@ pub fn request_keeper_step(
     peers: &[u8],
     view: &[u8],
 ) -> Answer
-    ensures { record {
-      answer = record {
-        number = result.number;
-        outcome = result.outcome;
-        retried = result.retried;
-        fresh = result.fresh;
-        abandoned = result.abandoned;
-        forgotten = result.forgotten;
-        pending = result.pending;
-        evicted = result.evicted;
-        length = result.length;
-      };
-      state = state.new;
-      commands = commands.new;
-    }
-        ≡ step state.old commands.old (record {
-          kind = kind;
-          clock = clock;
-          gate = gate;
-          height = height;
-          peer = peer;
-          typeid = typeid;
-          fork = fork;
-          parsed = parsed;
-          hastip = hastip;
-          tip = tip;
-          ids = ids.now;
-          continuation = continuation.now;
-          stored = stored.now;
-          peers = peers.now;
-          view = view.now;
-          pool = [];
-        }) }
+    ensures { record { answer = record { number = result.number; outcome = result.outcome; retried = result.retried; fresh = result.fresh; abandoned = result.abandoned; forgotten = result.forgotten; pending = result.pending; evicted = result.evicted; length = result.length }; state = state.new; commands = commands.new } ≡ step state.old commands.old (record { kind = kind; clock = clock; gate = gate; height = height; peer = peer; typeid = typeid; fork = fork; parsed = parsed; hastip = hastip; tip = tip; ids = ids.now; continuation = continuation.now; stored = stored.now; peers = peers.now; view = view.now }) }
 {
     let call = Call {
         kind,
@@ -138,7 +105,6 @@ pub fn request_keeper_step(
         stored,
         peers,
         view,
-        pool: b"",
     };
     match take_step(state, commands, call, lists) {
         Ok(answer) => answer,
@@ -147,7 +113,7 @@ pub fn request_keeper_step(
 }
 
 // The same of a forecast, which has no command area.
-pub(crate) fn forecast_step(state: &[u8], call: Call, lists: Lists) -> Result<Forecast, Refusal>
+fn forecast_step(state: &[u8], call: Call, lists: Lists) -> Result<Forecast, Refusal>
     ensures { forecast_in result ≡ forecast state.now (call_with call lists.entry) }
 {
     refusals::step_refusal(state, AREA_SIZE, call, lists)?;
@@ -173,32 +139,7 @@ pub fn request_keeper_forecast(
     peers: &[u8],
     view: &[u8],
 ) -> Forecast
-    ensures { record {
-      number = result.number;
-      outcome = result.outcome;
-      pending = result.pending;
-      evicted = result.evicted;
-      commands = result.commands;
-      length = result.length;
-    }
-        ≡ forecast state.now (record {
-          kind = kind;
-          clock = clock;
-          gate = gate;
-          height = height;
-          peer = peer;
-          typeid = typeid;
-          fork = fork;
-          parsed = parsed;
-          hastip = hastip;
-          tip = tip;
-          ids = ids.now;
-          continuation = continuation.now;
-          stored = stored.now;
-          peers = peers.now;
-          view = view.now;
-          pool = [];
-        }) }
+    ensures { record { number = result.number; outcome = result.outcome; pending = result.pending; evicted = result.evicted; commands = result.commands; length = result.length } ≡ forecast state.now (record { kind = kind; clock = clock; gate = gate; height = height; peer = peer; typeid = typeid; fork = fork; parsed = parsed; hastip = hastip; tip = tip; ids = ids.now; continuation = continuation.now; stored = stored.now; peers = peers.now; view = view.now }) }
 {
     let call = Call {
         kind,
@@ -218,7 +159,6 @@ pub fn request_keeper_forecast(
         stored,
         peers,
         view,
-        pool: b"",
     };
     match forecast_step(state, call, lists) {
         Ok(forecast) => forecast,

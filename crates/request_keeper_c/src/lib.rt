@@ -1,4 +1,4 @@
-// The entries of `request_keeper`, exported for C and Rust: twelve functions on numbers and byte slices, which the archive
+// The entries of `request_keeper`, exported for C and Rust: ten functions on numbers and byte slices, which the archive
 // librequest_keeper.a has and host/request-keeper/include/request_keeper.h declares.
 //
 // Each calls the entry of its name and states its clauses again, word for word. A slice comes as a pointer and a length. None
@@ -6,9 +6,8 @@
 #![tactic(auto)]
 
 pub mod map;
-pub mod pooled;
 
-ghost use Rattle.std.specs.Prelude.{◌≡◌, []};
+ghost use Rattle.std.specs.Prelude.{◌≡◌};
 ghost use Rattle.model.specs.Calls.{open', step, question};
 ghost use Rattle.model.specs.Forecast.{forecast};
 ghost use Rattle.model.specs.MeanAge.{mean_age};
@@ -55,39 +54,7 @@ pub extern "C" fn request_keeper_step(
     peers: &[u8],
     view: &[u8],
 ) -> Answer
-    ensures { record {
-      answer = record {
-        number = result.number;
-        outcome = result.outcome;
-        retried = result.retried;
-        fresh = result.fresh;
-        abandoned = result.abandoned;
-        forgotten = result.forgotten;
-        pending = result.pending;
-        evicted = result.evicted;
-        length = result.length;
-      };
-      state = state.new;
-      commands = commands.new;
-    }
-        ≡ step state.old commands.old (record {
-          kind = kind;
-          clock = clock;
-          gate = gate;
-          height = height;
-          peer = peer;
-          typeid = typeid;
-          fork = fork;
-          parsed = parsed;
-          hastip = hastip;
-          tip = tip;
-          ids = ids.now;
-          continuation = continuation.now;
-          stored = stored.now;
-          peers = peers.now;
-          view = view.now;
-          pool = [];
-        }) }
+    ensures { record { answer = record { number = result.number; outcome = result.outcome; retried = result.retried; fresh = result.fresh; abandoned = result.abandoned; forgotten = result.forgotten; pending = result.pending; evicted = result.evicted; length = result.length }; state = state.new; commands = commands.new } ≡ step state.old commands.old (record { kind = kind; clock = clock; gate = gate; height = height; peer = peer; typeid = typeid; fork = fork; parsed = parsed; hastip = hastip; tip = tip; ids = ids.now; continuation = continuation.now; stored = stored.now; peers = peers.now; view = view.now }) }
 {
     request_keeper::request_keeper_step(
         state,
@@ -130,32 +97,7 @@ pub extern "C" fn request_keeper_forecast(
     peers: &[u8],
     view: &[u8],
 ) -> Forecast
-    ensures { record {
-      number = result.number;
-      outcome = result.outcome;
-      pending = result.pending;
-      evicted = result.evicted;
-      commands = result.commands;
-      length = result.length;
-    }
-        ≡ forecast state.now (record {
-          kind = kind;
-          clock = clock;
-          gate = gate;
-          height = height;
-          peer = peer;
-          typeid = typeid;
-          fork = fork;
-          parsed = parsed;
-          hastip = hastip;
-          tip = tip;
-          ids = ids.now;
-          continuation = continuation.now;
-          stored = stored.now;
-          peers = peers.now;
-          view = view.now;
-          pool = [];
-        }) }
+    ensures { record { number = result.number; outcome = result.outcome; pending = result.pending; evicted = result.evicted; commands = result.commands; length = result.length } ≡ forecast state.now (record { kind = kind; clock = clock; gate = gate; height = height; peer = peer; typeid = typeid; fork = fork; parsed = parsed; hastip = hastip; tip = tip; ids = ids.now; continuation = continuation.now; stored = stored.now; peers = peers.now; view = view.now }) }
 {
     request_keeper::request_keeper_forecast(
         state,

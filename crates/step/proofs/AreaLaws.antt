@@ -71,10 +71,10 @@ module _ (area : List ℕ) (l : length area ≡ area_size) (f : Bytes area) (ok 
       rw (length-drop region_at area) (omega arith) in
       rw (drop-drop (length (drop region_at area) - evicted_count area * id_size) region_at area, n)
 
-  pub area_given : (call : Call) (ids continuation stored peers view pool : List ℕ)
-      → Given (head_in area) (drop region_at area) call ids stored view state (call_of call ids continuation stored peers view pool)
+  pub area_given : (call : Call) (ids continuation stored peers view : List ℕ)
+      → Given (head_in area) (drop region_at area) call ids stored view state (call_of call ids continuation stored peers view)
   unfolding decode pending_of head_in call_of numbers_of
-  area_given call ids continuation stored peers view pool =
+  area_given call ids continuation stored peers view =
       record {
         header = head_decode area ok;
         pending = refl;

@@ -14,7 +14,7 @@ use Rattle.plan.specs.Plans.{Follows}
 use Rattle.std.proofs.Common.{Err}
 use Rattle.commands.specs.Sent.{first_place}
 use Rattle.commands.specs.declared.tracker.TrackerError.TheVariants.{Full}
-use Rattle.work.specs.Worked.{Worked, fits, performed_as, finds_out_first}
+use Rattle.work.specs.Worked.{Worked, fits, performed_as, is_one_list}
 use Rattle.refusals.specs.Refusals.{given_refusal}
 use Rattle.refusals.proofs.RefusalLaws.{Given, given}
 use Rattle.work_asks.specs.Carried.{carried_by}
@@ -31,9 +31,8 @@ module _ (area commands : List ℕ) (c : calls.Call) (p : Plan) (g : given_refus
   facts : Given area (length commands) c
   facts = given area (length commands) c g
 
-  -- a work that may write before it finds out always has room
-  pub not_full : {A : Type 0} → works_on_copies p.work p.announces ≡ false → finds_out_first p.work ≡ false
-      → (Err Full) ≡ performed_as first_place w → A
-  not_full small late full =
-      let room : fits w ≡ true = few_fit (decode area) c p (area_well area facts.state_size bytes facts.image).tracked small late in
+  -- a work that is not of one list always has room
+  pub not_full : {A : Type 0} → works_on_copies p.work p.announces ≡ false → is_one_list p.work ≡ false → (Err Full) ≡ performed_as first_place w → A
+  not_full small several full =
+      let room : fits w ≡ true = few_fit (decode area) c p (area_well area facts.state_size bytes facts.image).tracked small several in
       absurd (false≢true (sym (full_fails w full) ∙ room))

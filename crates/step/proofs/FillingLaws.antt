@@ -1,4 +1,4 @@
--- A work that needs no copies and may write before it finds out leaves at most 1,024 pending and evicted: it has room.
+-- A work that needs no copies and is not of one list leaves at most 1,024 pending and evicted.
 use Prim.Native.Nat.{ℕ, suc, ◌+◌, ◌≤◌}
 use mathlib.Core.Path.{◌≡◌, refl, sym, ◌∙◌}
 use mathlib.Core.Bool.{Bool, true, false, not, cond, false≢true}
@@ -25,9 +25,9 @@ use Rattle.model.specs.Calls as calls
 use Rattle.std.proofs.Common.{Option, Some, None}
 use Rattle.plan.specs.declared.Plan.{Plan}
 use Rattle.plan.specs.declared.Work.{Work}
-use Rattle.plan.specs.declared.Work.TheVariants.{Nothing, Ids, Pooled, Sections, Received, Evicted, Purge, PurgeSections, Lose, LoseAsk, Check, CheckFresh}
+use Rattle.plan.specs.declared.Work.TheVariants.{Nothing, Ids, Sections, Received, Evicted, Purge, PurgeSections, Lose, LoseAsk, Check, CheckFresh}
 use Rattle.plan.specs.Plans.{retried_by}
-use Rattle.work.specs.Worked.{acted_by, worked_by, fits, finds_out_first}
+use Rattle.work.specs.Worked.{acted_by, worked_by, fits, is_one_list}
 use Rattle.work_asks.specs.Carried.{carried_by}
 use Rattle.step.specs.Copies.{is_told, works_on_copies}
 
@@ -79,27 +79,25 @@ module _ (st : State) (c : calls.Call) (downloaded : ℕ) where
   abbrev held : ℕ
   held = length st.pending + length st.sync.evicted
 
-  stays_few : (work : Work) (announces : Option ℕ) → held ≤ tracked_limit → works_on_copies work announces ≡ false
-      → finds_out_first work ≡ false
+  stays_few : (work : Work) (announces : Option ℕ) → held ≤ tracked_limit → works_on_copies work announces ≡ false → is_one_list work ≡ false
       → length (worked_by st c downloaded work).pending + length (worked_by st c downloaded work).evicted ≤ tracked_limit
   unfolding worked_by acted_by retried_by mark_received pending_after_eviction evicted_after_eviction purge_peer purge_all
-  stays_few Nothing announces h e first = omega arith
-  stays_few (Ids peer) announces h e first = absurd (false≢true (sym first))
-  stays_few Pooled announces h e first = absurd (false≢true (sym first))
-  stays_few (Sections peer) announces h e first = absurd (false≢true (sym e))
-  stays_few Received announces h e first = omega (arith, length_kept (λ (r : Request). not (is_among r.id (ids_in c.ids))) st.pending)
-  stays_few Evicted announces h e first = absurd (false≢true (sym first))
-  stays_few Purge announces h e first = omega arith
-  stays_few (PurgeSections peer) announces h e first = absurd (false≢true (sym e))
-  stays_few Lose announces h e first = omega (arith, length_kept (λ (r : Request). not (eqb r.peer st.sync.sync_peer)) st.pending)
-  stays_few (LoseAsk peer) announces h e first = absurd (false≢true (sym e))
-  stays_few (Check aim) announces h e first =
+  stays_few Nothing announces h e one = omega arith
+  stays_few (Ids peer) announces h e one = absurd (false≢true (sym one))
+  stays_few (Sections peer) announces h e one = absurd (false≢true (sym e))
+  stays_few Received announces h e one = omega (arith, length_kept (λ (r : Request). not (is_among r.id (ids_in c.ids))) st.pending)
+  stays_few Evicted announces h e one = absurd (false≢true (sym one))
+  stays_few Purge announces h e one = omega arith
+  stays_few (PurgeSections peer) announces h e one = absurd (false≢true (sym e))
+  stays_few Lose announces h e one = omega (arith, length_kept (λ (r : Request). not (eqb r.peer st.sync.sync_peer)) st.pending)
+  stays_few (LoseAsk peer) announces h e one = absurd (false≢true (sym e))
+  stays_few (Check aim) announces h e one =
       omega (
         arith,
         length_marked (retried_by st c (Check aim)) (check_timeouts st.settings c.clock st.pending),
         checked_few st.settings c.clock st.pending,
       )
-  stays_few (CheckFresh peer aim) announces h e first =
+  stays_few (CheckFresh peer aim) announces h e one =
       let base : List Request = mark_all_retried (retried_by st c (CheckFresh peer aim)) (check_timeouts st.settings c.clock st.pending) in
       omega (
         arith,
@@ -110,24 +108,22 @@ module _ (st : State) (c : calls.Call) (downloaded : ℕ) where
       )
 
 pub few_fit : (st : State) (c : calls.Call) (p : Plan) → length st.pending + length st.sync.evicted ≤ tracked_limit
-    → works_on_copies p.work p.announces ≡ false → finds_out_first p.work ≡ false → fits (carried_by st c p) ≡ true
+    → works_on_copies p.work p.announces ≡ false → is_one_list p.work ≡ false → fits (carried_by st c p) ≡ true
 unfolding fits carried_by
-few_fit st c p h e first =
+few_fit st c p h e one =
     le-leb (length (worked_by st c p.head.downloaded p.work).pending + length (worked_by st c p.head.downloaded p.work).evicted) tracked_limit
-    (stays_few st c p.head.downloaded p.work p.announces h e first)
+    (stays_few st c p.head.downloaded p.work p.announces h e one)
 
--- a work that finds out first and needs no copies tells nobody before it
-pub nobody_told : (work : Work) (announces : Option ℕ) → works_on_copies work announces ≡ false
-    → finds_out_first work ≡ true → announces ≡ None
-nobody_told Nothing announces e first = absurd (false≢true first)
-nobody_told (Ids peer) announces e first = untold announces e
-nobody_told Pooled announces e first = untold announces e
-nobody_told (Sections peer) announces e first = absurd (false≢true first)
-nobody_told Received announces e first = absurd (false≢true first)
-nobody_told Evicted announces e first = untold announces e
-nobody_told Purge announces e first = absurd (false≢true first)
-nobody_told (PurgeSections peer) announces e first = absurd (false≢true first)
-nobody_told Lose announces e first = absurd (false≢true first)
-nobody_told (LoseAsk peer) announces e first = absurd (false≢true first)
-nobody_told (Check aim) announces e first = absurd (false≢true first)
-nobody_told (CheckFresh peer aim) announces e first = absurd (false≢true first)
+-- a work of one list that needs no copies tells nobody before it
+pub nobody_told : (work : Work) (announces : Option ℕ) → works_on_copies work announces ≡ false → is_one_list work ≡ true → announces ≡ None
+nobody_told Nothing announces e one = absurd (false≢true one)
+nobody_told (Ids peer) announces e one = untold announces e
+nobody_told (Sections peer) announces e one = absurd (false≢true one)
+nobody_told Received announces e one = absurd (false≢true one)
+nobody_told Evicted announces e one = untold announces e
+nobody_told Purge announces e one = absurd (false≢true one)
+nobody_told (PurgeSections peer) announces e one = absurd (false≢true one)
+nobody_told Lose announces e one = absurd (false≢true one)
+nobody_told (LoseAsk peer) announces e one = absurd (false≢true one)
+nobody_told (Check aim) announces e one = absurd (false≢true one)
+nobody_told (CheckFresh peer aim) announces e one = absurd (false≢true one)

@@ -17,7 +17,7 @@ use Rattle.fields.specs.Zero.{zeros}
 use Rattle.fields.proofs.ZeroLaws.{length_zeros}
 use Rattle.model.specs.State.{State}
 use Rattle.model.specs.Image.{decode, well_formed}
-use Rattle.model.specs.Lists.{pairs_fit, view_fits, continuation_fits, pool_few}
+use Rattle.model.specs.Lists.{pairs_fit, view_fits, continuation_fits}
 use Rattle.model.specs.Calls as calls
 use Rattle.model.specs.Demand3.{InWidth}
 use Rattle.model.specs.Protocol.{tracked_limit}
@@ -34,7 +34,7 @@ use Rattle.work.specs.declared.Counts.{Counts}
 use Rattle.commands.specs.declared.tracker.TrackerError.{TrackerError}
 use Rattle.commands.specs.declared.tracker.TrackerError.TheVariants.{Full}
 use Rattle.work.specs.Worked as worked
-use Rattle.work.specs.Worked.{Tracked, Performs, finds_out_first, Untouched}
+use Rattle.work.specs.Worked.{Tracked, Performs, is_one_list, Untouched}
 use Rattle.work_asks.specs.Carried.{carried_by}
 use Rattle.work_asks.specs.Room.{most_sent, most_carried}
 use Rattle.work_asks.proofs.RoomLaws.{sent_most, plan_sends}
@@ -64,7 +64,7 @@ pub record Entered (area : List ℕ) (head : Head) (plan : Plan) (call : Call) (
 -- what `carry_out` ensures
 abbrev CarrySays : Head → Plan → Call → Lists → List ℕ → List ℕ → (Result Counts TrackerError) → List ℕ → List ℕ → Type 0
 CarrySays head plan call lent region out answer region' out' =
-    (st : State) (c : calls.Call) → worked.Given head region call lent.ids lent.stored lent.view st c → c.continuation ≡ lent.continuation → c.pool ≡ lent.pool
+    (st : State) (c : calls.Call) → worked.Given head region call lent.ids lent.stored lent.view st c → c.continuation ≡ lent.continuation
     → Performs first_place (carried_by st c plan) out answer region' out'
 
 -- with the room of a command area 3 is not given
@@ -123,10 +123,6 @@ module _ {area : List ℕ} {head : Head} {plan : Plan} {call : Call} {lent : Lis
     unfolding call_of
     stored_fit = facts.stored
 
-    pub pool_is_few : pool_few lent.pool ≡ true
-    unfolding call_of
-    pool_is_few = facts.pool_few
-
     pub view_fit : view_fits lent.view ≡ true
     unfolding call_of
     view_fit = facts.view
@@ -161,7 +157,7 @@ module _ {area : List ℕ} {head : Head} {plan : Plan} {call : Call} {lent : Lis
     region_given : worked.Given head region₀ call lent.ids lent.stored lent.view (decode area) (called call lent)
     region_given =
         rw (region_is, its.read)
-        (area_given area (long its) e.bytes (well its) call lent.ids lent.continuation lent.stored lent.peers lent.view lent.pool)
+        (area_given area (long its) e.bytes (well its) call lent.ids lent.continuation lent.stored lent.peers lent.view)
 
     -- what `carry_out` asks of the room
     pub carry_room : (out : List ℕ) → room_of head (length lent.ids) plan.work plan.announces ≤ length out
@@ -171,7 +167,7 @@ module _ {area : List ℕ} {head : Head} {plan : Plan} {call : Call} {lent : Lis
     pub carried : (out : List ℕ) {answer : (Result Counts TrackerError)} {region' out' : List ℕ} → CarrySays head plan call lent region₀ out answer region' out'
         → Performs first_place (work_of area call lent plan) out answer region' out'
     unfolding call_of
-    carried out says = says (decode area) (called call lent) region_given refl refl
+    carried out says = says (decode area) (called call lent) region_given refl
 
     -- the plan carried out on the area's region and on room for commands
     module _ {room region out : List ℕ} {answer : (Result Counts TrackerError)}
@@ -199,20 +195,20 @@ module _ {area : List ℕ} {head : Head} {plan : Plan} {call : Call} {lent : Lis
             stops area (room ++ rest) (called call lent) 10 q
             (too_many area (room ++ rest) (called call lent) plan g its.follows its.seen (sym f ∙ d.answered))
 
-        -- a work that finds out first has touched nothing, and any other that needs no copies has room
+        -- a work of one list has touched nothing, and any other that needs no copies has room
         full_in_place : {r : calls.Answer} → works_on_copies plan.work plan.announces ≡ false
             → (plan.announces ≡ None → Untouched plan.work answer region₀ region room out)
             → answer ≡ (Err Full) → r ≡ calls.refused 10 → StepsTo area (room ++ rest) call lent r area₁ (out ++ rest)
-        full_in_place {r} small kept f q = go (finds_out_first plan.work) refl
+        full_in_place {r} small kept f q = go (is_one_list plan.work) refl
           where
-            go : (first : Bool) → finds_out_first plan.work ≡ first → StepsTo area (room ++ rest) call lent r area₁ (out ++ rest)
-            go true first =
-                let left = kept (nobody_told plan.work plan.announces small first) first f in
+            go : (one : Bool) → is_one_list plan.work ≡ one → StepsTo area (room ++ rest) call lent r area₁ (out ++ rest)
+            go true one =
+                let left = kept (nobody_told plan.work plan.announces small one) one f in
                 let same : area₁ ≡ area =
                 ap (put_mid region_at (length area - region_at) area) left.0 ∙ put_same region_at (length area - region_at) area in
                 rw (same, left.1) (full_stops f q)
-            go false late =
-                not_full area (room ++ rest) (called call lent) plan g its.follows its.seen head its.read e.bytes small late
+            go false several =
+                not_full area (room ++ rest) (called call lent) plan g its.follows its.seen head its.read e.bytes small several
                 (sym f ∙ d.answered)
 
         module _ (counts : Counts) (f : answer ≡ Ok counts) where

@@ -1,4 +1,4 @@
--- A step that none of 1 to 8 and 13 refuses, with its header and its plan: what carrying it out starts from, and what it must come to.
+-- A step that none of 1 to 8 refuses, with its header and its plan: what carrying it out starts from, and what it must come to.
 use Rattle.std.specs.Prelude.{ℕ, ◌≤◌, ◌≡◌, true, false, List, ◌++◌, length}
 use Rattle.model.specs.Image.{decode}
 use Rattle.model.specs.Calls as calls
@@ -14,26 +14,24 @@ use Rattle.refusals.specs.Refusals.{given_refusal}
 use Rattle.work_asks.specs.Carried.{carried_by}
 use Rattle.step.specs.Copies.{works_on_copies}
 
--- the lists that a call lends beside its numbers
+-- the five lists that a call lends beside its numbers
 pub record Lists : Type 0 where
   pub ids : List ℕ
   pub continuation : List ℕ
   pub stored : List ℕ
   pub peers : List ℕ
   pub view : List ℕ
-  pub pool : List ℕ
 
-abbrev pub lists : List ℕ → List ℕ → List ℕ → List ℕ → List ℕ → List ℕ → Lists
-lists ids continuation stored peers view pool =
-    record { ids = ids; continuation = continuation; stored = stored; peers = peers; view = view; pool = pool }
+abbrev pub lists : List ℕ → List ℕ → List ℕ → List ℕ → List ℕ → Lists
+lists ids continuation stored peers view = record { ids = ids; continuation = continuation; stored = stored; peers = peers; view = view }
 
 -- as a call lends them
 abbrev pub lent_in : slices.Lists → Lists
-lent_in l = lists l.ids.now l.continuation.now l.stored.now l.peers.now l.view.now l.pool.now
+lent_in l = lists l.ids.now l.continuation.now l.stored.now l.peers.now l.view.now
 
 -- the call of these numbers and lists
 abbrev pub called : Call → Lists → calls.Call
-called call lent = call_of call lent.ids lent.continuation lent.stored lent.peers lent.view lent.pool
+called call lent = call_of call lent.ids lent.continuation lent.stored lent.peers lent.view
 
 -- what the plan's work comes to on this area
 abbrev pub work_of : List ℕ → Call → Lists → Plan → Worked

@@ -1,7 +1,7 @@
 // Whether a step is worked out on copies of the areas.
 //
-// Sections and orphans are entered list by list, and some may be entered before one finds no room. Announced ids, pooled
-// ones too, and evicted ids find out before anything is touched; behind an announcement commands are written before that.
+// Where the lists of a work are several, some may be entered before one finds no room, and behind an announcement commands
+// are written before that is known. A work of one list finds out before it touches anything.
 ghost use Rattle.std.specs.Prelude.{◌≡◌};
 ghost use Rattle.step.specs.Copies.{is_told, works_on_copies};
 
@@ -21,7 +21,6 @@ pub fn works_on_copies(work: Work, announces: Option<u64>) -> bool
     match work {
         Work::Nothing => false,
         Work::Ids(_) => is_told(announces),
-        Work::Pooled => is_told(announces),
         Work::Sections(_) => true,
         Work::Received => false,
         Work::Evicted => is_told(announces),

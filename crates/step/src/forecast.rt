@@ -106,7 +106,7 @@ fn forecast_planned(
     forecast_in(state, &mut image, &mut out, head, plan, call, lists)
 }
 
-// A step that none of 1, 2, 4 to 8 and 13 refuses.
+// A step that none of 1, 2 and 4 to 8 refuses.
 pub fn forecast_step(state: &[u8], call: Call, lists: Lists) -> Result<Forecast, Refusal>
     requires { given_refusal state.now area_size (call_with call lists) ≡ 0 }
     ensures { forecast_in result ≡ model.forecast state.now (call_with call lists.entry) }

@@ -1,7 +1,7 @@
 // A step on bytes: its plan, carried out on the areas themselves, or on copies where a refusal may come after something was
 // written. It is refused as 9, 10 or 11 with both areas as they were.
 //
-// `run` equals `step` of model/specs/Calls.antt for every call that none of 1 to 8 and 13 refuses. It costs the records and rows
+// `run` equals `step` of model/specs/Calls.antt for every call that none of 1 to 8 refuses. It costs the records and rows
 // that its rules read and the bytes that it writes; on copies also a copy of the state area and one back.
 #![tactic(auto)]
 
@@ -26,7 +26,7 @@ use plan::Call;
 use refusals::lent::Lists;
 use refusals::refusal::Refusal;
 
-// A step that none of 1 to 8 and 13 refuses.
+// A step that none of 1 to 8 refuses.
 pub fn run(
     state: &mut [u8],
     commands: &mut [u8],

@@ -15,7 +15,7 @@ use plan::shown::Shown;
 use plan::{Call, Plan};
 use refusals::lent::Lists;
 
-// A step that none of 1, 2, 4 to 8 and 13 refuses.
+// A step that none of 1, 2 and 4 to 8 refuses.
 pub fn plan(state: &[u8], head: Head, call: Call, lists: Lists) -> Plan
     requires { (given_refusal state.now area_size (call_with call lists) ≡ 0) × (head ≡ head_in state.now) }
     ensures { Follows (decode state.now) (call_with call lists.entry) result }

@@ -19,7 +19,6 @@ fn most_sent(head: Head, ids: usize, work: Work) -> usize
     match work {
         Work::Nothing => 0,
         Work::Ids(_) => ids / ID_SIZE * COMMAND_SIZE,
-        Work::Pooled => ids / ID_SIZE * COMMAND_SIZE,
         Work::Sections(_) => MOST_BYTES,
         Work::Received => 0,
         Work::Evicted => 0,

@@ -10,7 +10,6 @@ use crate::finish::Answer;
 use image::head::Head;
 use lists::ids::Ids;
 use lists::pairs::Pairs;
-use lists::pool::Pool;
 use lists::view::View;
 use model::layout::REGION_AT;
 use plan::{Call, Plan};
@@ -34,7 +33,6 @@ pub fn work_out(
     ensures length_in_bounds { IfOk result (λ a. a.length ≤ length commands.old) }
 {
     let ids = Ids { bytes: lists.ids };
-    let pool = Pool { bytes: lists.pool };
     let stored = Pairs {
         bytes: lists.stored,
     };
@@ -46,7 +44,6 @@ pub fn work_out(
         plan,
         call,
         ids,
-        pool,
         lists.continuation,
         stored,
         view,

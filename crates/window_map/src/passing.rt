@@ -12,7 +12,7 @@ fn ones_at(map: &[u8], at: usize) -> u32
     ensures { (result ≡ trailing_ones (field at 8 map.now)) × (result ≤ 64) }
 {
     let word = fields::read_u64(map, at);
-    word.trailing_ones()
+    (!word).trailing_zeros()
 }
 
 // The run over the three words: a full one goes on into the next.

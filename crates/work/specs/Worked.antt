@@ -18,7 +18,7 @@ use Rattle.commands.specs.declared.place.Place.{Place}
 use Rattle.delivery.specs.Region.{evicted_in}
 use Rattle.plan.specs.declared.Call.{Call}
 use Rattle.plan.specs.declared.Work.{Work}
-use Rattle.plan.specs.declared.Work.TheVariants.{Nothing, Ids, Pooled, Sections, Received, Evicted, Purge, PurgeSections, Lose, LoseAsk, Check, CheckFresh}
+use Rattle.plan.specs.declared.Work.TheVariants.{Nothing, Ids, Sections, Received, Evicted, Purge, PurgeSections, Lose, LoseAsk, Check, CheckFresh}
 use Rattle.plan.specs.Plans.{numbers_of, is_check_by, remaining_by, retried_by, evicted_by, acts_by}
 use Rattle.commands.specs.declared.tracker.TrackerError.{TrackerError}
 use Rattle.commands.specs.declared.tracker.TrackerError.TheVariants.{Full}
@@ -115,21 +115,20 @@ pub record Performs (place : Place) (w : Worked) (commands : List ℕ) (answer :
   pub left : fits w ≡ true → region ≡ region_of w.pending w.evicted
   pub written : fits w ≡ true → out ≡ sent_at place w.sendings commands
 
--- the works that find out whether there is room before they write: all their ids enter at once, or none
-abbrev pub finds_out_first : Work → Bool
-finds_out_first Nothing = false
-finds_out_first (Ids peer) = true
-finds_out_first Pooled = true
-finds_out_first (Sections peer) = false
-finds_out_first Received = false
-finds_out_first Evicted = true
-finds_out_first Purge = false
-finds_out_first (PurgeSections peer) = false
-finds_out_first Lose = false
-finds_out_first (LoseAsk peer) = false
-finds_out_first (Check aim) = false
-finds_out_first (CheckFresh peer aim) = false
+-- the works that enter one list of ids and can find no room for it
+abbrev pub is_one_list : Work → Bool
+is_one_list Nothing = false
+is_one_list (Ids peer) = true
+is_one_list (Sections peer) = false
+is_one_list Received = false
+is_one_list Evicted = true
+is_one_list Purge = false
+is_one_list (PurgeSections peer) = false
+is_one_list Lose = false
+is_one_list (LoseAsk peer) = false
+is_one_list (Check aim) = false
+is_one_list (CheckFresh peer aim) = false
 
--- Where there is no room, such a work leaves what it was lent as it was.
+-- Where there is no room for its one list, such a work leaves what it was lent as it was.
 abbrev pub Untouched : Work → Result Counts TrackerError → List ℕ → List ℕ → List ℕ → List ℕ → Type 0
-Untouched work answer region region' out out' = finds_out_first work ≡ true → answer ≡ Err Full → (region' ≡ region) × (out' ≡ out)
+Untouched work answer region region' out out' = is_one_list work ≡ true → answer ≡ Err Full → (region' ≡ region) × (out' ≡ out)

@@ -38,9 +38,12 @@ use Rattle.work_asks.specs.Asked.{answered_as, Asks}
 abbrev written_as : Place → Done → Written
 written_as place done = record { count = length done.pending; place = behind place done.sendings }
 
--- ---- acts of which all ids are entered at once, or none
+-- ---- one list
 
--- where there is no room for them, table and commands stay
+one_act : (gate : Bool) (clock : ℕ) (act : Act) (rs : List Request) → perform_all gate clock (act ∷ []) rs ≡ perform gate clock act rs
+one_act gate clock act rs = rw (append-nil (perform gate clock act rs).sendings)
+
+-- where there is no room for the list, table and commands stay
 full_stays : (most count : ℕ) (place : Place) (done : Done) (before : Counts) {region out after out' : List ℕ} {r : Result Written TrackerError}
     → {answer : Result Counts TrackerError} → r ≡ requested_as most place done → answer ≡ answered_as r before
     → after ≡ held_within most count done.pending region → out' ≡ sent_within most place done out
@@ -56,34 +59,31 @@ full_stays most count place done before {region} {out} {after} {out'} {r} {answe
     go true e p q = cc
     go false e p q = (p, q)
 
-module _ (gate : Bool) (clock : ℕ) (acts : List Act) (before : Counts) (region out : List ℕ) where
+module _ (gate : Bool) (clock : ℕ) (act : Act) (before : Counts) (region out : List ℕ) where
   abbrev most : ℕ
   most = tracked_limit - before.evicted
 
-  module _ {done : Done} (e : done ≡ perform_all gate clock acts (requests_in before.pending region)) {r : Result Written TrackerError}
-      {answer : Result Counts TrackerError} {after out' : List ℕ} (a : r ≡ requested_as most before.place done)
-      (b : answer ≡ answered_as r before) (h : after ≡ held_within most before.pending done.pending region)
-      (o : out' ≡ sent_within most before.place done out) where
-    pub at_once : Asks gate clock acts before region out answer after out'
-    at_once =
+  abbrev listed : Done
+  listed = perform gate clock act (requests_in before.pending region)
+
+  module _ {r : Result Written TrackerError} {answer : Result Counts TrackerError} {after out' : List ℕ}
+      (a : r ≡ requested_as most before.place listed) (b : answer ≡ answered_as r before)
+      (h : after ≡ held_within most before.pending listed.pending region) (o : out' ≡ sent_within most before.place listed out) where
+    pub list_asked : Asks gate clock (act ∷ []) before region out answer after out'
+    list_asked =
         record {
           answered =
               b ∙ ap (λ (x : Result Written TrackerError). answered_as x before) a
-              ∙ ap (λ (d : Done). answered_as (requested_as most before.place d) before) e;
-          left =
-              λ t. h ∙ ap (λ (d : Done). held_within most before.pending d.pending region) e
-              ∙ few_held most before.pending (perform_all gate clock acts (requests_in before.pending region)).pending region t;
+              ∙ ap (λ (d : Done). answered_as (requested_as most before.place d) before)
+              (sym (one_act gate clock act (requests_in before.pending region)));
+          left = λ t. h ∙ few_held most before.pending listed.pending region t;
           written =
-              λ t. o ∙ ap (λ (d : Done). sent_within most before.place d out) e
-              ∙ few_sent most before.place (perform_all gate clock acts (requests_in before.pending region)) out t;
+              λ t. o ∙ few_sent most before.place listed out t
+              ∙ ap (λ (x : List Sending). sent_at before.place x out) (sym (append-nil listed.sendings));
         }
 
-    pub full_at_once : answer ≡ Err Full → (after ≡ region) × (out' ≡ out)
-    full_at_once = full_stays most before.pending before.place done before a b h o
-
--- one list is one act
-pub one_act : (gate : Bool) (clock : ℕ) (act : Act) (rs : List Request) → perform gate clock act rs ≡ perform_all gate clock (act ∷ []) rs
-one_act gate clock act rs = rw (append-nil (perform gate clock act rs).sendings)
+    pub list_full : answer ≡ Err Full → (after ≡ region) × (out' ≡ out)
+    list_full = full_stays most before.pending before.place listed before a b h o
 
 -- ---- acts keep requests in width
 

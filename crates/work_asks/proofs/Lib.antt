@@ -3,7 +3,6 @@ pub mod AskedLaws
 pub mod PairLaws
 pub mod IdsLaws
 pub mod LostLaws
-pub mod PooledLaws
 pub mod OrphanLaws
 pub mod FreshLaws
 pub mod PlainLaws

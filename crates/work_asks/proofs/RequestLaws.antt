@@ -4,14 +4,14 @@ use mathlib.Core.Path.{◌≡◌}
 use mathlib.Core.Bool.{Bool, true, false, not, ◌&&◌}
 use mathlib.Core.List.{List, [], ◌∷◌, ◌++◌, map}
 use native.Mathlib.Omega.{arith}
-use lib.ListN.{length, drop}
+use lib.ListN.{length}
 use lib.Seq.{length-take-le}
 use lib.Dec.{eqb}
 use Rattle.fields.specs.Facts.{All}
 use Rattle.fields.specs.Filter.{kept}
 use Rattle.fields.specs.Sort.{sorted}
 use Rattle.fields.specs.Entries.{entries}
-use Rattle.fields.proofs.AllLaws.{all_append, all_kept, all_map, all_take, all_drop, either}
+use Rattle.fields.proofs.AllLaws.{all_append, all_kept, all_map, either}
 use Rattle.fields.proofs.SortLaws.{all_sorted}
 use Rattle.fields.proofs.TotalLaws.{total, total_append}
 use Rattle.fields.proofs.EntriesLaws.{Wide, entries_wide}
@@ -19,13 +19,11 @@ use Rattle.model.specs.Protocol.{Id}
 use Rattle.model.specs.Settings.{Settings}
 use Rattle.model.specs.Delivery.{Request, verdict, verdict_number, retried, judged, is_pending}
 use Rattle.model.specs.Requests.{Pair, is_stored, Sending, request, announcement, sync_info, runs, commands_of, commands_from}
-use Rattle.model.specs.Requests.{PeerIds, Act, ask, ask_pooled, send, wanted, request_of, Done, perform, perform_all}
-use Rattle.model.specs.Lists.{PoolEntry, lists_in}
+use Rattle.model.specs.Requests.{ask, wanted, request_of, perform_all}
 use Rattle.model.specs.Sections.{Item, Batch, join, adjacent, batches_of, item_below}
 use Rattle.model.specs.Check.{retry_of, retries, retry_sendings}
 use Rattle.model.specs.Image as image
-use Rattle.model.proofs.PooledLaws.{once_all, asks_once}
-use Rattle.model.proofs.SendingLaws.{weight, act_weight, bytes_append, runs_bytes, performed_weight, retries_weight}
+use Rattle.model.proofs.SendingLaws.{weight, bytes_append, runs_bytes, performed_weight, retries_weight}
 use Rattle.commands.specs.Pending.{requests_in}
 use Rattle.commands.specs.Sent.{sent_bytes}
 use Rattle.model.specs.Layout.{command_size, id_size, record_size}
@@ -39,10 +37,6 @@ WholeRequest r = WholeId r.id
 
 abbrev pub WholeItem : Item → Type 0
 WholeItem i = WholeId i.id
-
-abbrev pub WholeAct : Act → Type 0
-WholeAct (ask type_id peer pairs ids) = Wide id_size ids
-WholeAct (send s) = ⊥
 
 abbrev WholeBatch : Batch → Type 0
 WholeBatch b = Wide id_size b.ids
@@ -76,32 +70,12 @@ wanted_whole rs type_id pairs ids w =
     let new : Id → Bool = λ (id : Id). not (is_pending id rs) in
     all_kept WholeId (λ (id : Id). not (is_stored pairs type_id id)) (kept new ids) (all_kept WholeId new ids w)
 
-asked_whole : (gate : Bool) (clock : ℕ) (act : Act) (rs : List Request) → WholeAct act → All Whole (perform gate clock act rs).sendings
-asked_whole true clock (ask type_id peer pairs ids) rs w =
-    request_whole type_id peer (wanted rs type_id pairs ids) (wanted_whole rs type_id pairs ids w)
-asked_whole false clock (ask type_id peer pairs ids) rs w = tt
-asked_whole gate clock (send s) rs w = absurd w
-
-all_asked_whole : (gate : Bool) (clock : ℕ) (acts : List Act) (rs : List Request) → All WholeAct acts
-    → All Whole (perform_all gate clock acts rs).sendings
-all_asked_whole gate clock [] rs w = tt
-all_asked_whole gate clock (act ∷ acts) rs w =
-    let done : Done = perform gate clock act rs in
-    all_append Whole done.sendings (perform_all gate clock acts done.pending).sendings (asked_whole gate clock act rs w.0)
-    (all_asked_whole gate clock acts done.pending w.1)
-
--- pooled lists
-lists_whole : (pool : List PoolEntry) (ids : List Id) → Wide id_size ids → All (λ (l : PeerIds). Wide id_size l.ids) (lists_in pool ids)
-lists_whole [] ids w = tt
-lists_whole (e ∷ pool) ids w =
-    (all_take WholeId e.count ids w, lists_whole pool (drop e.count ids) (all_drop WholeId e.count ids w))
-
-pub pooled_whole : (type_id : ℕ) (pairs : List Pair) (pool : List PoolEntry) (ids : List Id) → Wide id_size ids
-    → All WholeAct (ask_pooled type_id pairs (lists_in pool ids))
-unfolding ask_pooled
-pooled_whole type_id pairs pool ids w =
-    all_map (λ (l : PeerIds). Wide id_size l.ids) WholeAct (asks_once type_id pairs) (λ l p. once_all WholeId l.ids p) (lists_in pool ids)
-    (lists_whole pool ids w)
+asked_whole : (gate : Bool) (clock type_id peer : ℕ) (pairs : List Pair) (ids : List Id) (rs : List Request) → Wide id_size ids
+    → All Whole (perform_all gate clock (ask type_id peer pairs ids ∷ []) rs).sendings
+asked_whole true clock type_id peer pairs ids rs w =
+    all_append Whole (request_of type_id peer (wanted rs type_id pairs ids)) []
+    (request_whole type_id peer (wanted rs type_id pairs ids) (wanted_whole rs type_id pairs ids w)) tt
+asked_whole false clock type_id peer pairs ids rs w = tt
 
 -- ---- retries
 
@@ -148,12 +122,12 @@ module _ (batch : ℕ) (items : List Item) (w : All WholeItem items) where
       let light = sent_light batch (again ++ []) (all_append Whole again [] (retries_whole items w) tt) in
       omega (arith, light, total_append weight again [], retries_weight items)
 
-  pub asked_bytes : (gate : Bool) (clock : ℕ) (acts : List Act) (rs : List Request) → All WholeAct acts
-      → length (sent_bytes batch (retry_sendings items ++ (perform_all gate clock acts rs).sendings))
-      ≤ length items * command_size + total act_weight acts
-  asked_bytes gate clock acts rs whole_acts =
+  pub asked_bytes : (gate : Bool) (clock type_id peer : ℕ) (pairs : List Pair) (ids : List Id) (rs : List Request) → Wide id_size ids
+      → length (sent_bytes batch (retry_sendings items ++ (perform_all gate clock (ask type_id peer pairs ids ∷ []) rs).sendings))
+      ≤ (length items + length ids) * command_size
+  asked_bytes gate clock type_id peer pairs ids rs wide =
       let again : List Sending = retry_sendings items in
-      let asked : List Sending = (perform_all gate clock acts rs).sendings in
-      let whole = all_append Whole again asked (retries_whole items w) (all_asked_whole gate clock acts rs whole_acts) in
-      let few = performed_weight gate clock acts rs in
+      let asked : List Sending = (perform_all gate clock (ask type_id peer pairs ids ∷ []) rs).sendings in
+      let whole = all_append Whole again asked (retries_whole items w) (asked_whole gate clock type_id peer pairs ids rs wide) in
+      let few = performed_weight gate clock (ask type_id peer pairs ids ∷ []) rs in
       omega (arith, sent_light batch (again ++ asked) whole, total_append weight again asked, retries_weight items, few)

@@ -1,7 +1,7 @@
 -- The room for commands: what is left of a plan's for its work, and that what a work sends fits into what it asks for.
 use Prim.Native.Nat.{ℕ, ◌+◌, ◌-◌, ◌*◌, ◌/◌, ◌≤◌, ◌<◌}
 use mathlib.Core.Path.{◌≡◌, ap, ◌∙◌}
-use mathlib.Core.List.{List, [], ◌∷◌, ◌++◌}
+use mathlib.Core.List.{List, [], ◌++◌}
 use native.Mathlib.Omega.{arith}
 use lib.ListN.{length, drop, length-drop}
 use lib.Dec.{eqb}
@@ -10,12 +10,11 @@ use Rattle.fields.proofs.EntriesLaws.{Wide, entries_wide}
 use Rattle.model.specs.Protocol.{Id, header_type, tracked_limit}
 use Rattle.model.specs.Delivery.{Request, check_timeouts}
 use Rattle.model.specs.State.{State}
-use Rattle.model.specs.Requests.{Pair, Act, ask, Sending}
+use Rattle.model.specs.Requests.{Sending}
 use Rattle.model.specs.Sections.{Item}
 use Rattle.model.specs.Check.{retries, mark_all_retried}
-use Rattle.model.specs.Lists.{ids_in, pairs_in, pool_in}
+use Rattle.model.specs.Lists.{ids_in, pairs_in}
 use Rattle.model.specs.Calls as calls
-use Rattle.model.proofs.ArgumentLaws.{pooled_asks, pooled_asks_weight}
 use Rattle.model.proofs.ListLaws.{ids_wide, length_ids}
 use Rattle.image.specs.declared.head.Head.{Head}
 use Rattle.peers.specs.Aims.{aimed_at}
@@ -28,21 +27,20 @@ use Rattle.commands.proofs.SentLaws.{behind_none}
 use Rattle.plan.specs.declared.Call.{Call}
 use Rattle.plan.specs.declared.Plan.{Plan}
 use Rattle.plan.specs.declared.Work.{Work}
-use Rattle.plan.specs.declared.Work.TheVariants.{Nothing, Ids, Pooled, Sections, Received, Evicted, Purge, PurgeSections, Lose, LoseAsk, Check, CheckFresh}
+use Rattle.plan.specs.declared.Work.TheVariants.{Nothing, Ids, Sections, Received, Evicted, Purge, PurgeSections, Lose, LoseAsk, Check, CheckFresh}
 use Rattle.plan.specs.Plans.{retried_by}
 use Rattle.work.specs.Worked.{Tracked, Given, acted_by, worked_by}
 use Rattle.work.proofs.RetriedLaws.{retries_few}
 use Rattle.work.proofs.WorkedLaws.{length_requests, length_evicted}
 use Rattle.work_asks.specs.Carried.{announced, carried_by}
 use Rattle.work_asks.specs.Room.{most_sent, room_for}
-use Rattle.work_asks.proofs.RequestLaws.{WholeRequest, WholeItem, WholeAct, retried_whole, requests_whole, pooled_whole, retried_bytes, asked_bytes}
+use Rattle.work_asks.proofs.RequestLaws.{WholeRequest, WholeItem, retried_whole, requests_whole, retried_bytes, asked_bytes}
 use Rattle.model.specs.Layout.{area_size, id_list_size, id_size, most_bytes}
 
 -- no work asks for more than a step's most
 pub sent_most : (head : Head) (ids : ℕ) (work : Work) → head.pending + head.evicted ≤ tracked_limit → ids ≤ id_list_size → most_sent head ids work ≤ most_bytes
 sent_most head ids Nothing few h = omega arith
 sent_most head ids (Ids peer) few h = omega arith
-sent_most head ids Pooled few h = omega arith
 sent_most head ids (Sections peer) few h = omega arith
 sent_most head ids Received few h = omega arith
 sent_most head ids Evicted few h = omega arith
@@ -110,14 +108,8 @@ module _ {head : Head} {call : Call} {region ids stored view : List ℕ} {st : S
   unfolding worked_by acted_by retried_by
   work_sends downloaded Nothing few = retried_bytes 0 [] tt
   work_sends downloaded (Ids peer) few =
-      let asks : List Act = ask c.typeid peer (pairs_in c.stored) (ids_in c.ids) ∷ [] in
-      omega (arith, asked_bytes 0 [] tt (eqb c.gate 1) c.clock asks st.pending (ids_wide c.ids, tt), ids_count)
-  work_sends downloaded Pooled few =
-      let pairs : List Pair = pairs_in c.stored in
-      let asks : List Act = pooled_asks c.typeid pairs c.pool c.ids in
-      let whole : All WholeAct asks = pooled_whole c.typeid pairs (pool_in c.pool) (ids_in c.ids) (ids_wide c.ids) in
-      let sent = asked_bytes 0 [] tt (eqb c.gate 1) c.clock asks st.pending whole in
-      omega (arith, sent, pooled_asks_weight c.typeid pairs c.pool c.ids, ap length g.its_ids)
+      let sent = asked_bytes 0 [] tt (eqb c.gate 1) c.clock c.typeid peer (pairs_in c.stored) (ids_in c.ids) st.pending (ids_wide c.ids) in
+      omega (arith, sent, ids_count)
   work_sends downloaded (Sections peer) few = omega arith
   work_sends downloaded Received few = retried_bytes 0 [] tt
   work_sends downloaded Evicted few = retried_bytes 0 [] tt
@@ -128,8 +120,8 @@ module _ {head : Head} {call : Call} {region ids stored view : List ℕ} {st : S
   work_sends downloaded (Check aim) few = omega (arith, retried_bytes 0 (again aim) (again_whole aim), again_few aim)
   work_sends downloaded (CheckFresh peer aim) few =
       let left : List Request = mark_all_retried (again aim) (check_timeouts st.settings c.clock st.pending) in
-      let asks : List Act = ask header_type peer (pairs_in c.stored) st.sync.evicted ∷ [] in
-      let sent = asked_bytes 0 (again aim) (again_whole aim) (eqb c.gate 1) c.clock asks left (evicted_whole, tt) in
+      let sent = asked_bytes 0 (again aim) (again_whole aim) (eqb c.gate 1) c.clock header_type peer (pairs_in c.stored) st.sync.evicted left
+      evicted_whole in
       omega (arith, sent, again_few aim, evicted_count_lem)
 
   -- so does a plan that announces nothing, up to its sync info

@@ -1,8 +1,8 @@
 -- What can be asked for through rule 3 behind what a work did before, and what the asks make of a region and of some commands.
-use Rattle.std.specs.Prelude.{ℕ, ◌+◌, ◌-◌, ◌*◌, ◌/◌, ◌%◌, ◌≤◌, ◌<◌, ◌≡◌, Bool, true, List, length, leb, Result, Ok, Err}
+use Rattle.std.specs.Prelude.{ℕ, ◌+◌, ◌-◌, ◌*◌, ◌/◌, ◌≤◌, ◌<◌, ◌≡◌, Bool, true, List, length, leb, Result, Ok, Err}
 use Rattle.fields.specs.Entries.{entries, rising}
 use Rattle.model.specs.Layout.{command_size, id_list_size, id_size, most_bytes, pair_list_size, pair_size, record_size, table_size}
-use Rattle.model.specs.Protocol.{tracked_limit, pool_limit}
+use Rattle.model.specs.Protocol.{tracked_limit}
 use Rattle.model.specs.Requests.{Act, perform_all}
 use Rattle.commands.specs.Pending.{requests_in, holding}
 use Rattle.commands.specs.Sent.{sent_at}
@@ -26,14 +26,6 @@ pub record ListAsks (before : Counts) (region ids out : List ℕ) : Type 0 where
   pub few : length ids ≤ id_list_size
   pub room : before.place.at + length ids / id_size * command_size ≤ length out
   pub number : before.place.batch + 1 < 65536
-
--- lists of ids of several peers
-pub record ListsAsks (before : Counts) (region ids out : List ℕ) : Type 0 where
-  pub table : Askable before region
-  pub few : length ids ≤ id_list_size
-  pub whole : length ids % id_size ≡ 0
-  pub room : before.place.at + length ids / id_size * command_size ≤ length out
-  pub number : before.place.batch + pool_limit + 1 < 65536
 
 -- pairs of type and id
 pub record PairsAsks (before : Counts) (region pairs out : List ℕ) : Type 0 where

@@ -3,14 +3,13 @@ use Rattle.std.specs.Prelude.{ℕ, ◌+◌, ◌*◌, ◌/◌, Option, Some, None
 use Rattle.image.specs.declared.head.Head.{Head}
 use Rattle.plan.specs.declared.Plan.{Plan}
 use Rattle.plan.specs.declared.Work.{Work}
-use Rattle.plan.specs.declared.Work.TheVariants.{Nothing, Ids, Pooled, Sections, Received, Evicted, Purge, PurgeSections, Lose, LoseAsk, Check, CheckFresh}
+use Rattle.plan.specs.declared.Work.TheVariants.{Nothing, Ids, Sections, Received, Evicted, Purge, PurgeSections, Lose, LoseAsk, Check, CheckFresh}
 use Rattle.model.specs.Layout.{area_size, command_size, id_size, most_bytes}
 
 -- How many command bytes a work can write, with so many bytes of ids lent: each id in a command of its own at worst.
 abbrev pub most_sent : Head → ℕ → Work → ℕ
 most_sent head ids Nothing = 0
 most_sent head ids (Ids peer) = ids / id_size * command_size
-most_sent head ids Pooled = ids / id_size * command_size
 most_sent head ids (Sections peer) = most_bytes
 most_sent head ids Received = 0
 most_sent head ids Evicted = 0

@@ -1,20 +1,19 @@
 // Lists asked for through rule 3, behind what a work has done before.
 //
-// The works with a peer to ask call these: ids, pooled, orphans, fresh, sections. Where there is no room, the answer is
-// Full: lists of ids then leave region and commands as they were; where pairs were asked for, what stands there is of no use.
+// The works with a peer to ask call these: ids, orphans, fresh, sections. Where there is no room, the answer is Full, and what
+// stands in the region then is of no use.
 //
 // Type, peer, stored pairs and ids one by one, as rule 3 names them.
 ghost use Rattle.std.specs.Prelude.{◌≡◌, [], ◌∷◌, ◌≤◌, length, eqb, Err};
-ghost use Rattle.model.specs.Requests.{ask, ask_pooled};
-ghost use Rattle.model.specs.Lists.{ids_in, pairs_in, entries_of, pool_in, lists_in};
+ghost use Rattle.model.specs.Requests.{ask};
+ghost use Rattle.model.specs.Lists.{ids_in, pairs_in, entries_of};
 ghost use Rattle.request_announced.specs.ByType.{asks_by_type};
-ghost use Rattle.work_asks.specs.Asked.{answered_as, ListAsks, ListsAsks, PairsAsks, Asks};
+ghost use Rattle.work_asks.specs.Asked.{answered_as, ListAsks, PairsAsks, Asks};
 ghost use Rattle.model.specs.Layout.{pair_size};
 ghost use Rattle.commands.specs.declared.tracker.TrackerError.TheVariants.{Full};
 
 use commands::tracker::TrackerError;
 use lists::pairs::Pairs;
-use lists::pool::Pool;
 use model::layout::{ID_LIST_SIZE, TRACKED_LIMIT};
 use plan::Call;
 use request_announced::request::Written;
@@ -92,38 +91,6 @@ pub fn ask_list(
     ask_list_with(
         region, before, call, typeid, peer, stored, ids, &mut rest, out,
     )
-}
-
-// Lists of one type, each of its peer. All their ids are entered, or none.
-pub fn ask_lists(
-    region: &mut [u8],
-    before: Counts,
-    call: Call,
-    pool: Pool,
-    stored: Pairs,
-    ids: &[u8],
-    out: &mut [u8],
-) -> Result<Counts, TrackerError>
-    requires { ListsAsks before region.old ids.now out.old }
-    ensures asks { Asks (eqb call.gate 1) call.clock
-        (ask_pooled call.typeid (pairs_in stored.entry.bytes.now) (lists_in (pool_in pool.entry.bytes.now) (ids_in ids.now)))
-        before region.old out.old result region.new out.new }
-    ensures region_unchanged { result ≡ Err Full → (region.new ≡ region.old) × (out.new ≡ out.old) }
-{
-    let asked = request_announced::pooled::request_pooled(
-        region,
-        before.pending,
-        TRACKED_LIMIT - before.evicted,
-        call.gate == 1,
-        call.clock,
-        call.typeid,
-        pool,
-        stored,
-        ids,
-        out,
-        before.place,
-    );
-    answer(asked, before)
 }
 
 // Pairs of type and id, one list a type.

@@ -20,7 +20,6 @@ use commands::tracker::TrackerError;
 use image::head::Head;
 use lists::ids::Ids;
 use lists::pairs::Pairs;
-use lists::pool::Pool;
 use lists::view::View;
 use model::HEADER_TYPE_ID;
 use plan::{Call, Plan};
@@ -61,7 +60,6 @@ pub fn carry_out(
     plan: Plan,
     call: Call,
     ids: Ids,
-    pool: Pool,
     continuation: &[u8],
     stored: Pairs,
     view: View,
@@ -69,10 +67,7 @@ pub fn carry_out(
     requires tracked { Tracked head region.old }
     requires continuation_fit { continuation_fits continuation.now ≡ true }
     requires room { most_carried head (length ids.bytes.now) plan ≤ length out.old }
-    ensures performs { (st : State) (c : calls.Call)
-        → Given head region.old call ids.entry.bytes.now stored.entry.bytes.now view.entry.bytes.now st c
-        → c.continuation ≡ continuation.now → c.pool ≡ pool.entry.bytes.now
-        → Performs first_place (carried_by st c plan) out.old result region.new out.new }
+    ensures performs { (st : State) (c : calls.Call) → Given head region.old call ids.entry.bytes.now stored.entry.bytes.now view.entry.bytes.now st c → c.continuation ≡ continuation.now → Performs first_place (carried_by st c plan) out.old result region.new out.new }
     ensures untouched { plan.announces ≡ None → Untouched plan.work result region.old region.new out.old out.new }
 {
     let place = announce(out, plan.announces, continuation);
@@ -83,7 +78,6 @@ pub fn carry_out(
         plan.work,
         plan.head.downloaded,
         ids,
-        pool,
         stored,
         view,
         out,

@@ -12,5 +12,4 @@ pub mod fresh;
 pub mod ids;
 pub mod orphans;
 pub mod perform;
-pub mod pooled;
 pub mod sections;

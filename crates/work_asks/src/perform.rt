@@ -1,10 +1,10 @@
 // A plan's work on the region of an image, whichever it is.
 //
-// The works without a peer to ask stand in the crate work, those with one in ids, pooled, orphans, fresh and sections. Where
-// there is no room, the answer is Full, and what stands in the region then is of no use, unless the work finds out first.
+// The works without a peer to ask stand in the crate work, those with one in ids, orphans, fresh and sections. Where there is
+// no room, the answer is Full, and what stands in the region then is of no use.
 //
 // The region and the room are written, and what is read stands beside them: what is asked of them is `Tracked` and `HasRoom`.
-ghost use Rattle.std.specs.Prelude.{◌≡◌, length};
+ghost use Rattle.std.specs.Prelude.{length};
 ghost use Rattle.model.specs.State.{State};
 ghost use Rattle.model.specs.Calls as calls;
 ghost use Rattle.work.specs.Worked.{Tracked, HasRoom, Given, Performs, Untouched, worked_by};
@@ -15,7 +15,6 @@ use commands::tracker::TrackerError;
 use image::head::Head;
 use lists::ids::Ids;
 use lists::pairs::Pairs;
-use lists::pool::Pool;
 use lists::view::View;
 use plan::{Call, Work};
 use work::Counts;
@@ -28,7 +27,6 @@ pub fn perform(
     work: Work,
     downloaded: u32,
     ids: Ids,
-    pool: Pool,
     stored: Pairs,
     view: View,
     out: &mut [u8],
@@ -36,15 +34,12 @@ pub fn perform(
 ) -> Result<Counts, TrackerError>
     requires tracked { Tracked head region.old }
     requires room { HasRoom place (most_sent head (length ids.bytes.now) work) out.old }
-    ensures performs { (st : State) (c : calls.Call)
-        → Given head region.old call ids.entry.bytes.now stored.entry.bytes.now view.entry.bytes.now st c → c.pool ≡ pool.entry.bytes.now
-        → Performs place (worked_by st c downloaded work) out.old result region.new out.new }
+    ensures performs { (st : State) (c : calls.Call) → Given head region.old call ids.entry.bytes.now stored.entry.bytes.now view.entry.bytes.now st c → Performs place (worked_by st c downloaded work) out.old result region.new out.new }
     ensures untouched { Untouched work result region.old region.new out.old out.new }
 {
     match work {
         Work::Nothing => work::nothing(head, place),
         Work::Ids(peer) => crate::ids::ids(region, head, call, peer, ids, stored, out, place),
-        Work::Pooled => crate::pooled::pooled(region, head, call, pool, ids, stored, out, place),
         Work::Sections(peer) => crate::sections::sections(
             region, head, call, peer, downloaded, view, out, place,
         ),

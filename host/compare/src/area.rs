@@ -3,7 +3,7 @@
 use keeper_play::{ages_told, foretold, FILL};
 use keeper_reference::{image, PLAIN};
 use keeper_streams::Opening;
-use keeper_values::{Answer, Keeper, State, StepCall, COMMAND_BYTES, STATE_BYTES};
+use keeper_values::{Answer, Arguments, Keeper, State, COMMAND_BYTES, STATE_BYTES};
 
 pub struct Areas {
     pub state: Vec<u8>,
@@ -39,13 +39,13 @@ impl Areas {
 
     /// Asks for a step's forecast and runs it: it has to show what was foretold. A refusal has to leave both areas as they
     /// were, a finished step the bytes after its commands.
-    pub fn step(&mut self, keeper: &dyn Keeper, call: &StepCall) -> Result<Answer, String> {
+    pub fn step(&mut self, keeper: &dyn Keeper, arguments: &Arguments) -> Result<Answer, String> {
         let before = self.state.clone();
-        let forecast = keeper.forecast_call(&self.state, call);
+        let forecast = keeper.forecast(&self.state, arguments);
         if self.state != before {
             return Err("a forecast changed the state area".to_string());
         }
-        let answer = keeper.step_call(&mut self.state, &mut self.commands, call);
+        let answer = keeper.step(&mut self.state, &mut self.commands, arguments);
         let length = answer.length as usize;
         if answer.number != 0 {
             if answer != Answer::refused(answer.number) {

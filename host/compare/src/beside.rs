@@ -3,7 +3,7 @@
 use crate::area::Areas;
 use keeper_reference::{image, PLAIN};
 use keeper_streams::Opening;
-use keeper_values::{Answer, Keeper, State, StepCall};
+use keeper_values::{Answer, Arguments, Keeper, State};
 
 pub struct Beside<'k> {
     keeper: &'k dyn Keeper,
@@ -39,12 +39,12 @@ impl<'k> Beside<'k> {
     /// The same call: the same answer, the same command bytes and no others, the same state area.
     pub fn step(
         &mut self,
-        call: &StepCall,
+        arguments: &Arguments,
         answer: &Answer,
         written: &[u8],
         state: &[u8],
     ) -> Result<(), String> {
-        let own = self.areas.step(self.keeper, call)?;
+        let own = self.areas.step(self.keeper, arguments)?;
         if own != *answer {
             return Err(format!("answer\n  first  {answer:?}\n  beside {own:?}"));
         }

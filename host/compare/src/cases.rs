@@ -33,8 +33,10 @@ pub fn script_lines(script: &Script) -> Vec<Line> {
         opening_line(&script.opening),
     ];
     for call in &script.calls {
-        let step = Box::new(call.to_step_call());
-        lines.push(Line::Step(step, call.fails.clone()));
+        lines.push(Line::Step(
+            Box::new(call.to_arguments()),
+            call.fails.clone(),
+        ));
     }
     lines.extend([Line::Ask(0), Line::Ask(1)]);
     let last = script.calls.last().map_or(0, |call| call.clock);
@@ -62,16 +64,16 @@ pub fn random_lines(seed: u64, most: usize, damaged: bool) -> Result<Vec<Line>, 
             break;
         }
         let call = random.next(&state);
-        let good = call.to_step_call();
+        let arguments = call.to_arguments();
         if damaged && rng.once_in(2) {
-            let damaged = damage(&mut rng, player.image(), &good);
+            let damaged = damage(&mut rng, player.image(), &arguments);
             for line in Line::modifiers(&damaged) {
                 push(&mut player, line)?;
             }
-            push(&mut player, Line::step(damaged.arguments))?;
+            push(&mut player, Line::Step(Box::new(damaged.arguments), vec![]))?;
         }
         let clock = call.clock;
-        push(&mut player, Line::Step(Box::new(good), call.fails))?;
+        push(&mut player, Line::Step(Box::new(arguments), call.fails))?;
         if step % 8 == 3 {
             push(&mut player, Line::Ask((step / 8 % 2) as u8))?;
             push(&mut player, Line::Age(clock))?;

@@ -81,18 +81,11 @@ fn refused_before_the_rust(state: &State, call: &Call) -> Option<u32> {
         Some(4)
     } else if !of_mode {
         Some(5)
-    } else if call.kind == kinds::NEEDED && call.ids.len() != 1 || pooled_ids(call) > limits::IDS {
+    } else if call.kind == kinds::NEEDED && call.ids.len() != 1 {
         Some(6)
-    } else if call.lists.len() > limits::LISTS {
-        Some(13)
     } else {
         None
     }
-}
-
-/// How many ids a pooled step has in all.
-fn pooled_ids(call: &Call) -> usize {
-    call.lists.iter().map(|list| list.ids.len()).sum()
 }
 
 /// F-5, in the Rust's place: what an empty header list of another peer than the sync peer leaves. Nothing is asked or sent, and
@@ -159,12 +152,12 @@ impl<'k> Trial<'k> {
     /// Runs one call on all sides and compares everything.
     pub fn step(&mut self, call: &Call, report: &mut Report) -> Result<(), String> {
         let before = self.state.clone();
-        let step = call.to_step_call();
+        let arguments = call.to_arguments();
         self.mean_age(call.clock)?;
-        let answer = self.areas.step(self.keeper, &step)?;
+        let answer = self.areas.step(self.keeper, &arguments)?;
         let written = self.areas.take_commands(answer.length);
         for beside in &mut self.beside {
-            beside.step(&step, &answer, &written, &self.areas.state)?;
+            beside.step(&arguments, &answer, &written, &self.areas.state)?;
         }
         self.state = self.areas.read()?;
         report.step(before.mode, call.kind, answer.number);
@@ -179,10 +172,8 @@ impl<'k> Trial<'k> {
             Verdict::Finished(observed) => {
                 self.finished(call, &answer, &written, &observed)?;
                 report.agreed(call, &self.state, &observed.sends, answer.outcome);
-                match call.kind {
-                    kinds::CHECK => report.agreed_check(&before, call, &self.state),
-                    kinds::POOLED => report.agreed_pooled(&before, call, &observed.sends),
-                    _ => {}
+                if call.kind == kinds::CHECK {
+                    report.agreed_check(&before, call, &self.state);
                 }
             }
             Verdict::Refused(number) => same("refusal", &Answer::refused(number), &answer)?,

@@ -9,7 +9,6 @@ use keeper_reference::Reference;
 use keeper_streams::maps::{self, RandomMap};
 use keeper_streams::text::Line;
 use keeper_streams::{directed, hostile};
-use keeper_values::numbers::kinds;
 use keeper_values::{Keeper, MAP_BYTES};
 use keeper_variants::Variant;
 use std::cmp::Reverse;
@@ -43,7 +42,7 @@ fn shown(lines: &[Line]) -> BTreeSet<u64> {
     for pair in lines.windows(2) {
         match pair {
             [Line::Step(call, _), Line::Answer(numbers)] => {
-                let kind = u64::from(call.kind().min(kinds::LAST + 1));
+                let kind = u64::from(call.kind.min(17));
                 let (number, outcome) = (numbers[0], numbers[1]);
                 keys.insert(if number == 0 {
                     VARIANTS + kind + 100 * mode + 1_000 * outcome

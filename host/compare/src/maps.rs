@@ -2,7 +2,6 @@
 //! account of their own: the rows as filled and the flags as changed since, judged by rule 5.
 
 use crate::report::Report;
-use keeper_reference::entries::Lent;
 use keeper_reference::inputs::{row, view_fits, Inputs};
 use keeper_reference::sync::advance_downloaded_height;
 use keeper_reference::{Refusal, Run, PLAIN};
@@ -100,7 +99,7 @@ impl Account {
         };
         let mut run = Run {
             rules: &PLAIN,
-            inputs: Inputs::read(&Lent::step(&arguments)),
+            inputs: Inputs::read(&arguments),
             state: State {
                 downloaded: self.downloaded,
                 ..syncing(CASES, 0)

@@ -1,8 +1,8 @@
 //! What was run: steps by kind and mode, refusals by number, differences.
 
 use keeper_oracle::{Reason, Sent};
-use keeper_values::numbers::{kinds, limits, types};
-use keeper_values::{Call, Id, MapCall, Mode, PeerIds, Request, Row, State};
+use keeper_values::numbers::kinds;
+use keeper_values::{Call, Id, MapCall, Mode, Request, Row, State};
 use std::collections::BTreeSet;
 use std::fmt::{self, Display, Formatter};
 
@@ -31,20 +31,6 @@ const AIMED: [&str; 6] = [
     "a listed peer stalled, one listed twice",
 ];
 
-/// What pooled steps are counted for that the Rust agrees with, its lists served one after another in one wake.
-const POOLED: [&str; 10] = [
-    "all of them",
-    "something left of two lists or more",
-    "something left of two lists of one peer",
-    "nothing left of a list, and something of a later one",
-    "an empty list among others",
-    "an empty list of headers of the sync peer",
-    "an id in two lists, asked for once",
-    "an id twice in a list, asked for once",
-    "a list of more than 400",
-    "a shut gate or a type that is not announced",
-];
-
 /// The numbers that a call of the map may have.
 const MAP_NUMBERS: [u32; 4] = [0, 12, 8, 9];
 
@@ -59,32 +45,16 @@ const MAP_MET: [&str; 4] = [
 #[derive(Debug, Clone, Default)]
 pub struct Report {
     finished: [[u64; 5]; KINDS],
-    refused: [u64; 14],
+    refused: [u64; 12],
     out_of_domain: [u64; 5],
     outcomes: [u64; 6],
     met: [u64; MET.len()],
     aimed: [u64; AIMED.len()],
-    pooled: [u64; POOLED.len()],
     map: [[u64; MAP_NUMBERS.len()]; MapCall::NAMES.len()],
     map_met: [u64; MAP_MET.len()],
     pub streams: u64,
     pub questions: u64,
     pub differences: u64,
-}
-
-/// The places of the lists of which something was left: each batch is that of the next list of its peer that holds its ids.
-fn lists_left(lists: &[PeerIds], sends: &[Sent]) -> Vec<usize> {
-    let mut left = Vec::new();
-    let mut places = 0..lists.len();
-    for batch in sends.chunk_by(|one, next| one.command.batch == next.command.batch) {
-        let command = &batch[0].command;
-        let of = |at: &usize| {
-            let list = &lists[*at];
-            list.peer == command.peer && command.ids.iter().all(|id| list.ids.contains(id))
-        };
-        left.extend(places.find(of));
-    }
-    left
 }
 
 impl Report {
@@ -154,47 +124,6 @@ impl Report {
             some && once.len() < peers.len(),
         ];
         for (count, met) in self.aimed.iter_mut().zip(met) {
-            *count += u64::from(met);
-        }
-    }
-
-    /// A finished pooled step that the Rust agrees with, by what its lists come to.
-    pub fn agreed_pooled(&mut self, before: &State, call: &Call, sends: &[Sent]) {
-        let lists = &call.lists;
-        let left = lists_left(lists, sends);
-        let count = |held: &dyn Fn(usize) -> bool| (0..lists.len()).filter(|at| held(*at)).count();
-        let asked: BTreeSet<&Id> = sends.iter().flat_map(|sent| &sent.command.ids).collect();
-        let shared = |id: &&Id| count(&|at| lists[at].ids.contains(id)) > 1;
-        let repeated = |list: &PeerIds| {
-            let mut once = BTreeSet::new();
-            list.ids
-                .iter()
-                .any(|id| !once.insert(id) && asked.contains(id))
-        };
-        let of_one_peer = |at: usize| {
-            let mut others = left.iter().filter(|other| **other != at);
-            others.any(|other| lists[*other].peer == lists[at].peer)
-        };
-        let first = left.first().copied().unwrap_or(0);
-        let last = left.last().copied().unwrap_or(0);
-        let tells_nothing = |list: &PeerIds| {
-            list.ids.is_empty()
-                && call.type_id == types::HEADER
-                && before.sync_peer == Some(list.peer)
-        };
-        let met = [
-            true,
-            left.len() > 1,
-            left.iter().any(|at| of_one_peer(*at)),
-            (first..last).any(|at| !lists[at].ids.is_empty() && !left.contains(&at)),
-            !left.is_empty() && lists.iter().any(|list| list.ids.is_empty()),
-            lists.iter().any(tells_nothing),
-            asked.iter().any(shared),
-            lists.iter().any(repeated),
-            lists.iter().any(|list| list.ids.len() > limits::RUN),
-            !call.gate || !types::KNOWN.contains(&call.type_id),
-        ];
-        for (count, met) in self.pooled.iter_mut().zip(met) {
             *count += u64::from(met);
         }
     }
@@ -280,11 +209,6 @@ impl Display for Report {
         writeln!(out, "\n| checks with retries, gate open | checks |")?;
         writeln!(out, "|---|---|")?;
         for (name, count) in AIMED.iter().zip(self.aimed) {
-            writeln!(out, "| {name} | {count} |")?;
-        }
-        writeln!(out, "\n| pooled steps | steps |")?;
-        writeln!(out, "|---|---|")?;
-        for (name, count) in POOLED.iter().zip(self.pooled) {
             writeln!(out, "| {name} | {count} |")?;
         }
         writeln!(out, "\n| refusal | steps |")?;

@@ -22,7 +22,7 @@ fn lists(script: &Script) -> Vec<Lists> {
     for pair in lines.windows(2) {
         if let [Line::Step(call, _), Line::Answer(numbers)] = pair {
             let sent = [numbers[2], numbers[3]].map(|count| count as u32);
-            lists.push((call.kind(), sent, Vec::new()));
+            lists.push((call.kind, sent, Vec::new()));
         }
         if let ([_, Line::Command(command)], Some((.., sizes))) = (pair, lists.last_mut()) {
             let batch = usize::from(command.batch);

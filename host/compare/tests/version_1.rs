@@ -4,12 +4,11 @@
 use keeper_compare::keepers;
 use keeper_play::FILL;
 use keeper_reference::{image, PLAIN};
-use keeper_streams::build::of_peer;
 use keeper_streams::random::Random;
 use keeper_streams::version_1::scripts;
 use keeper_streams::{Opening, Script};
 use keeper_values::numbers::{kinds, widths};
-use keeper_values::{Answer, Arguments, Call, Keeper, Mode, State, StepCall, View};
+use keeper_values::{Answer, Arguments, Call, Keeper, Mode, State, View};
 use keeper_values::{COMMAND_BYTES, STATE_BYTES};
 use std::collections::BTreeSet;
 use std::fs;
@@ -64,10 +63,10 @@ fn today(keeper: &dyn Keeper, script: &Script) -> Vec<u8> {
 }
 
 /// What a step leaves: the answer and both areas.
-fn stepped(keeper: &dyn Keeper, area: &[u8], call: &StepCall) -> (Answer, Vec<u8>, Vec<u8>) {
+fn stepped(keeper: &dyn Keeper, area: &[u8], call: &Arguments) -> (Answer, Vec<u8>, Vec<u8>) {
     let mut area = area.to_vec();
     let mut commands = vec![FILL; COMMAND_BYTES];
-    let answer = keeper.step_call(&mut area, &mut commands, call);
+    let answer = keeper.step(&mut area, &mut commands, call);
     (answer, area, commands)
 }
 
@@ -78,10 +77,10 @@ fn asked(keeper: &dyn Keeper, area: &[u8], flag: u8) -> ((u32, u32), Vec<u8>) {
 }
 
 /// One call on an image of version 1 and on the same of version 2. The area of version 2 afterwards, and the number.
-fn same(keeper: &dyn Keeper, old: &[u8], new: &[u8], call: &StepCall) -> (Vec<u8>, u32) {
+fn same(keeper: &dyn Keeper, old: &[u8], new: &[u8], call: &Arguments) -> (Vec<u8>, u32) {
     let what = || format!("{call:?}");
-    assert!(keeper.forecast_call(old, call) == keeper.forecast_call(new, call));
-    let ages = [old, new].map(|area| keeper.mean_age(area, call.clock()));
+    assert!(keeper.forecast(old, call) == keeper.forecast(new, call));
+    let ages = [old, new].map(|area| keeper.mean_age(area, call.clock));
     assert_eq!(ages[0], ages[1], "{}", what());
     let (answer, left, commands) = stepped(keeper, old, call);
     let (expected, after, written) = stepped(keeper, new, call);
@@ -113,13 +112,11 @@ fn calls(state: &State) -> Vec<Call> {
                     peer: state.sync_peer.unwrap_or(1),
                     peers: vec![7, 9],
                     ids: vec![entry],
-                    lists: vec![of_peer(7, vec![entry]), of_peer(9, vec![entry])],
                     view: View::default(),
                     ..Call::default()
                 };
                 let mut fresh = call.clone();
                 fresh.ids = vec![[0x77; widths::ID]];
-                fresh.lists[1].ids.clone_from(&fresh.ids);
                 calls.extend([call, fresh]);
             }
         }
@@ -197,7 +194,7 @@ fn steps_are_those_of_version_2() {
         for keeper in keepers::all() {
             let new = today(keeper, &kept.script);
             for call in calls(&kept.state) {
-                let (_, number) = same(keeper, &kept.image, &new, &call.to_step_call());
+                let (_, number) = same(keeper, &kept.image, &new, &call.to_arguments());
                 numbers.insert(number);
             }
         }
@@ -232,7 +229,7 @@ fn malformed_calls_leave_them() {
                 };
                 let mut call = call.to_arguments();
                 damage(&mut call);
-                assert_eq!(same(keeper, &kept.image, &new, &call.into()).1, number);
+                assert_eq!(same(keeper, &kept.image, &new, &call).1, number);
             }
         }
     }
@@ -249,7 +246,7 @@ fn streams_go_on_from_them() {
                 let mut new = today(keeper, &kept.script);
                 for _ in 0..25 {
                     let state = image::read(&PLAIN, &old).expect("well formed");
-                    let call = random.next(&state).to_step_call();
+                    let call = random.next(&state).to_arguments();
                     let (after, number) = same(keeper, &old, &new, &call);
                     if number == 0 {
                         old.clone_from(&after);

@@ -1,6 +1,6 @@
 //! The proved core as a keeper, on the bytes of its boundary, to be held against oracle and reference.
 
-use keeper_values::{Answer, Arguments, Forecast, Keeper, MapCall, MeanAge, Pooled, Settings};
+use keeper_values::{Answer, Arguments, Forecast, Keeper, MapCall, MeanAge, Settings};
 use request_keeper::boundary;
 
 /// The entries of the static library.
@@ -28,43 +28,6 @@ fn call(arguments: &Arguments) -> boundary::Arguments<'_> {
     }
 }
 
-/// A pooled step's arguments as the boundary takes them.
-fn lists(pooled: &Pooled) -> boundary::Pooled<'_> {
-    boundary::Pooled {
-        clock: pooled.clock,
-        gate: pooled.gate,
-        typeid: pooled.type_id,
-        ids: &pooled.ids,
-        pool: &pooled.pool,
-        stored: &pooled.stored,
-    }
-}
-
-fn answer(answer: boundary::StepAnswer) -> Answer {
-    Answer {
-        number: answer.number,
-        outcome: answer.outcome,
-        retried: answer.retried,
-        fresh: answer.fresh,
-        abandoned: answer.abandoned,
-        forgotten: answer.forgotten,
-        pending: answer.pending,
-        evicted: answer.evicted,
-        length: answer.length,
-    }
-}
-
-fn forecast(forecast: boundary::Forecast) -> Forecast {
-    Forecast {
-        number: forecast.number,
-        outcome: forecast.outcome,
-        pending: forecast.pending,
-        evicted: forecast.evicted,
-        commands: forecast.commands,
-        length: forecast.length,
-    }
-}
-
 impl Keeper for Core {
     fn open(&self, state: &mut [u8], settings: Settings, clock: u64, height: u32) -> u32 {
         boundary::open(
@@ -79,19 +42,30 @@ impl Keeper for Core {
     }
 
     fn step(&self, state: &mut [u8], commands: &mut [u8], arguments: &Arguments) -> Answer {
-        answer(boundary::step(state, commands, &call(arguments)))
+        let answer = boundary::step(state, commands, &call(arguments));
+        Answer {
+            number: answer.number,
+            outcome: answer.outcome,
+            retried: answer.retried,
+            fresh: answer.fresh,
+            abandoned: answer.abandoned,
+            forgotten: answer.forgotten,
+            pending: answer.pending,
+            evicted: answer.evicted,
+            length: answer.length,
+        }
     }
 
     fn forecast(&self, state: &[u8], arguments: &Arguments) -> Forecast {
-        forecast(boundary::forecast(state, &call(arguments)))
-    }
-
-    fn pooled(&self, state: &mut [u8], commands: &mut [u8], pooled: &Pooled) -> Answer {
-        answer(boundary::pooled(state, commands, &lists(pooled)))
-    }
-
-    fn pooled_forecast(&self, state: &[u8], pooled: &Pooled) -> Forecast {
-        forecast(boundary::pooled_forecast(state, &lists(pooled)))
+        let forecast = boundary::forecast(state, &call(arguments));
+        Forecast {
+            number: forecast.number,
+            outcome: forecast.outcome,
+            pending: forecast.pending,
+            evicted: forecast.evicted,
+            commands: forecast.commands,
+            length: forecast.length,
+        }
     }
 
     fn mean_age(&self, state: &[u8], clock: u64) -> MeanAge {

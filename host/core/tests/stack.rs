@@ -17,10 +17,10 @@ const BESIDE: usize = 8 << 10;
 
 fn run(state: &mut [u8], call: &Call) {
     let mut commands = vec![0; COMMAND_BYTES];
-    let call = call.to_step_call();
-    Core.forecast_call(state, &call);
+    let arguments = call.to_arguments();
+    Core.forecast(state, &arguments);
     Core.mean_age(state, u64::MAX);
-    Core.step_call(state, &mut commands, &call);
+    Core.step(state, &mut commands, &arguments);
     for flag in [0, 1] {
         Core.question(state, &mut commands, flag);
     }

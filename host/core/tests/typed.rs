@@ -6,8 +6,8 @@ use keeper_streams::Opening;
 use keeper_values::numbers::kinds;
 use keeper_values::{Answer, Call, Forecast, Keeper, MeanAge, Mode, Row, COMMAND_BYTES};
 use request_keeper::{
-    Finished, ModifierType, Peer, PeerIds, Pooled, Question, Refusal, RequestKeeper, Section,
-    Settings, Step, StoredPairs, Surroundings, SyncInfo, View,
+    ModifierType, Peer, Question, Refusal, RequestKeeper, Section, Settings, Step, StoredPairs,
+    Surroundings, SyncInfo, View,
 };
 
 fn opened(opening: &Opening) -> RequestKeeper {
@@ -101,44 +101,13 @@ fn view(call: &Call) -> Result<View, Refusal> {
     Ok(view)
 }
 
-/// A step by the method that takes it.
-#[derive(Debug, Clone, Copy)]
-enum Typed<'c> {
-    Step(Step<'c>),
-    Pooled(Pooled<'c>),
-}
-
-impl Typed<'_> {
-    fn forecast(
-        self,
-        keeper: &RequestKeeper,
-        now: &Surroundings<'_>,
-    ) -> Result<request_keeper::Forecast, Refusal> {
-        match self {
-            Self::Step(step) => keeper.forecast(step, now),
-            Self::Pooled(pooled) => keeper.pooled_forecast(pooled, now),
-        }
-    }
-
-    fn run<'k>(
-        self,
-        keeper: &'k mut RequestKeeper,
-        now: &Surroundings<'_>,
-    ) -> Result<Finished<'k>, Refusal> {
-        match self {
-            Self::Step(step) => keeper.step(step, now),
-            Self::Pooled(pooled) => keeper.pooled(pooled, now),
-        }
-    }
-}
-
 /// One call on both sides.
-fn compare(keeper: &mut RequestKeeper, state: &mut Vec<u8>, step: Typed<'_>, call: &Call) {
+fn compare(keeper: &mut RequestKeeper, state: &mut Vec<u8>, step: Step<'_>, call: &Call) {
     let mut commands = vec![0; COMMAND_BYTES];
-    let arguments = call.to_step_call();
-    let foretold = Reference::plain().forecast_call(state, &arguments);
+    let arguments = call.to_arguments();
+    let foretold = Reference::plain().forecast(state, &arguments);
     let aged = Reference::plain().mean_age(state, call.clock);
-    let expected = Reference::plain().step_call(state, &mut commands, &arguments);
+    let expected = Reference::plain().step(state, &mut commands, &arguments);
     let pairs = call
         .stored
         .iter()
@@ -152,7 +121,7 @@ fn compare(keeper: &mut RequestKeeper, state: &mut Vec<u8>, step: Typed<'_>, cal
         stored: &pairs.collect::<StoredPairs>(),
         view: &view(call).expect("rows that can be said"),
     };
-    let forecast = match step.forecast(keeper, &now) {
+    let forecast = match keeper.forecast(step, &now) {
         Err(refusal) => Forecast::refused(refusal.number()),
         Ok(forecast) => Forecast {
             number: 0,
@@ -174,7 +143,7 @@ fn compare(keeper: &mut RequestKeeper, state: &mut Vec<u8>, step: Typed<'_>, cal
         },
     };
     assert_eq!(mean, aged, "{step:?}");
-    let answer = match step.run(keeper, &now) {
+    let answer = match keeper.step(step, &now) {
         Err(refusal) => Answer::refused(refusal.number()),
         Ok(finished) => {
             let written = finished.commands().as_bytes();
@@ -199,7 +168,7 @@ fn compare(keeper: &mut RequestKeeper, state: &mut Vec<u8>, step: Typed<'_>, cal
 }
 
 /// The commands that the iterator gives, written down again.
-fn read_back(finished: &Finished<'_>) -> Vec<u8> {
+fn read_back(finished: &request_keeper::Finished<'_>) -> Vec<u8> {
     let mut bytes = Vec::new();
     for command in finished.commands() {
         let (kind, type_id, ids) = match command.message {
@@ -233,12 +202,11 @@ fn questions(keeper: &mut RequestKeeper, state: &[u8]) {
     }
 }
 
-/// How many steps of a stream were compared, and how many of them were pooled.
-fn stream(seed: u64) -> [u64; 2] {
+fn stream(seed: u64) -> u64 {
     let mut random = Random::new(seed);
     let mut keeper = opened(random.opening());
     let mut state = keeper.as_bytes().to_vec();
-    let [mut steps, mut pooled] = [0; 2];
+    let mut steps = 0;
     for _ in 0..random.length.min(60) {
         let values = image::read(&PLAIN, &state).expect("well formed");
         if values.mode == Mode::Ended {
@@ -250,38 +218,17 @@ fn stream(seed: u64) -> [u64; 2] {
         assert_eq!(keeper.known_tip(), values.known_tip);
         assert_eq!(keeper.last_clock(), values.last_clock);
         let call = random.next(&values);
-        if call.kind == kinds::POOLED {
-            let lists: Vec<PeerIds<'_>> = call.lists.iter().map(list).collect();
-            let step = Typed::Pooled(Pooled {
-                modifier_type: ModifierType::from_number(call.type_id),
-                lists: &lists,
-            });
-            compare(&mut keeper, &mut state, step, &call);
-            pooled += 1;
-        } else if let Some((step, read)) = typed(&call) {
-            compare(&mut keeper, &mut state, Typed::Step(step), &read);
-        } else {
-            continue;
+        if let Some((step, read)) = typed(&call) {
+            compare(&mut keeper, &mut state, step, &read);
+            questions(&mut keeper, &state);
+            steps += 1;
         }
-        questions(&mut keeper, &state);
-        steps += 1;
     }
-    [steps, pooled]
-}
-
-fn list(list: &keeper_values::PeerIds) -> PeerIds<'_> {
-    PeerIds {
-        from: Peer(list.peer),
-        ids: &list.ids,
-    }
+    steps
 }
 
 #[test]
 fn the_types_say_what_the_bytes_say() {
-    let counts: Vec<[u64; 2]> = (1..=400).map(stream).collect();
-    let [steps, pooled] = [0, 1].map(|at| counts.iter().map(|counts| counts[at]).sum::<u64>());
-    assert!(
-        steps > 5_000 && pooled > 300,
-        "{steps} steps, {pooled} pooled"
-    );
+    let steps: u64 = (1..=400).map(stream).sum();
+    assert!(steps > 5_000, "{steps} steps");
 }

@@ -50,7 +50,7 @@ pub fn words(
     let name = |peer: &Peer| names.show_peer(*peer);
     let timeout = grouped(settings.timeout);
     match became {
-        Became::Asked { of, why } => ("asked", asked(name(of), why, told, names)),
+        Became::Asked { of, why } => ("asked", asked(name(of), *why, told)),
         Became::NotAsked(why) => ("not asked", not_asked(*why, told, names)),
         Became::Waits { peer, age } => (
             "waits",
@@ -116,14 +116,10 @@ pub fn words(
     }
 }
 
-fn asked(of: String, why: &Asked, told: Told, names: &Names) -> String {
+fn asked(of: String, why: Asked, told: Told) -> String {
     let them = told.them();
     match why {
         Asked::Announced => format!("of {of}, which announced {them}"),
-        Asked::First(others) => {
-            let others = names.show_peers(others);
-            format!("of {of}, whose list is the first that has {them} (announced too: {others})")
-        }
         Asked::Needed => format!("of {of}, the sync peer: the node needs {them} for a reorg"),
         Asked::Missing => format!("of {of}, the first listed peer: missing in the window"),
         Asked::Orphan => format!("of {of}, the first listed peer, in place of the lost one"),

@@ -1,7 +1,7 @@
 //! What became of each id in a step: read off the records before and after it, the commands and the surroundings.
 //! Nothing is worked out anew here; where facts alone can't tell, the words stay neutral.
 
-use crate::scenario::{Listed, Wake};
+use crate::scenario::Wake;
 use crate::sending::{SendFate, Sending, Sent};
 use crate::standing::Standing;
 use crate::world::World;
@@ -90,11 +90,9 @@ pub enum Aim {
 }
 
 /// Why an id went on order.
-#[derive(Debug, Clone, PartialEq, Eq)]
+#[derive(Debug, Clone, Copy, PartialEq, Eq)]
 pub enum Asked {
     Announced,
-    /// Of the pooled lists that have it this peer's is the first; those of the others.
-    First(Vec<Peer>),
     Needed,
     /// A section missing in the window.
     Missing,
@@ -121,7 +119,7 @@ pub enum NotAsked {
 
 impl Facts<'_> {
     /// Whom a request command of this step asks for an id.
-    pub fn asked_of(&self, id: &Id) -> Option<Peer> {
+    fn asked_of(&self, id: &Id) -> Option<Peer> {
         let asks = |sending: &&Sending| match &sending.what {
             Sent::Request(_, ids) => ids.contains(id),
             Sent::Announcement(_) | Sent::SyncInfo => false,
@@ -167,7 +165,6 @@ pub fn fates(facts: &Facts<'_>) -> Vec<Fate> {
         Wake::Announced(_, modifier_type, ids) if !ids.is_empty() => {
             announced(facts, *modifier_type, ids)
         }
-        Wake::Pooled(modifier_type, lists) => pooled(facts, *modifier_type, lists),
         Wake::Lost(peer) => lost(facts, *peer),
         Wake::Received(ids) => once(ids).map(|id| received(facts, id)).collect(),
         Wake::Evicted(ids) => once(ids).map(|id| evicted(facts, id)).collect(),
@@ -193,50 +190,25 @@ fn needed(facts: &Facts<'_>, id: &Id) -> Fate {
     Fate { id: *id, became }
 }
 
-/// Whether announcements of this type are followed.
-pub fn followed(modifier_type: ModifierType) -> bool {
-    matches!(
+fn announced(facts: &Facts<'_>, modifier_type: ModifierType, ids: &[Id]) -> Vec<Fate> {
+    let followed = matches!(
         modifier_type,
         ModifierType::TRANSACTION
             | ModifierType::HEADER
             | ModifierType::BLOCK_TRANSACTIONS
             | ModifierType::AD_PROOFS
             | ModifierType::EXTENSION
-    )
-}
-
-/// An announced id that is asked for because of this, or is not.
-fn announced_id(facts: &Facts<'_>, modifier_type: ModifierType, id: &Id, why: Asked) -> Fate {
-    let became = match facts.asked(id, why) {
+    );
+    let became = |id: &Id| match facts.asked(id, Asked::Announced) {
         Some(became) => became,
-        None if !followed(modifier_type) => Became::NotAsked(NotAsked::Type(modifier_type)),
+        None if !followed => Became::NotAsked(NotAsked::Type(modifier_type)),
         None => Became::NotAsked(facts.hindrance(id)),
     };
-    Fate { id: *id, became }
-}
-
-fn announced(facts: &Facts<'_>, modifier_type: ModifierType, ids: &[Id]) -> Vec<Fate> {
-    let fate = |id| announced_id(facts, modifier_type, id, Asked::Announced);
-    once(ids).map(fate).collect()
-}
-
-/// Each id of the lists once. Who announces an id besides the one that is asked is told if that is the first.
-fn pooled(facts: &Facts<'_>, modifier_type: ModifierType, lists: &[Listed]) -> Vec<Fate> {
-    let all: Vec<Id> = lists.iter().flat_map(|list| &list.ids).copied().collect();
-    let why = |id: &Id| {
-        let holders = lists.iter().filter(|list| list.ids.contains(id));
-        let peers: Vec<Peer> = holders.map(|list| list.from).collect();
-        let mut peers = once(&peers).copied();
-        let first = peers.next();
-        let others: Vec<Peer> = peers.collect();
-        if others.is_empty() || facts.asked_of(id) != first {
-            Asked::Announced
-        } else {
-            Asked::First(others)
-        }
+    let fate = |id: &Id| Fate {
+        id: *id,
+        became: became(id),
     };
-    let fate = |id| announced_id(facts, modifier_type, id, why(id));
-    once(&all).map(fate).collect()
+    once(ids).map(fate).collect()
 }
 
 fn received(facts: &Facts<'_>, id: &Id) -> Fate {
@@ -275,10 +247,10 @@ fn sections<'a>(facts: &'a Facts<'_>) -> impl Iterator<Item = Fate> + 'a {
             Sent::Announcement(_) | Sent::SyncInfo => None,
         });
     requests.flat_map(|(of, ids)| {
-        once(ids).map(move |id| {
-            let why = Asked::Missing;
-            let became = Became::Asked { of, why };
-            Fate { id: *id, became }
+        let why = Asked::Missing;
+        once(ids).map(move |id| Fate {
+            id: *id,
+            became: Became::Asked { of, why },
         })
     })
 }

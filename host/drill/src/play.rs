@@ -178,7 +178,7 @@ fn run(
         stored: &stored,
         view: view.as_ref().unwrap_or(&none),
     };
-    let forecast = wake.forecast(keeper, &now);
+    let forecast = keeper.forecast(wake.step(), &now);
     if let Err(malformed) = view {
         // The crate makes no such view, so the core can't refuse it: what comes before it in the order is asked for.
         let earlier = forecast.err();
@@ -186,7 +186,7 @@ fn run(
         let refusal = first.unwrap_or(malformed);
         return (Err(refusal), Err(refusal));
     }
-    let ran = wake.run(keeper, &now).map(|finished| {
+    let ran = keeper.step(wake.step(), &now).map(|finished| {
         let answer = finished.answer;
         let (sendings, entry_failed) = sent(finished, &world.fails);
         (answer, sendings, entry_failed)

@@ -1,11 +1,11 @@
 //! Why a step came to what it came to, in words, by the rules of document 01. Each sentence rests on what stood before
 //! the step, what stands after it, and what was sent.
 
-use crate::fates::{followed, Facts};
-use crate::scenario::{Info, Listed, Names, Wake};
+use crate::fates::Facts;
+use crate::scenario::{Info, Names, Wake};
 use crate::sending::{SendFate, Sending, Sent};
 use crate::text::{grouped, mode_word};
-use request_keeper::{Id, Mode, ModifierType, Outcome, Peer, Settings};
+use request_keeper::{Mode, ModifierType, Outcome, Peer, Settings};
 
 /// A label and a sentence.
 type Reason = (&'static str, String);
@@ -23,7 +23,6 @@ pub fn reasons(facts: &Facts<'_>, settings: Settings, names: &Names) -> Vec<Reas
         Wake::Announced(from, modifier_type, ids) if ids.is_empty() => {
             telling.empty_announcement(*from, *modifier_type)
         }
-        Wake::Pooled(modifier_type, lists) => telling.pooled(*modifier_type, lists),
         Wake::Lost(peer) => telling.lost(*peer),
         Wake::ScheduledTick => telling.tick(),
         Wake::Message => Some("no step of the keeper depends on it".to_string()),
@@ -111,36 +110,6 @@ impl Telling<'_> {
         } else {
             format!("{name} has no headers for us, but {name} is not the sync peer: it may have no chain yet")
         })
-    }
-
-    /// Lists from which no request comes.
-    fn pooled(&self, modifier_type: ModifierType, lists: &[Listed]) -> Option<String> {
-        let mut told = Vec::new();
-        let is_sync_peer = |list: &&Listed| self.facts.before.sync_peer == Some(list.from);
-        let empty = lists.iter().filter(|list| list.ids.is_empty());
-        if let Some(list) = empty.clone().find(is_sync_peer) {
-            if modifier_type == ModifierType::HEADER {
-                let name = self.peer(list.from);
-                told.push(format!(
-                    "the empty list of {name}, the sync peer, is passed over: among pooled lists it does not say that there \
-                     are no more headers"
-                ));
-            }
-        }
-        let idle = lists.iter().enumerate().filter(|(at, list)| {
-            let own = |id: &Id| {
-                let earlier = lists[..*at].iter().any(|list| list.ids.contains(id));
-                !earlier && self.facts.asked_of(id) == Some(list.from)
-            };
-            !list.ids.is_empty() && !list.ids.iter().any(own)
-        });
-        let idle: Vec<Peer> = idle.map(|(_, list)| list.from).collect();
-        if !idle.is_empty() && self.facts.world.gate_open && followed(modifier_type) {
-            let names = self.names.show_peers(&idle);
-            let lists = if idle.len() == 1 { "list" } else { "lists" };
-            told.push(format!("nothing is left of the {lists} of {names}"));
-        }
-        (!told.is_empty()).then(|| told.join("; "))
     }
 
     fn lost(&self, peer: Peer) -> Option<String> {

@@ -1,6 +1,6 @@
 //! Why a step was turned back, with the bound that it met: the refusal itself names only the place.
 
-use crate::scenario::{Listed, Wake};
+use crate::scenario::Wake;
 use crate::standing::Standing;
 use crate::text::{grouped, mode_word};
 use crate::world::World;
@@ -11,8 +11,6 @@ const MOST_IDS: usize = 1_024;
 const MOST_CONTINUATION_IDS: usize = 400;
 const MOST_PEERS: usize = 128;
 const MOST_SECTIONS: usize = 3;
-// Document 02, F-9.
-const MOST_LISTS: usize = 16;
 
 /// The reason in numbers; `None` where the refusal's own words have them.
 pub fn reason(
@@ -42,10 +40,6 @@ pub fn reason(
             let rows = world.most_rows()?;
             Some(format!("the view is cut to {} rows", grouped(rows as u64)))
         }
-        Refusal::TooManyLists => match wake {
-            Wake::Pooled(_, lists) => longer("lists are handed in", lists.len(), MOST_LISTS),
-            _ => None,
-        },
         Refusal::TooManyTracked => Some(format!(
             "{} are pending and {} evicted before it",
             grouped(before.pending.len() as u64),
@@ -69,10 +63,6 @@ fn long_list(wake: &Wake) -> Option<String> {
     match wake {
         Wake::Announced(_, _, ids) | Wake::Received(ids) | Wake::Evicted(ids) => {
             longer("ids are handed in", ids.len(), MOST_IDS)
-        }
-        Wake::Pooled(_, lists) => {
-            let ids = |list: &Listed| list.ids.len();
-            longer("ids are handed in", lists.iter().map(ids).sum(), MOST_IDS)
         }
         Wake::SyncInfo(_, Some(info)) => longer(
             "continuation ids are handed in",

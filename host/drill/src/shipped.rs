@@ -1,7 +1,7 @@
 //! The scenarios that come with the player, by name.
 
 /// Name and text of each.
-pub const SCENARIOS: [(&str, &str); 14] = [
+pub const SCENARIOS: [(&str, &str); 13] = [
     ("a-day", include_str!("../scenarios/a-day.drill")),
     (
         "reorg-eviction-lost-peer",
@@ -23,10 +23,6 @@ pub const SCENARIOS: [(&str, &str); 14] = [
     (
         "a-stalled-peer-passed-over",
         include_str!("../scenarios/a-stalled-peer-passed-over.drill"),
-    ),
-    (
-        "announced-by-three",
-        include_str!("../scenarios/announced-by-three.drill"),
     ),
     (
         "a-peer-without-a-chain",

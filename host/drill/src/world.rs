@@ -120,10 +120,6 @@ impl World {
         };
         match wake {
             Wake::Announced(_, modifier_type, ids) => Ok(of(*modifier_type, ids)),
-            Wake::Pooled(modifier_type, lists) => {
-                let ids: Vec<Id> = lists.iter().flat_map(|list| &list.ids).copied().collect();
-                Ok(of(*modifier_type, &ids))
-            }
             Wake::Needed(modifier_type, id) => Ok(of(*modifier_type, std::slice::from_ref(id))),
             Wake::Check => asked(Question::Check),
             Wake::Lost(_) => asked(Question::LostPeer),

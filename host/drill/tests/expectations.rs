@@ -130,67 +130,6 @@ fn several_ids_are_told_as_several() {
     assert!(told.contains("as headers: they were evicted"), "{told}");
 }
 
-/// The timeline of these lines in syncing with 4, words parted by one blank.
-fn told_in_syncing(lines: &str) -> String {
-    let head = "ids h i j\nopen 0 400\npeers 4 5\nat 0 start\nat 1000 pick\n";
-    let told = timeline::timeline(&played(&format!("{head}{lines}")));
-    told.split_whitespace().collect::<Vec<_>>().join(" ")
-}
-
-/// Why each pooled id goes where it goes, or nowhere; and which lists get no request.
-#[test]
-fn pooled_lists_are_explained() {
-    let first = "h: of 6, whose list is the first that has it (announced too: 7 4)";
-    let cases = [
-        ("pooled header 6 h / 7 h i / 4 h", first),
-        (
-            "pooled header 6 h h / 6 h i",
-            "asked h i: of 6, which announced them sent to 6: request header h sent to 6: ",
-        ),
-        ("pooled header 6 h / 7 h i / 4 h", "i: of 7, which announced it"),
-        (
-            "pooled header 6 h i / 7 i h",
-            "h i: of 6, whose list is the first that has them (announced too: 7)",
-        ),
-        ("pooled header 6 h / 7 h i / 4 h i", "nothing is left of the list of 4 asked"),
-        ("pooled header 6 h / 7 h h / 6 h", "nothing is left of the lists of 7 6 asked"),
-        (
-            "pooled header 4 none / 6 h",
-            "the empty list of 4, the sync peer, is passed over: among pooled lists it does not say that there are no \
-             more headers asked h: ",
-        ),
-        ("pooled 300 6 h / 7 h", "not asked h: announcements of type 300 are not followed"),
-    ];
-    for (step, expected) in cases {
-        let told = told_in_syncing(&format!("at 2000 {step}\n"));
-        assert!(told.contains(expected), "{expected} is not in\n{told}");
-    }
-    let silent = [
-        "pooled header 6 none / 7 h",
-        "pooled block 4 none / 6 h",
-        "pooled header 6 h / 7 i",
-        "pooled 300 6 h / 7 h",
-        "pooled header none",
-    ];
-    for step in silent {
-        let told = told_in_syncing(&format!("at 2000 {step}\n"));
-        let (_, told) = told.split_once("2,000 pooled").expect("the step");
-        assert!(!told.contains(" why "), "{told}");
-    }
-    let pending = "at 2000 announced 6 header h\nstored i\nat 2000 pooled header 7 h i j\n";
-    let told = told_in_syncing(pending);
-    for expected in [
-        "not asked h: on order already, from 6",
-        "not asked i: stored already",
-        "asked j: of 7, which announced it",
-    ] {
-        assert!(told.contains(expected), "{expected} is not in\n{told}");
-    }
-    let shut = told_in_syncing("gate shut\nat 2000 pooled header 7 h / 6 h\n");
-    let expected = "not asked h: the gate is shut; it is not noted for later";
-    assert!(shut.contains(expected) && !shut.contains("nothing is left"));
-}
-
 /// Three peers. North has stalled, and south is the sync peer.
 const STALLED: &str = "\
 setting stall_timeout 15000
@@ -323,14 +262,6 @@ fn refusals_name_the_bound() {
             "1,025 ids are handed in, and at most 1,024 are taken",
         ),
         (
-            "at 2000 pooled header 4 x0001..x0600 / 5 x0600..x1024\nexpect refused 6\n".to_string(),
-            "1,025 ids are handed in, and at most 1,024 are taken",
-        ),
-        (
-            format!("at 2000 pooled header 4 none{}\nexpect refused 13\n", " / 5 none".repeat(16)),
-            "17 lists are handed in, and at most 16 are taken",
-        ),
-        (
             "at 2000 sync-info 4 no-tip continues x0001..x0401\nexpect refused 6\n".to_string(),
             "401 continuation ids are handed in, and at most 400 are taken",
         ),
@@ -378,7 +309,6 @@ fn a_failed_send_drops_the_rest_of_its_batch() {
 fn every_step_can_be_written() {
     let text = format!(
         "{STORY}at 2000 needed header h\nat 2000 reorg 400\nat 2000 announced south transaction t\n\
-         at 2000 pooled header south h t / north none\nat 2000 pooled 300 none\n\
          at 2000 announced south 7 t\nat 3000 sync-info south no-tip continues h\nat 4000 sync-info south unparsed\n\
          at 4000 message\nat 4000 lost south\nat 4000 received h\nat 4000 evicted t h\nat 4000 progress\nat 4000 check\n\
          at 4000 scheduled-tick\nat 4000 section-tick\nat 4000 send-failure\nexpect refused 5\nat +5 end-of-stream\n\
@@ -413,7 +343,7 @@ fn random(seed: u64) -> String {
         clock += dice.throw(60);
         let id = ["a", "b", "c", "d", "e", "f"][dice.throw(6) as usize];
         let peer = 1 + dice.throw(3);
-        text += &match dice.throw(12) {
+        text += &match dice.throw(11) {
             0 => format!("gate {}\n", ["open", "shut"][dice.throw(2) as usize]),
             1 => format!(
                 "peers {}\n",
@@ -425,9 +355,6 @@ fn random(seed: u64) -> String {
             5 => format!("at {clock} evicted {id} a\n"),
             6 => format!("at {clock} progress\n"),
             7 => format!("at {clock} scheduled-tick\nat {clock} pick\n"),
-            8 => {
-                format!("at {clock} pooled header {peer} {id} a / 2 b {id} / 4 none / 1 c a {id}\n")
-            }
             _ => format!("at {clock} check\n"),
         };
     }

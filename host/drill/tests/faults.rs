@@ -74,28 +74,6 @@ fn each_malformed_line_is_named() {
         ("at 5 announced north", "a type (transaction"),
         ("at 5 announced north header", "ids or `none` was expected"),
         ("at 5 announced north 65536 a", "`65536` is not a type"),
-        ("at 5 pooled", "a type (transaction"),
-        (
-            "at 5 pooled header",
-            "a list is missing: expected lists as `PEER ID.. / PEER ID..`, or `none`",
-        ),
-        ("at 5 pooled header /", "a list is missing"),
-        ("at 5 pooled header north a /", "a list is missing"),
-        ("at 5 pooled header north a / / 5 a", "a list is missing"),
-        (
-            "at 5 pooled header north",
-            "the list of `north` ends where ids or `none` was expected",
-        ),
-        (
-            "at 5 pooled header north / 5 a",
-            "the list of `north` ends where ids or `none` was expected",
-        ),
-        ("at 5 pooled header a north", "no peer has the name `a`"),
-        ("at 5 pooled header north a / 5 b", "no id has the name `b`"),
-        (
-            "at 5 pooled header none / 5 a",
-            "no peer has the name `none`",
-        ),
         (
             "at 5 sync-info north",
             "`tip HEIGHT`, `no-tip` or `unparsed` was expected",
@@ -120,11 +98,7 @@ fn each_malformed_line_is_named() {
         ("expect mode up", "`up` is not a mode (new, seeking"),
         (
             "expect refused 12",
-            "`12` is not a refusal's number, 1 to 11 or 13",
-        ),
-        (
-            "expect refused 14",
-            "`14` is not a refusal's number, 1 to 11 or 13",
+            "`12` is not a refusal's number, 1 to 11",
         ),
         (
             "expect forecast",
@@ -136,11 +110,11 @@ fn each_malformed_line_is_named() {
         ),
         (
             "expect forecast refused",
-            "a refusal's number, 1 to 11 or 13 was expected",
+            "a refusal's number, 1 to 11 was expected",
         ),
         (
             "expect forecast refused 12",
-            "`12` is not a refusal's number, 1 to 11 or 13",
+            "`12` is not a refusal's number, 1 to 11",
         ),
         (
             "expect forecast refused 9 bytes 0",

@@ -84,7 +84,7 @@ fn comments_point_at_the_right_line() {
             found += 1;
         }
     }
-    assert_eq!(found, 8);
+    assert_eq!(found, 7);
 }
 
 /// Tags that are opened and not closed, in order; an error for a wrong end.

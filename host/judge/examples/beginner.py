@@ -37,7 +37,7 @@ def advance(state, height, view):
         row = view[start:start + 106] if start >= 4 else b""
         if not row:
             raise Refused(9)
-        if row[0] == 255 or not all(row[35 + 35 * place] for place in range(row[0])):
+        if row[0] == 255 or not all(row[34 + 34 * place] for place in range(row[0])):
             return
         state["downloaded"] += 1
 
@@ -81,8 +81,5 @@ for line in sys.stdin:
             print(f"= 0 0 0 0 0 0 0 0 {length}", *commands, state_line(state), sep="\n", flush=True)
         except Refused as refused:
             print(f"= {refused} 0 0 0 0 0 0 0 0", flush=True)
-    elif head == "pooled":
-        number = 4 if int(words[0]) < state["last_clock"] else 5
-        print(f"= {number} 0 0 0 0 0 0 0 0", flush=True)
     elif head == "ask":
         print("= 0 0", "? -", sep="\n", flush=True)

@@ -5,7 +5,7 @@ use crate::stream::{entries, id, view_pairs, Call, Opening, VIEW_HEAD, VIEW_ROW}
 use crate::value::listed;
 use keeper_values::numbers::kinds::{self, *};
 use keeper_values::numbers::widths::{ID, PAIR, PEER};
-use keeper_values::{Arguments, Pooled};
+use keeper_values::Arguments;
 
 pub fn opening(opening: &Opening) -> String {
     let settings = &opening.settings;
@@ -160,38 +160,9 @@ fn step(step: &Arguments, names: &Names) -> String {
     format!("{}: {}", kinds::name(kind), said.join(", "))
 }
 
-/// What the peers of a pooled step announce, list by list.
-fn lists(pooled: &Pooled, names: &Names) -> String {
-    let Some(lists) = pooled.lists() else {
-        return "a pool whose counts don't add up to the ids".to_string();
-    };
-    if lists.is_empty() {
-        return "no lists".to_string();
-    }
-    let list = |(peer, ids): (u64, String)| format!("of peer {peer} {ids}");
-    let said = lists
-        .iter()
-        .map(|list| (list.peer, listed(&names.ids(&list.ids), 0)));
-    said.map(list).collect::<Vec<_>>().join("; ")
-}
-
-fn pooled(pooled: &Pooled, names: &Names) -> String {
-    let mut said = vec![format!("clock {}", pooled.clock)];
-    if pooled.gate != 1 {
-        said.push("gate shut".to_string());
-    }
-    said.push(type_name(pooled.type_id));
-    said.push(lists(pooled, names));
-    if !pooled.stored.is_empty() {
-        said.push(format!("stored {}", stored(&pooled.stored, names)));
-    }
-    format!("{}: {}", kinds::name(kinds::POOLED), said.join(", "))
-}
-
 pub fn call(call: &Call, names: &Names) -> String {
     match call {
         Call::Step(arguments) => step(arguments, names),
-        Call::Pooled(arguments) => pooled(arguments, names),
         Call::Ask(0) => "question 0: what may the next check read?".to_string(),
         Call::Ask(1) => "question 1: what may a lost sync peer read?".to_string(),
         Call::Ask(flag) => format!("question {flag}"),

@@ -106,23 +106,6 @@ fn announced(field: Field) -> Option<&'static str> {
     })
 }
 
-fn pooled(field: Field) -> Option<&'static str> {
-    Some(match field {
-        Field::Number => {
-            "document 02, F-9: \"13, after 6, for more than 16 lists\"; document 01, \"Where a step can be \
-             turned back\", for the others"
-        }
-        Field::Outcome | Field::Mode => "document 02, F-9: \"Empty lists are skipped\"",
-        Field::Command => {
-            "document 02, F-9: \"each id neither pending nor stored goes, one time, to the peer of the \
-             first list that holds it. List order holds; each list is a batch of its own, also where two \
-             share a peer, and a list with nothing left gives no command and takes no batch number\"; a \
-             type that rule 7 doesn't request sends nothing"
-        }
-        _ => return None,
-    })
-}
-
 fn tick(field: Field) -> Option<&'static str> {
     Some(match field {
         Field::Outcome | Field::Mode | Field::Stalled | Field::SyncPeer => {
@@ -157,7 +140,6 @@ fn by_kind(kind: u8, field: Field, part: Option<&str>) -> Option<&'static str> {
         kinds::SYNC_INFO => sync_info(field),
         kinds::SCHEDULED_TICK => tick(field),
         kinds::PROGRESS => progress(field),
-        kinds::POOLED => pooled(field),
         _ => None,
     }
 }
@@ -202,10 +184,6 @@ fn of_kind(kind: u8) -> Option<&'static str> {
         kinds::END_OF_STREAM => {
             "\"Seeking: [..] end of stream, after which the mode is ended and takes no step\"; in \
              syncing and synced \"end of stream (to seeking)\""
-        }
-        kinds::POOLED => {
-            "document 02, F-9: \"With the gate open, each id neither pending nor stored goes, one time, to \
-             the peer of the first list that holds it\""
         }
         _ => return None,
     })

@@ -3,7 +3,7 @@
 
 use crate::stream::{Call, Opening};
 use keeper_values::numbers::{kinds, types};
-use keeper_values::{Call as Values, Id, Mode, Request, State, StepCall, TypeId};
+use keeper_values::{Arguments, Call as Values, Id, Mode, Request, State, TypeId};
 use std::collections::BTreeMap;
 
 /// Steps from an opening.
@@ -26,7 +26,7 @@ fn step(kind: u8, clock: u64, fill: impl FnOnce(&mut Values)) -> Call {
         ..Values::default()
     };
     fill(&mut call);
-    call.to_step_call().into()
+    Call::Step(Box::new(call.to_arguments()))
 }
 
 fn announced(kind: u8, clock: u64, peer: u64, type_id: TypeId, ids: Vec<Id>) -> Call {
@@ -135,12 +135,9 @@ pub fn lead(state: &State) -> Lead {
 }
 
 /// The same call, so much later.
-pub fn later(call: StepCall, shift: u64) -> Call {
-    let mut call = Call::from(call);
-    if let Some(clock) = call.clock_mut() {
-        *clock = clock.saturating_add(shift);
-    }
-    call
+pub fn later(mut arguments: Arguments, shift: u64) -> Call {
+    arguments.clock = arguments.clock.saturating_add(shift);
+    Call::Step(Box::new(arguments))
 }
 
 #[cfg(test)]

@@ -80,16 +80,12 @@ pub fn refusal(number: u32) -> &'static str {
             "kind unknown or not of this mode, a flag not 0 or 1, or a send failure after anything \
              but an entry that sent"
         }
-        6 => {
-            "ids, continuation ids or stored pairs of bad length, size or order; of a pool, a bad entry \
-             length or counts that don't add up to the ids"
-        }
+        6 => "ids, continuation ids or stored pairs of bad length, size or order",
         7 => "peers of bad length or size",
         8 => "view malformed",
         9 => "a rule would read a height, up to the chain height, that the view has no row for",
         10 => "pending + evicted would be above 1,024",
         11 => "a 257th stalled peer",
-        13 => "more than 16 lists",
         _ => "no such number",
     }
 }

@@ -15,7 +15,7 @@ use crate::stream::{Call, Stream};
 use crate::trial::{play, Fault};
 use keeper_core::Core;
 use keeper_values::numbers::kinds;
-use keeper_values::{Keeper, COMMAND_BYTES, STATE_BYTES};
+use keeper_values::{Arguments, Keeper, COMMAND_BYTES, STATE_BYTES};
 use std::time::Instant;
 
 /// Calls played in vain, in a row, after which small changes of a sort are given up. Short streams never come to it.
@@ -41,7 +41,6 @@ fn refuses(stream: &Stream, number: u32) -> bool {
         number
             == match call {
                 Call::Step(step) => Core.step(&mut state, &mut commands, step).number,
-                Call::Pooled(pooled) => Core.pooled(&mut state, &mut commands, pooled).number,
                 Call::Ask(flag) => Core.question(&state, &mut commands, *flag).0,
             }
     })
@@ -161,19 +160,23 @@ impl Shrinker<'_> {
         Ok(())
     }
 
-    /// The call at this index, changed.
-    fn changed(&self, index: usize, change: impl FnOnce(&mut Call)) -> Stream {
+    /// The step at this index, changed.
+    fn changed(&self, index: usize, change: impl FnOnce(&mut Arguments)) -> Stream {
         let mut candidate = self.best.clone();
-        if let Some(call) = candidate.calls.get_mut(index) {
-            change(call);
+        if let Some(Call::Step(step)) = candidate.calls.get_mut(index) {
+            change(step);
         }
         candidate
     }
 
-    /// Every call, changed.
-    fn all_changed(&self, change: impl Fn(&mut Call)) -> Stream {
+    /// Every step, changed.
+    fn all_changed(&self, change: impl Fn(&mut Arguments)) -> Stream {
         let mut candidate = self.best.clone();
-        candidate.calls.iter_mut().for_each(change);
+        for call in &mut candidate.calls {
+            if let Call::Step(step) = call {
+                change(step);
+            }
+        }
         candidate
     }
 
@@ -199,17 +202,12 @@ impl Shrinker<'_> {
     }
 }
 
-fn open_gate(call: &mut Call) {
-    match call {
-        Call::Step(step) => step.gate = 1,
-        Call::Pooled(pooled) => pooled.gate = 1,
-        Call::Ask(_) => {}
-    }
+fn open_gate(step: &mut Arguments) {
+    step.gate = 1;
 }
 
 /// Nothing where a step does not look.
-fn forget_unread(call: &mut Call) {
-    let Call::Step(step) = call else { return };
+fn forget_unread(step: &mut Arguments) {
     if !matches!(step.kind, kinds::NEEDED | kinds::ANNOUNCED) {
         step.type_id = 0;
     }

@@ -47,7 +47,7 @@ fn directed_stream(script: &Script, questions: bool) -> Stream {
         shift,
     } = begin(&script.opening);
     let own = script.calls.iter();
-    calls.extend(own.map(|call| later(call.to_step_call(), shift)));
+    calls.extend(own.map(|call| later(call.to_arguments(), shift)));
     if questions {
         calls.extend([Call::Ask(0), Call::Ask(1)]);
     }
@@ -78,7 +78,7 @@ pub fn random_stream(seed: u64, draw: &Draw) -> Result<Stream, String> {
         if after_end > 3 {
             break;
         }
-        let call = Call::from(random.next(&state).to_step_call());
+        let call = Call::Step(Box::new(random.next(&state).to_arguments()));
         player.play(&call.line())?;
         stream.calls.push(call);
         if draw.questions && step % 8 == 3 {

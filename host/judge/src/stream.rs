@@ -4,7 +4,7 @@
 use keeper_streams::text::Line;
 use keeper_values::numbers::kinds;
 use keeper_values::numbers::widths::{ID, PAIR, PLACE, ROW, TYPE};
-use keeper_values::{Arguments, Id, Pooled, Settings, StepCall};
+use keeper_values::{Arguments, Id, Settings};
 
 #[derive(Debug, Clone, Copy, PartialEq, Eq)]
 pub struct Opening {
@@ -16,16 +16,13 @@ pub struct Opening {
 #[derive(Debug, Clone, PartialEq, Eq)]
 pub enum Call {
     Step(Box<Arguments>),
-    /// A step of pooled announcements.
-    Pooled(Box<Pooled>),
     Ask(u8),
 }
 
 impl Call {
     pub fn line(&self) -> Line {
         match self {
-            Call::Step(arguments) => Line::step(arguments.as_ref().clone()),
-            Call::Pooled(pooled) => Line::step(pooled.as_ref().clone()),
+            Call::Step(arguments) => Line::Step(arguments.clone(), Vec::new()),
             Call::Ask(flag) => Line::Ask(*flag),
         }
     }
@@ -34,26 +31,7 @@ impl Call {
     pub fn kind(&self) -> Option<u8> {
         match self {
             Call::Step(arguments) => Some(arguments.kind),
-            Call::Pooled(_) => Some(kinds::POOLED),
             Call::Ask(_) => None,
-        }
-    }
-
-    /// The clock, if it is a step.
-    pub fn clock_mut(&mut self) -> Option<&mut u64> {
-        match self {
-            Call::Step(arguments) => Some(&mut arguments.clock),
-            Call::Pooled(pooled) => Some(&mut pooled.clock),
-            Call::Ask(_) => None,
-        }
-    }
-}
-
-impl From<StepCall> for Call {
-    fn from(call: StepCall) -> Self {
-        match call {
-            StepCall::Step(arguments) => Call::Step(Box::new(arguments)),
-            StepCall::Pooled(pooled) => Call::Pooled(Box::new(pooled)),
         }
     }
 }
@@ -109,21 +87,12 @@ impl Stream {
     /// Every id in its lists.
     pub fn ids(&self) -> Vec<Id> {
         let mut ids = Vec::new();
-        let stored = |pairs| entries(pairs, PAIR).map(|pair| &pair[TYPE..]);
         for call in &self.calls {
-            match call {
-                Call::Step(step) => {
-                    let places = view_ids(&step.view);
-                    let lists = entries(&step.ids, ID).chain(entries(&step.continuation, ID));
-                    let all = lists.chain(stored(&step.stored)).chain(places);
-                    ids.extend(all.filter_map(id));
-                }
-                Call::Pooled(pooled) => {
-                    let all = entries(&pooled.ids, ID).chain(stored(&pooled.stored));
-                    ids.extend(all.filter_map(id));
-                }
-                Call::Ask(_) => {}
-            }
+            let Call::Step(step) = call else { continue };
+            let places = view_ids(&step.view);
+            let lists = entries(&step.ids, ID).chain(entries(&step.continuation, ID));
+            let stored = entries(&step.stored, PAIR).map(|pair| &pair[TYPE..]);
+            ids.extend(lists.chain(stored).chain(places).filter_map(id));
         }
         ids
     }
@@ -157,7 +126,7 @@ impl Stream {
                         calls: Vec::new(),
                     });
                 }
-                Line::Step(call, _) => reading.call(call.as_ref().clone().into()),
+                Line::Step(arguments, _) => reading.call(Call::Step(arguments.clone())),
                 Line::Ask(flag) => reading.call(Call::Ask(*flag)),
                 Line::Open { .. }
                 | Line::Put(_)

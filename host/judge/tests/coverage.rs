@@ -9,7 +9,7 @@ use keeper_variants::Variant;
 use std::collections::BTreeSet;
 
 /// Numbers that a pupil can meet. The other refusals are given for malformed areas, lists and views.
-const MET: [u64; 8] = [0, 4, 5, 6, 9, 10, 11, 13];
+const MET: [u64; 7] = [0, 4, 5, 6, 9, 10, 11];
 
 /// Whether only bytes, a state, a map, a forecast or a mean age show the fault that no pupil's keeper meets.
 fn not_asked(variant: &Variant) -> bool {
@@ -36,8 +36,7 @@ fn not_asked(variant: &Variant) -> bool {
         "the stalled peer joins a second time",
     ];
     let fault = &variant.fault;
-    let faults = [&FLAGS[..], &STATES, &keeper_variants::POOLED_ON_BYTES].concat();
-    PLACES.contains(&variant.place) || faults.contains(fault)
+    PLACES.contains(&variant.place) || FLAGS.contains(fault) || STATES.contains(fault)
 }
 
 fn recorded(stream: &Stream) -> Vec<Line> {

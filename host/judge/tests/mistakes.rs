@@ -124,18 +124,6 @@ fn knowing_a_type_by_its_low_byte() {
 }
 
 #[test]
-fn asking_each_who_announces() {
-    caught(
-        "asks-each-who-announces",
-        &[
-            " to 3, batch 1: ..0001, the core's nothing",
-            "document 02, F-9: \"each id neither pending nor stored goes, one time, to the peer of the first list",
-            ", of peer 2 ..0001; of peer 3 ..0001\n",
-        ],
-    );
-}
-
-#[test]
 fn the_right_ones_pass() {
     for right in ["none", "core"] {
         let (verdict, report) = judged(&shipped(right), &few_streams());

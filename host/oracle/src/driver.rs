@@ -3,7 +3,6 @@
 use crate::delivery::{DeliveryControl, DeliveryData};
 use crate::domain::byte;
 use crate::parked::Parked;
-use crate::pooled;
 use crate::quiet;
 use crate::scene::{self, Scene, Stop};
 use crate::standins::{Chain, Store, Transport, Validator};
@@ -14,7 +13,7 @@ use enr_p2p::protocol::peer::ProtocolEvent;
 use enr_p2p::types::PeerId;
 use keeper_values::numbers::{kinds, limits, outcomes, types};
 use keeper_values::{Call, Id, Mode, Settings, State};
-use std::collections::{BTreeMap, VecDeque};
+use std::collections::BTreeMap;
 use std::panic::AssertUnwindSafe;
 use std::task::Poll;
 use tokio::sync::mpsc::{unbounded_channel, Sender};
@@ -197,7 +196,7 @@ impl Oracle {
         if let Some(surprise) = scene.surprise {
             return Verdict::Lost(surprise);
         }
-        if tokio::driver::armed().is_some() || !scene.events.is_empty() {
+        if tokio::driver::armed().is_some() || scene.event.is_some() {
             return Verdict::Lost("the wake was not taken");
         }
         self.stop = scene.stop;
@@ -212,10 +211,6 @@ impl Oracle {
             return Verdict::Refused(number);
         }
         let [retried, fresh, abandoned, forgotten] = counts;
-        let sends = match call.kind {
-            kinds::POOLED => pooled::reduced(scene.sends),
-            _ => scene.sends,
-        };
         Verdict::Finished(Box::new(Observed {
             outcome: self.outcome(call.kind, before.mode),
             retried,
@@ -223,7 +218,7 @@ impl Oracle {
             abandoned,
             forgotten,
             state: self.state.clone(),
-            sends,
+            sends: scene.sends,
         }))
     }
 
@@ -270,7 +265,7 @@ impl Oracle {
         let scene = Scene {
             call: call.clone(),
             pick: call.kind == kinds::PICK,
-            events: self.events(call),
+            event: self.event(call),
             entry_send: Some(call.kind != kinds::SEND_FAILURE)
                 .filter(|_| self.stop == Some(Stop::EntrySend)),
             ..Scene::default()
@@ -278,15 +273,7 @@ impl Oracle {
         scene::with(|current| *current = scene);
     }
 
-    /// The events that the transport hands out in this step.
-    fn events(&self, call: &Call) -> VecDeque<Option<ProtocolEvent>> {
-        match call.kind {
-            kinds::POOLED => pooled::events(call),
-            _ => self.event(call).into_iter().collect(),
-        }
-    }
-
-    /// The only one, where there is one; an inner `None` ends the stream.
+    /// The event that the transport hands out in this step, if any; an inner `None` ends the stream.
     fn event(&self, call: &Call) -> Option<Option<ProtocolEvent>> {
         let peer_id = PeerId(call.peer);
         let message = |message| Some(Some(ProtocolEvent::Message { peer_id, message }));

@@ -19,8 +19,6 @@ mod driver;
 #[cfg(oracle)]
 mod parked;
 #[cfg(oracle)]
-mod pooled;
-#[cfg(oracle)]
 mod quiet;
 #[cfg(oracle)]
 mod scene;

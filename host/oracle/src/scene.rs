@@ -5,7 +5,6 @@ use enr_p2p::protocol::peer::ProtocolEvent;
 use keeper_values::numbers::{commands, types};
 use keeper_values::{Call, Command, Id, TypeId};
 use std::cell::RefCell;
-use std::collections::VecDeque;
 use std::panic::Location;
 
 /// Where the Rust waits for the next step, besides its two selects.
@@ -24,8 +23,7 @@ pub struct Scene {
     pub call: Call,
     /// `pick_sync_peer` may have its peers.
     pub pick: bool,
-    /// Those still to be handed out; an inner `None` ends the stream.
-    pub events: VecDeque<Option<ProtocolEvent>>,
+    pub event: Option<Option<ProtocolEvent>>,
     /// How the entry's send ended, once a step has said so.
     pub entry_send: Option<bool>,
     pub stop: Option<Stop>,

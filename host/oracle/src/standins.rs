@@ -98,9 +98,7 @@ impl SyncTransport for Transport {
     #[track_caller]
     fn next_event(&mut self) -> impl Future<Output = Option<ProtocolEvent>> + Send {
         let waits = scene::function(Location::caller()) == "pick_sync_peer";
-        stopping(waits.then_some(Stop::Wait), |scene| {
-            scene.events.pop_front()
-        })
+        stopping(waits.then_some(Stop::Wait), |scene| scene.event.take())
     }
 }
 

@@ -6,7 +6,7 @@ pub use ages::{aged, ages_told};
 use keeper_reference::{image, map, PLAIN};
 use keeper_streams::damage::Damaged;
 use keeper_streams::text::Line;
-use keeper_values::{read_commands, Answer, Forecast, Keeper, MapCall, Settings, State, StepCall};
+use keeper_values::{read_commands, Answer, Arguments, Forecast, Keeper, MapCall, Settings, State};
 use keeper_values::{COMMAND_BYTES, MAP_BYTES, STATE_BYTES};
 use std::panic::{catch_unwind, set_hook, take_hook, AssertUnwindSafe};
 
@@ -43,10 +43,10 @@ pub fn foretold(forecast: Forecast, answer: &Answer, written: &[u8]) -> Result<(
 }
 
 /// What a step answers and writes with a whole command area, on a copy of the state.
-pub fn lent_whole(keeper: &dyn Keeper, state: &[u8], call: &StepCall) -> (Answer, Vec<u8>) {
+pub fn lent_whole(keeper: &dyn Keeper, state: &[u8], call: &Arguments) -> (Answer, Vec<u8>) {
     let mut state = state.to_vec();
     let mut commands = vec![FILL; COMMAND_BYTES];
-    let answer = keeper.step_call(&mut state, &mut commands, call);
+    let answer = keeper.step(&mut state, &mut commands, call);
     commands.truncate(answer.length as usize);
     (answer, commands)
 }
@@ -96,7 +96,7 @@ impl<'k> Player<'k> {
                 clock,
                 height,
             } => {
-                let mut area = self.lent().0;
+                let mut area = self.lent(&Arguments::default()).0;
                 let number = self.keeper.open(&mut area, *settings, *clock, *height);
                 self.keep(area, number)?;
                 let mut lines = vec![Line::numbers(&[number])];
@@ -123,10 +123,10 @@ impl<'k> Player<'k> {
     }
 
     /// The areas of the next call; what changed them for this call alone is used up.
-    fn lent(&mut self) -> (Vec<u8>, Vec<u8>) {
+    fn lent(&mut self, call: &Arguments) -> (Vec<u8>, Vec<u8>) {
         let lengths = std::mem::replace(&mut self.lengths, (STATE_BYTES, COMMAND_BYTES));
         let damaged = Damaged {
-            arguments: (),
+            arguments: call.clone(),
             state_length: lengths.0,
             commands_length: lengths.1,
             poke: self.poke.take(),
@@ -145,15 +145,15 @@ impl<'k> Player<'k> {
         Ok(())
     }
 
-    fn step(&mut self, call: &StepCall) -> Result<Vec<Line>, String> {
-        let (mut area, mut commands) = self.lent();
+    fn step(&mut self, call: &Arguments) -> Result<Vec<Line>, String> {
+        let (mut area, mut commands) = self.lent(call);
         let before = area.clone();
-        let forecast = self.keeper.forecast_call(&area, call);
-        aged(self.keeper, &area, &[call.clock(), u64::MAX])?;
+        let forecast = self.keeper.forecast(&area, call);
+        aged(self.keeper, &area, &[call.clock, u64::MAX])?;
         if area != before {
             return Err("a forecast or a mean age changed the state area".to_string());
         }
-        let answer = self.keeper.step_call(&mut area, &mut commands, call);
+        let answer = self.keeper.step(&mut area, &mut commands, call);
         let written = commands.get(..answer.length as usize).unwrap_or_default();
         let after = commands.get(answer.length as usize..).unwrap_or_default();
         if written.len() != answer.length as usize || after.iter().any(|byte| *byte != FILL) {
@@ -190,7 +190,7 @@ impl<'k> Player<'k> {
     }
 
     fn ask(&mut self, flag: u8) -> Result<Vec<Line>, String> {
-        let (area, mut commands) = self.lent();
+        let (area, mut commands) = self.lent(&Arguments::default());
         let (number, length) = self.keeper.question(&area, &mut commands, flag);
         let pairs = commands.get(..length as usize).unwrap_or_default().to_vec();
         let after = commands.get(length as usize..).unwrap_or_default();
@@ -201,7 +201,7 @@ impl<'k> Player<'k> {
     }
 
     fn age(&mut self, clock: u64) -> Result<Vec<Line>, String> {
-        let (area, _) = self.lent();
+        let (area, _) = self.lent(&Arguments::default());
         let before = area.clone();
         let mean = self.keeper.mean_age(&area, clock);
         if area != before {
@@ -283,7 +283,7 @@ pub fn told_apart(keeper: &dyn Keeper, lines: &[Line]) -> bool {
 mod tests {
     use super::*;
     use keeper_reference::Reference;
-    use keeper_values::{Arguments, MeanAge, Pooled, Row, View};
+    use keeper_values::{MeanAge, Row, View};
 
     fn stream() -> Vec<Line> {
         let view = View {
@@ -357,14 +357,6 @@ mod tests {
 
         fn forecast(&self, state: &[u8], arguments: &Arguments) -> Forecast {
             Reference::plain().forecast(state, arguments)
-        }
-
-        fn pooled(&self, state: &mut [u8], commands: &mut [u8], pooled: &Pooled) -> Answer {
-            Reference::plain().pooled(state, commands, pooled)
-        }
-
-        fn pooled_forecast(&self, state: &[u8], pooled: &Pooled) -> Forecast {
-            Reference::plain().pooled_forecast(state, pooled)
         }
 
         fn mean_age(&self, state: &[u8], clock: u64) -> MeanAge {

@@ -4,7 +4,7 @@ use crate::commands::Commands;
 use crate::inputs::Inputs;
 use crate::{image, Refusal, Rules, Run};
 use keeper_values::numbers::{kinds, limits, types};
-use keeper_values::{Answer, Arguments, Id, Mode, Pooled, Settings, State, TypeId};
+use keeper_values::{Answer, Arguments, Id, Mode, Settings, State, TypeId};
 use keeper_values::{COMMAND_BYTES, STATE_BYTES};
 use std::collections::{BTreeMap, BTreeSet};
 
@@ -64,34 +64,6 @@ pub fn areas(rules: &Rules, state: &[u8], commands: &[u8]) -> Result<State, Refu
     Ok(read)
 }
 
-/// A step's arguments, and the pool that they are lent with.
-pub struct Lent<'a> {
-    pub arguments: &'a Arguments,
-    pub pool: &'a [u8],
-}
-
-impl<'a> Lent<'a> {
-    /// Of the entry that is lent no pool.
-    pub fn step(arguments: &'a Arguments) -> Self {
-        let pool = &[];
-        Self { arguments, pool }
-    }
-}
-
-/// F-9: what a pooled step is not given is 0 or empty, and the view has no rows.
-pub fn pooled_arguments(pooled: &Pooled) -> Arguments {
-    Arguments {
-        kind: kinds::POOLED,
-        clock: pooled.clock,
-        gate: pooled.gate,
-        type_id: pooled.type_id,
-        ids: pooled.ids.clone(),
-        stored: pooled.stored.clone(),
-        view: vec![0; 4],
-        ..Arguments::default()
-    }
-}
-
 pub fn clock_fits(state: &State, clock: u64) -> bool {
     clock >= state.last_clock
 }
@@ -106,10 +78,8 @@ pub fn failure_fits(state: &State, kind: u8) -> bool {
     kind != kinds::SEND_FAILURE || state.entry_mark
 }
 
-/// 4 to 8, and 13 after 6: the call, the lists and the view, whether the step reads them or not.
-pub fn arguments_fit(rules: &Rules, state: &State, lent: &Lent) -> Result<(), Refusal> {
-    let (call, pool) = (lent.arguments, lent.pool);
-    let pooled = call.kind == kinds::POOLED;
+/// 4 to 8: the call, the lists and the view, whether the step reads them or not.
+pub fn arguments_fit(rules: &Rules, state: &State, call: &Arguments) -> Result<(), Refusal> {
     let tests = [
         (4, (rules.clock_fits)(state, call.clock)),
         (5, (rules.kind_fits)(state.mode, call.kind)),
@@ -122,9 +92,6 @@ pub fn arguments_fit(rules: &Rules, state: &State, lent: &Lent) -> Result<(), Re
         ),
         (6, (rules.continuation_fits)(&call.continuation)),
         (6, (rules.stored_fits)(&call.stored)),
-        (6, (rules.pool_whole)(pool)),
-        (6, !pooled || (rules.pool_adds_up)(pool, &call.ids)),
-        (13, (rules.pool_few)(pool)),
         (7, (rules.peers_fit)(&call.peers)),
         (8, (rules.view_fits)(&call.view)),
     ];
@@ -152,9 +119,13 @@ pub fn result_fits(_: &Before, state: &State) -> Result<(), Refusal> {
 }
 
 /// The step on values: what it leaves, writes and answers.
-fn finish(rules: &Rules, state: State, call: &Lent) -> Result<(State, Vec<u8>, Answer), Refusal> {
+fn finish(
+    rules: &Rules,
+    state: State,
+    call: &Arguments,
+) -> Result<(State, Vec<u8>, Answer), Refusal> {
     let before = Before {
-        kind: call.arguments.kind,
+        kind: call.kind,
         pending: state.pending.len(),
     };
     let mut run = Run {
@@ -166,7 +137,7 @@ fn finish(rules: &Rules, state: State, call: &Lent) -> Result<(State, Vec<u8>, A
     };
     run.state.entry_mark = false;
     let outcome = crate::steps::step(&mut run)?;
-    run.state.last_clock = run.inputs.clock;
+    run.state.last_clock = call.clock;
     (rules.result_fits)(&before, &run.state)?;
     let [retried, fresh, abandoned, forgotten] = run.counts;
     let answer = Answer {
@@ -183,8 +154,7 @@ fn finish(rules: &Rules, state: State, call: &Lent) -> Result<(State, Vec<u8>, A
     Ok((run.state, run.commands.bytes, answer))
 }
 
-/// Both entries of a step.
-pub fn step(rules: &Rules, state: &mut [u8], commands: &mut [u8], call: &Lent) -> Answer {
+pub fn step(rules: &Rules, state: &mut [u8], commands: &mut [u8], call: &Arguments) -> Answer {
     let finished = (rules.areas)(rules, state, commands).and_then(|before| {
         (rules.arguments_fit)(rules, &before, call)?;
         finish(rules, before, call)

@@ -1,9 +1,8 @@
 //! F-3: what a step would need. The step on a copy of the state, with a command area of its own; its figures alone are kept.
 
-use crate::entries::{self, Lent};
-use crate::Rules;
+use crate::{entries, Rules};
 use keeper_values::numbers::widths::{HEADER, ID};
-use keeper_values::{Answer, Forecast, COMMAND_BYTES};
+use keeper_values::{Answer, Arguments, Forecast, COMMAND_BYTES};
 
 /// "the number of commands": each is passed over by the count of its ids, the last four bytes of its header.
 pub fn count_commands(written: &[u8]) -> u32 {
@@ -25,7 +24,7 @@ pub fn figures(rules: &Rules, answer: &Answer, written: &[u8]) -> Forecast {
 }
 
 /// The step "lent 65,536 command bytes", on a copy: what it answers and writes.
-pub fn tried(rules: &Rules, state: &[u8], call: &Lent) -> (Answer, Vec<u8>) {
+pub fn tried(rules: &Rules, state: &[u8], call: &Arguments) -> (Answer, Vec<u8>) {
     let mut state = state.to_vec();
     let mut commands = vec![0; COMMAND_BYTES];
     let answer = entries::step(rules, &mut state, &mut commands, call);
@@ -33,7 +32,7 @@ pub fn tried(rules: &Rules, state: &[u8], call: &Lent) -> (Answer, Vec<u8>) {
     (answer, commands)
 }
 
-pub fn forecast(rules: &Rules, state: &[u8], call: &Lent) -> Forecast {
+pub fn forecast(rules: &Rules, state: &[u8], call: &Arguments) -> Forecast {
     let (answer, written) = tried(rules, state, call);
     figures(rules, &answer, &written)
 }

@@ -1,9 +1,8 @@
-//! The lists and the view lent to a call: the tests of 6, 13, 7 and 8, and reading them.
+//! The lists and the view lent to a call: the tests of 6, 7 and 8, and reading them.
 
-use crate::entries::Lent;
 use keeper_values::numbers::limits;
-use keeper_values::numbers::widths::{ID, PAIR, PEER, PLACE, POOL_ENTRY, ROW, TYPE};
-use keeper_values::{Id, PeerIds, Place, Row, TypeId};
+use keeper_values::numbers::widths::{ID, PAIR, PEER, PLACE, ROW, TYPE};
+use keeper_values::{Arguments, Id, Place, Row, TypeId};
 use std::collections::BTreeSet;
 
 const ABSENT: u8 = 255;
@@ -32,46 +31,6 @@ pub fn stored_fits(pairs: &[u8]) -> bool {
         && (PAIR..pairs.len())
             .step_by(PAIR)
             .all(|at| rises(&pairs[at - PAIR..at + PAIR]))
-}
-
-fn number(bytes: &[u8]) -> u64 {
-    bytes
-        .iter()
-        .fold(0, |all, byte| all << 8 | u64::from(*byte))
-}
-
-/// F-9: "for each list an entry of peer, 8 bytes, and count, 4".
-fn pool_entries(pool: &[u8]) -> impl Iterator<Item = (u64, u64)> + '_ {
-    let entry = |entry: &[u8]| (number(&entry[..PEER]), number(&entry[PEER..]));
-    pool.chunks_exact(POOL_ENTRY).map(entry)
-}
-
-/// F-9: "A bad entry length".
-pub fn pool_whole(pool: &[u8]) -> bool {
-    pool.len().is_multiple_of(POOL_ENTRY)
-}
-
-/// F-9: "counts that don't add up to the ids". The sum is exact.
-pub fn pool_adds_up(pool: &[u8], ids: &[u8]) -> bool {
-    let counts = pool_entries(pool).map(|(_, count)| count);
-    counts.sum::<u64>() == (ids.len() / ID) as u64
-}
-
-/// F-9: "more than 16 lists".
-pub fn pool_few(pool: &[u8]) -> bool {
-    pool.len() <= limits::LISTS * POOL_ENTRY
-}
-
-/// F-9: "their ids joined"; the counts, which add up, say where each list ends.
-fn lists(pool: &[u8], ids: &[Id]) -> Vec<PeerIds> {
-    let mut from = 0;
-    let list = |(peer, count)| {
-        let ids = ids.iter().skip(from).take(count as usize);
-        from += count as usize;
-        let ids = ids.copied().collect();
-        PeerIds { peer, ids }
-    };
-    pool_entries(pool).map(list).collect()
 }
 
 pub fn peers_fit(peers: &[u8]) -> bool {
@@ -114,8 +73,6 @@ pub struct Inputs<'a> {
     pub continuation: Vec<Id>,
     pub stored: BTreeSet<(TypeId, Id)>,
     pub peers: Vec<u64>,
-    /// Of a pooled step.
-    pub lists: Vec<PeerIds>,
     view: &'a [u8],
 }
 
@@ -131,9 +88,9 @@ fn type_id(bytes: &[u8]) -> TypeId {
 }
 
 impl<'a> Inputs<'a> {
-    pub fn read(call: &Lent<'a>) -> Self {
-        let ids = |bytes: &[u8]| -> Vec<Id> { bytes.chunks_exact(ID).map(id).collect() };
-        let arguments = call.arguments;
+    pub fn read(arguments: &'a Arguments) -> Self {
+        let ids = |bytes: &[u8]| bytes.chunks_exact(ID).map(id).collect();
+        let peer = |bytes: &[u8]| bytes.iter().fold(0, |peer, b| peer << 8 | u64::from(*b));
         Self {
             kind: arguments.kind,
             clock: arguments.clock,
@@ -151,8 +108,7 @@ impl<'a> Inputs<'a> {
                 .chunks_exact(PAIR)
                 .map(|pair| (type_id(pair), id(&pair[TYPE..])))
                 .collect(),
-            peers: arguments.peers.chunks_exact(PEER).map(number).collect(),
-            lists: lists(call.pool, &ids(&arguments.ids)),
+            peers: arguments.peers.chunks_exact(PEER).map(peer).collect(),
             view: &arguments.view,
         }
     }

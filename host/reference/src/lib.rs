@@ -1,4 +1,4 @@
-//! The reference: document 01, F-1 to F-9 of document 02 and docs/LAYOUT.md read as plain Rust on bytes. Small and
+//! The reference: document 01, F-1 to F-8 of document 02 and docs/LAYOUT.md read as plain Rust on bytes. Small and
 //! obvious rather than fast.
 //!
 //! In the oracle's domain it equals the original Rust; outside, on any bytes, it is what a core is held against. Every
@@ -33,8 +33,7 @@ pub mod run;
 pub mod steps;
 pub mod sync;
 
-use entries::Lent;
-use keeper_values::{Answer, Arguments, Forecast, Keeper, MapCall, MeanAge, Pooled, Settings};
+use keeper_values::{Answer, Arguments, Forecast, Keeper, MapCall, MeanAge, Settings};
 pub use rules::{Rules, PLAIN};
 pub use run::{Refusal, Run};
 
@@ -57,27 +56,11 @@ impl Keeper for Reference {
     }
 
     fn step(&self, state: &mut [u8], commands: &mut [u8], arguments: &Arguments) -> Answer {
-        entries::step(&self.rules, state, commands, &Lent::step(arguments))
+        entries::step(&self.rules, state, commands, arguments)
     }
 
     fn forecast(&self, state: &[u8], arguments: &Arguments) -> Forecast {
-        (self.rules.forecast)(&self.rules, state, &Lent::step(arguments))
-    }
-
-    fn pooled(&self, state: &mut [u8], commands: &mut [u8], pooled: &Pooled) -> Answer {
-        let call = Lent {
-            arguments: &entries::pooled_arguments(pooled),
-            pool: &pooled.pool,
-        };
-        entries::step(&self.rules, state, commands, &call)
-    }
-
-    fn pooled_forecast(&self, state: &[u8], pooled: &Pooled) -> Forecast {
-        let call = Lent {
-            arguments: &entries::pooled_arguments(pooled),
-            pool: &pooled.pool,
-        };
-        (self.rules.forecast)(&self.rules, state, &call)
+        (self.rules.forecast)(&self.rules, state, arguments)
     }
 
     fn mean_age(&self, state: &[u8], clock: u64) -> MeanAge {

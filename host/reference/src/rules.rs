@@ -1,15 +1,14 @@
-//! Every decision of the reference as a field. [`PLAIN`] is document 01 with F-1 to F-9; a variant is
+//! Every decision of the reference as a field. [`PLAIN`] is document 01 with F-1 to F-8; a variant is
 //! `Rules { one: .., ..PLAIN }`.
 
 use crate::delivery::{Check, Retry};
-use crate::entries::{Before, Lent};
+use crate::entries::Before;
 use crate::map::{Cell, Map, Mapped};
 use crate::steps::Outcome;
 use crate::sync::Stored;
 use crate::{commands, delivery, entries, forecast, image, inputs, map, mean_age, steps, sync};
 use crate::{Refusal, Run};
-use keeper_values::{Arguments, Forecast, Id, MeanAge, Mode, PeerIds, Row};
-use keeper_values::{Settings, State, TypeId};
+use keeper_values::{Arguments, Forecast, Id, MeanAge, Mode, Row, Settings, State, TypeId};
 use std::collections::{BTreeMap, BTreeSet};
 use std::ops::RangeInclusive;
 
@@ -56,9 +55,6 @@ rules! {
         needed_fits: ListTest,
         continuation_fits: ListTest,
         stored_fits: ListTest,
-        pool_whole: ListTest,
-        pool_adds_up: fn(&[u8], &[u8]) -> bool,
-        pool_few: ListTest,
         peers_fit: ListTest,
         view_fits: ListTest,
     }
@@ -70,7 +66,7 @@ rules! {
         clock_fits: fn(&State, u64) -> bool,
         flags_fit_call: fn(&Arguments) -> bool = flags_fit,
         failure_fits: fn(&State, u8) -> bool,
-        arguments_fit: fn(&Rules, &State, &Lent) -> Result<(), Refusal>,
+        arguments_fit: fn(&Rules, &State, &Arguments) -> Result<(), Refusal>,
         result_fits: fn(&Before, &State) -> Result<(), Refusal>,
         pairs: fn(&State, u8) -> BTreeSet<(TypeId, Id)>,
     }
@@ -80,7 +76,7 @@ rules! {
     }
     forecast {
         count_commands: fn(&[u8]) -> u32,
-        forecast: fn(&Rules, &[u8], &Lent) -> Forecast,
+        forecast: fn(&Rules, &[u8], &Arguments) -> Forecast,
     }
     mean_age {
         sum_of_ages: fn(&State, u64) -> u128,
@@ -106,8 +102,6 @@ rules! {
         send_sync_info: fn(&mut Run, u64) -> bool,
         needed: fn(&Run, TypeId, &[Id], Stored) -> Vec<Id>,
         request_announced: fn(&mut Run, u64, TypeId, &[Id], Stored),
-        left: fn(&Run, TypeId, &[PeerIds]) -> Vec<PeerIds>,
-        ask_pooled: fn(&mut Run, TypeId, &[PeerIds]),
         window_end: fn(u32, u32) -> u32,
         window: fn(&Run) -> Result<Orphans, Refusal>,
         request_next_sections: fn(&mut Run) -> Result<(), Refusal>,
@@ -131,7 +125,6 @@ rules! {
         announced: Step,
         empty_headers: Step,
         judge_tip: fn(bool, u32, u32) -> u32,
-        pooled: Step,
         announces: fn(Option<u32>, u32) -> bool,
         sync_info: Step,
         lost_peer: Step,

@@ -17,7 +17,6 @@ pub fn kind_fits(mode: Mode, kind: u8) -> bool {
         kinds::SECTION_TICK => mode == Mode::Synced,
         kinds::SEND_FAILURE => mode == Mode::Syncing,
         kinds::END_OF_STREAM => mode == Mode::Seeking || mode.has_sync_peer(),
-        kinds::POOLED => mode.has_sync_peer(),
         _ => false,
     }
 }
@@ -41,7 +40,6 @@ pub fn step(run: &mut Run) -> Outcome {
         kinds::SECTION_TICK => (rules.section_tick)(run),
         kinds::SEND_FAILURE => (rules.send_failure)(run),
         kinds::END_OF_STREAM => (rules.end_of_stream)(run),
-        kinds::POOLED => (rules.pooled)(run),
         _ => Ok(outcomes::CONTINUE),
     }
 }
@@ -147,16 +145,6 @@ pub fn announced(run: &mut Run) -> Outcome {
         }
         _ => Ok(outcomes::CONTINUE),
     }
-}
-
-/// F-9: "a type that rule 7 doesn't request sends nothing". Empty lists are skipped, and none is Synced.
-pub fn pooled(run: &mut Run) -> Outcome {
-    let type_id = run.inputs.type_id;
-    if types::KNOWN.contains(&type_id) {
-        let lists = run.inputs.lists.clone();
-        (run.rules.ask_pooled)(run, type_id, &lists);
-    }
-    Ok(outcomes::CONTINUE)
 }
 
 /// Rule 7: "sync peer with tip <= ours: Synced; else tip > ours + 1: BehindPeer; else Continue", the sum exact.

@@ -1,10 +1,10 @@
-//! state.rs, rules 1 to 6 (document 01, and F-8 and F-9 of document 02).
+//! state.rs, rules 1 to 6 (document 01, and F-8 of document 02).
 
 use crate::delivery::Retry;
 use crate::{Refusal, Run};
 use keeper_values::numbers::{limits, types};
-use keeper_values::{Id, PeerIds, Place, Row, State, TypeId};
-use std::collections::{BTreeMap, BTreeSet};
+use keeper_values::{Id, Place, Row, State, TypeId};
+use std::collections::BTreeMap;
 
 /// By what rule 3 knows a stored id.
 #[derive(Debug, Clone, Copy, PartialEq, Eq)]
@@ -60,36 +60,6 @@ pub fn request_announced(run: &mut Run, peer: u64, type_id: TypeId, ids: &[Id], 
     }
     (run.rules.mark_requested)(run, &needed, peer, type_id);
     (run.rules.requests)(run, peer, type_id, &needed);
-}
-
-/// F-9: "each id neither pending nor stored goes, one time, to the peer of the first list that holds it. List order holds".
-pub fn left(run: &Run, type_id: TypeId, lists: &[PeerIds]) -> Vec<PeerIds> {
-    let mut gone = BTreeSet::new();
-    let of = |list: &PeerIds| {
-        let goes = |id: &&Id| {
-            let known = run.inputs.stored.contains(&(type_id, **id));
-            !run.state.pending.contains_key(*id) && !known && gone.insert(**id)
-        };
-        PeerIds {
-            peer: list.peer,
-            ids: list.ids.iter().filter(goes).copied().collect(),
-        }
-    };
-    lists.iter().map(of).collect()
-}
-
-/// F-9: "each list is a batch of its own, also where two share a peer, and a list with nothing left gives no command and takes
-/// no batch number."
-pub fn ask_pooled(run: &mut Run, type_id: TypeId, lists: &[PeerIds]) {
-    if !run.inputs.gate {
-        return;
-    }
-    for PeerIds { peer, ids } in (run.rules.left)(run, type_id, lists) {
-        if !ids.is_empty() {
-            (run.rules.mark_requested)(run, &ids, peer, type_id);
-            (run.rules.requests)(run, peer, type_id, &ids);
-        }
-    }
 }
 
 /// Rule 4: the window's last height, "min(downloaded + 192, chain height)", the sum exact.

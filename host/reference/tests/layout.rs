@@ -2,8 +2,7 @@
 
 use keeper_reference::{image, Reference, PLAIN};
 use keeper_values::numbers::kinds;
-use keeper_values::{Arguments, Call, Keeper, Mode, Place, Pooled, Request, Row, Settings};
-use keeper_values::{State, View};
+use keeper_values::{Arguments, Call, Keeper, Mode, Place, Request, Row, Settings, State, View};
 use keeper_values::{MapCall, MAP_BYTES};
 
 const SETTINGS: Settings = Settings {
@@ -135,42 +134,6 @@ fn commands() {
     ));
     assert_eq!(commands[..66], written);
     assert!(commands[66..].iter().all(|byte| *byte == 0x5a));
-}
-
-#[test]
-fn pooled_lists() {
-    let mut state = image::write(&holding(Mode::Syncing));
-    let mut commands = vec![0x5a; 65_600];
-    let pooled = Pooled {
-        clock: 2_000,
-        gate: 1,
-        type_id: 102,
-        ids: [[0xaa; 32], [0xbb; 32], [0xbb; 32], [0xcc; 32]].concat(),
-        pool: bytes(
-            "00 00 00 00 00 00 00 04  00 00 00 02
-             00 00 00 00 00 00 00 05  00 00 00 02",
-        ),
-        stored: vec![],
-    };
-    let answer = Reference::plain().pooled(&mut state, &mut commands, &pooled);
-    assert_eq!(answer.numbers(), [0, 0, 0, 0, 0, 0, 3, 0, 130]);
-    let mut written = bytes("01 00 66 00 00  00 00 00 00 00 00 00 04  00 00 00 02");
-    written.extend([[0xaa; 32], [0xbb; 32]].concat());
-    written.extend(bytes(
-        "01 00 66 00 01  00 00 00 00 00 00 00 05  00 00 00 01",
-    ));
-    written.extend([0xcc; 32]);
-    assert_eq!(commands[..130], written);
-    assert!(commands[130..].iter().all(|byte| *byte == 0x5a));
-    let record = |id: u8, peer: u8| {
-        let mut record = vec![id; 32];
-        record.extend([0, 0, 0, 0, 0, 0, 0, peer]);
-        record.extend(bytes("00 66  00 00 00 00 00 00 07 d0  00 00 00 00"));
-        record
-    };
-    let records = [record(0xaa, 4), record(0xbb, 4), record(0xcc, 5)].concat();
-    assert_eq!(state[2_560..2_560 + 3 * 54], records);
-    assert_eq!(image::read(&PLAIN, &state).expect("well formed").pending.len(), 3);
 }
 
 #[test]

@@ -2,7 +2,6 @@
 
 use keeper_reference::map::{self, Map};
 use keeper_reference::{Reference, PLAIN};
-use keeper_values::numbers::widths;
 use keeper_values::{Keeper, MapCall, Place, Row, View, MAP_BYTES};
 
 /// A row of sections stored or not.
@@ -175,7 +174,7 @@ fn what_a_fill_needs() {
     assert_eq!(passable(&area), (0, 0));
     // The whole view is tested.
     let mut long = view(11, rows(3));
-    long[4 + 2 * widths::ROW] = 4;
+    long[4 + 2 * 103] = 4;
     assert_eq!(fill(&mut area, 10, 11, long), 8);
     assert_eq!(fill(&mut area, 10, 11, vec![0; 3]), 8);
 }

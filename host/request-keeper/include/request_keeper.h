@@ -1,4 +1,4 @@
-/* The request keeper's twelve entries for a host in C. Every byte and number is in docs/LAYOUT.md.
+/* The request keeper's ten entries for a host in C. Every byte and number is in docs/LAYOUT.md.
  *
  * Link librequest_keeper.a, which `rt lib` in crates/request_keeper_c writes as out/librequest_keeper_c.a. It wants memcpy, memmove,
  * memset and __udivti3, which every C compiler links (libc and libgcc, or compiler-rt), and nothing else.
@@ -22,14 +22,10 @@ extern "C" {
 #define REQUEST_KEEPER_STATE_BYTES 65536
 #define REQUEST_KEEPER_COMMAND_BYTES 65536
 
-/* Bytes of a pool's entry: peer 8, count 4, high byte first; and how many of them a pooled step takes at most. */
-#define REQUEST_KEEPER_POOL_ENTRY_BYTES 12
-#define REQUEST_KEEPER_POOL_LISTS 16
-
 /* Length of a map of the window. */
 #define REQUEST_KEEPER_MAP_BYTES 512
 
-/* Step kinds. Pooled announcements have entries of their own; request_keeper_step takes them as a pool of no lists. */
+/* Step kinds. */
 enum request_keeper_kind {
     REQUEST_KEEPER_START = 1,
     REQUEST_KEEPER_PICK = 2,
@@ -46,8 +42,7 @@ enum request_keeper_kind {
     REQUEST_KEEPER_SCHEDULED_TICK = 13,
     REQUEST_KEEPER_SECTION_TICK = 14,
     REQUEST_KEEPER_SEND_FAILURE = 15,
-    REQUEST_KEEPER_END_OF_STREAM = 16,
-    REQUEST_KEEPER_POOLED = 17
+    REQUEST_KEEPER_END_OF_STREAM = 16
 };
 
 /* Outcomes of a finished step. */
@@ -152,28 +147,6 @@ struct request_keeper_foretold request_keeper_forecast(
     const uint8_t *stored, size_t stored_length,
     const uint8_t *peers, size_t peers_length,
     const uint8_t *view, size_t view_length);
-
-/* Runs a step of pooled announcements: lists of one type that several peers announce within one wake. Each id that is neither
- * pending nor stored is asked for once, of the peer of the first list that holds it. More than 16 lists are 13, after 6. */
-struct request_keeper_answer request_keeper_pooled(
-    uint8_t *state, size_t state_length,
-    uint8_t *commands, size_t commands_length,
-    uint64_t clock,
-    uint8_t gate,        /* 1: modifiers may be requested */
-    uint16_t typeid_,    /* modifier type of the ids */
-    const uint8_t *ids, size_t ids_length,       /* of all lists, joined */
-    const uint8_t *pool, size_t pool_length,     /* an entry for each list: peer, count of its ids */
-    const uint8_t *stored, size_t stored_length);
-
-/* What that step would answer. Nothing is written, and 3 is no answer. */
-struct request_keeper_foretold request_keeper_pooled_forecast(
-    const uint8_t *state, size_t state_length,
-    uint64_t clock,
-    uint8_t gate,
-    uint16_t typeid_,
-    const uint8_t *ids, size_t ids_length,
-    const uint8_t *pool, size_t pool_length,
-    const uint8_t *stored, size_t stored_length);
 
 /* The mean age of what is pending at a clock: the time since each was last asked for. Nothing is written. Answers 0, 1, 2 or 4. */
 struct request_keeper_mean request_keeper_mean_age(

@@ -1,4 +1,4 @@
-//! The twelve entries of the static library on bytes (docs/LAYOUT.md, "Entries"): seven of the core, five of the map of the
+//! The ten entries of the static library on bytes (docs/LAYOUT.md, "Entries"): five of the core, five of the map of the
 //! window. The only module with unsafe code, and the only place where the boundary is declared in Rust;
 //! `include/request_keeper.h` declares it in C.
 //!
@@ -49,40 +49,6 @@ mod exported {
         ) -> StepAnswer;
 
         request_keeper_forecast(
-            state: *const u8,
-            state_length: usize,
-        ) -> Forecast;
-    }
-
-    /// Declares entries that are given a pooled step's arguments behind their areas.
-    macro_rules! given_lists {
-        ($($entry:ident($($area:ident: $type:ty,)+) -> $answer:ty;)+) => {
-            extern "C" {
-                $(pub fn $entry(
-                    $($area: $type,)+
-                    clock: u64,
-                    gate: u8,
-                    typeid: u16,
-                    ids: *const u8,
-                    ids_length: usize,
-                    pool: *const u8,
-                    pool_length: usize,
-                    stored: *const u8,
-                    stored_length: usize,
-                ) -> $answer;)+
-            }
-        };
-    }
-
-    given_lists! {
-        request_keeper_pooled(
-            state: *mut u8,
-            state_length: usize,
-            commands: *mut u8,
-            commands_length: usize,
-        ) -> StepAnswer;
-
-        request_keeper_pooled_forecast(
             state: *const u8,
             state_length: usize,
         ) -> Forecast;
@@ -167,17 +133,6 @@ pub struct Arguments<'a> {
     pub stored: &'a [u8],
     pub peers: &'a [u8],
     pub view: &'a [u8],
-}
-
-/// A pooled step's arguments other than the areas, in the boundary's order.
-#[derive(Debug, Clone, Copy, PartialEq, Eq, Default)]
-pub struct Pooled<'a> {
-    pub clock: u64,
-    pub gate: u8,
-    pub typeid: u16,
-    pub ids: &'a [u8],
-    pub pool: &'a [u8],
-    pub stored: &'a [u8],
 }
 
 /// The nine numbers of a step.
@@ -309,53 +264,6 @@ pub fn forecast(state: &[u8], call: &Arguments<'_>) -> Forecast {
     // SAFETY: each pointer stands before the length of its own whole slice; all six are only read. No number is out of
     // bounds.
     unsafe { handed_over!(request_keeper_forecast(state.as_ptr(), state.len()), call) }
-}
-
-/// Calls an entry with its areas and, behind them, a pooled step's arguments.
-macro_rules! lists_handed_over {
-    ($entry:ident($($area:expr),+), $call:expr) => {
-        exported::$entry(
-            $($area,)+
-            $call.clock,
-            $call.gate,
-            $call.typeid,
-            $call.ids.as_ptr(),
-            $call.ids.len(),
-            $call.pool.as_ptr(),
-            $call.pool.len(),
-            $call.stored.as_ptr(),
-            $call.stored.len(),
-        )
-    };
-}
-
-/// Runs a step of pooled announcements.
-pub fn pooled(state: &mut [u8], commands: &mut [u8], call: &Pooled<'_>) -> StepAnswer {
-    // SAFETY: each pointer stands before the length of its own whole slice. The two that are written are borrowed
-    // alone, so that none of the five overlaps them. No number is out of bounds.
-    unsafe {
-        lists_handed_over!(
-            request_keeper_pooled(
-                state.as_mut_ptr(),
-                state.len(),
-                commands.as_mut_ptr(),
-                commands.len()
-            ),
-            call
-        )
-    }
-}
-
-/// Asks what a step of pooled announcements would answer and write, with a command area of 65,536 bytes.
-pub fn pooled_forecast(state: &[u8], call: &Pooled<'_>) -> Forecast {
-    // SAFETY: each pointer stands before the length of its own whole slice; all four are only read. No number is out of
-    // bounds.
-    unsafe {
-        lists_handed_over!(
-            request_keeper_pooled_forecast(state.as_ptr(), state.len()),
-            call
-        )
-    }
 }
 
 /// Asks how old what is pending is at a clock, on the mean.

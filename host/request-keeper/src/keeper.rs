@@ -1,10 +1,8 @@
 use crate::boundary;
-use crate::pooled::Joined;
 use crate::refusal::numbered;
 use crate::surroundings::Pairs;
 use crate::{
-    Answer, Finished, Forecast, MeanAge, Mode, Outcome, Peer, Pooled, Refusal, Settings, Step,
-    Surroundings,
+    Answer, Finished, Forecast, MeanAge, Mode, Outcome, Peer, Refusal, Settings, Step, Surroundings,
 };
 use std::fmt::{self, Debug, Display, Formatter};
 
@@ -20,8 +18,6 @@ pub struct RequestKeeper {
     commands: Box<[u8]>,
     /// The bytes of the last peer list, kept so that a step need not allocate.
     peers: Vec<u8>,
-    /// Those of the last pooled lists, kept likewise.
-    lists: Joined,
 }
 
 /// What a check or a lost peer may read of the store.
@@ -81,7 +77,6 @@ impl RequestKeeper {
             state,
             commands: area(COMMAND_BYTES),
             peers: Vec::new(),
-            lists: Joined::default(),
         }
     }
 
@@ -95,11 +90,6 @@ impl RequestKeeper {
         list_peers(&mut self.peers, now.peers);
         let call = arguments(step, now, &self.peers);
         let answer = boundary::step(&mut self.state, &mut self.commands, &call);
-        self.finished(answer)
-    }
-
-    /// What a step has come to.
-    fn finished(&self, answer: boundary::StepAnswer) -> Result<Finished<'_>, Refusal> {
         numbered(answer.number)?;
         let length = answer.length;
         let answer = Answer {
@@ -145,71 +135,15 @@ impl RequestKeeper {
     pub fn forecast(&self, step: Step<'_>, now: &Surroundings<'_>) -> Result<Forecast, Refusal> {
         let mut peers = Vec::new();
         list_peers(&mut peers, now.peers);
-        foretold(boundary::forecast(
-            &self.state,
-            &arguments(step, now, &peers),
-        ))
-    }
-
-    /// Runs the step of pooled announcements: lists of one type that several peers have announced within one wake. Each id
-    /// that is neither pending nor stored is asked for once, of the peer of the first list that holds it. It is a step of
-    /// syncing and synced. Of its surroundings it reads clock, gate and stored pairs. A refusal changes nothing.
-    ///
-    /// ```
-    /// use request_keeper::{Message, ModifierType, Peer, PeerIds, Pooled, Refusal, RequestKeeper, Settings, Step};
-    /// use request_keeper::Surroundings;
-    ///
-    /// let mut keeper = RequestKeeper::open(Settings::default(), 1_000, 400)?;
-    /// let now = Surroundings { peers: &[Peer(4)], ..Surroundings::at(2_000) };
-    /// let _ = keeper.step(Step::Start, &now)?;
-    /// let _ = keeper.step(Step::Pick, &now)?.send(|_command| Ok::<(), ()>(()));
-    ///
-    /// // Three peers announce the same sections, one of them with a repeat, another has nothing new.
-    /// let lists = [
-    ///     PeerIds { from: Peer(6), ids: &[[1; 32], [2; 32], [1; 32]] },
-    ///     PeerIds { from: Peer(7), ids: &[[2; 32], [1; 32]] },
-    ///     PeerIds { from: Peer(8), ids: &[[3; 32], [2; 32]] },
-    /// ];
-    /// let pooled = Pooled { modifier_type: ModifierType::BLOCK_TRANSACTIONS, lists: &lists };
-    /// assert_eq!(keeper.pooled_forecast(pooled, &now)?.commands, 2);
-    ///
-    /// // Each is asked for once.
-    /// let mut asked = Vec::new();
-    /// let sends = keeper.pooled(pooled, &now)?.send(|command| {
-    ///     if let Message::Request { ids, .. } = command.message {
-    ///         asked.push((command.to, ids.to_vec()));
-    ///     }
-    ///     Ok::<(), ()>(())
-    /// });
-    /// assert_eq!(asked, [(Peer(6), vec![[1; 32], [2; 32]]), (Peer(8), vec![[3; 32]])]);
-    /// assert_eq!((sends.sent, keeper.pending().count()), (2, 3));
-    ///
-    /// // 16 lists are taken, and no more.
-    /// let many = Pooled { lists: &[lists[0]; 17], ..pooled };
-    /// assert_eq!(keeper.pooled(many, &now).err(), Some(Refusal::TooManyLists));
-    /// # Ok::<(), Refusal>(())
-    /// ```
-    pub fn pooled(
-        &mut self,
-        pooled: Pooled<'_>,
-        now: &Surroundings<'_>,
-    ) -> Result<Finished<'_>, Refusal> {
-        self.lists.set(pooled.lists);
-        let call = self.lists.arguments(pooled.modifier_type, now);
-        let answer = boundary::pooled(&mut self.state, &mut self.commands, &call);
-        self.finished(answer)
-    }
-
-    /// What [`pooled`](Self::pooled) would answer, as [`forecast`](Self::forecast) says it of other steps. Changes nothing.
-    pub fn pooled_forecast(
-        &self,
-        pooled: Pooled<'_>,
-        now: &Surroundings<'_>,
-    ) -> Result<Forecast, Refusal> {
-        let mut lists = Joined::default();
-        lists.set(pooled.lists);
-        let call = lists.arguments(pooled.modifier_type, now);
-        foretold(boundary::pooled_forecast(&self.state, &call))
+        let forecast = boundary::forecast(&self.state, &arguments(step, now, &peers));
+        numbered(forecast.number)?;
+        Ok(Forecast {
+            outcome: Outcome::of(forecast.outcome),
+            pending: forecast.pending,
+            evicted: forecast.evicted,
+            commands: forecast.commands,
+            command_bytes: forecast.length,
+        })
     }
 
     /// The mean age of what is pending, exactly: of the time since each request was noted or last retried. A clock before the
@@ -260,18 +194,6 @@ impl RequestKeeper {
         numbered(answer.number)?;
         Ok(Pairs::read(written(&self.commands, answer.length)))
     }
-}
-
-/// What a forecast has come to.
-fn foretold(forecast: boundary::Forecast) -> Result<Forecast, Refusal> {
-    numbered(forecast.number)?;
-    Ok(Forecast {
-        outcome: Outcome::of(forecast.outcome),
-        pending: forecast.pending,
-        evicted: forecast.evicted,
-        commands: forecast.commands,
-        command_bytes: forecast.length,
-    })
 }
 
 /// Writes the bytes of a peer list.

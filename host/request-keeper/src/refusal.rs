@@ -3,8 +3,7 @@ use std::fmt::{self, Display, Formatter};
 
 /// Why a call was turned back (document 01, "Where a step can be turned back", and document 02). Nothing has changed.
 ///
-/// The first that applies is given, in this order, but that 13 comes after 6; of the map's calls, whose only numbers are 12, 8
-/// and 9, in that one.
+/// The first that applies is given, in this order; of the map's calls, whose only numbers are 12, 8 and 9, in that one.
 /// What a shell does about each is on the page [`shell`](crate::shell), "Refusals".
 #[derive(Debug, Clone, Copy, PartialEq, Eq, Hash)]
 #[non_exhaustive]
@@ -19,7 +18,7 @@ pub enum Refusal {
     ClockWentBack,
     /// 5: the step is not one of this mode, or a send failure does not follow an entry that sent.
     WrongStep,
-    /// 6: over 1,024 ids or stored pairs, in pooled lists together, or over 400 continuation ids.
+    /// 6: over 1,024 ids or stored pairs, or over 400 continuation ids.
     Lists,
     /// 7: over 128 peers.
     Peers,
@@ -35,8 +34,6 @@ pub enum Refusal {
     /// 12: of a [`WindowMap`](crate::WindowMap), a height outside its window, a place that the height lacks, a slide
     /// downwards, or bytes to restore from that are no map. Tested before 8 and 9.
     Map,
-    /// 13: over 16 pooled lists. Tested after 6.
-    TooManyLists,
     /// A number that this crate does not know: the library linked is not of its version.
     Unknown(u32),
 }
@@ -58,7 +55,6 @@ impl Refusal {
             10 => Self::TooManyTracked,
             11 => Self::TooManyStalled,
             12 => Self::Map,
-            13 => Self::TooManyLists,
             other => Self::Unknown(other),
         })
     }
@@ -78,7 +74,6 @@ impl Refusal {
             Self::TooManyTracked => 10,
             Self::TooManyStalled => 11,
             Self::Map => 12,
-            Self::TooManyLists => 13,
             Self::Unknown(number) => number,
         }
     }
@@ -97,10 +92,7 @@ impl Refusal {
                 "step unknown or not of this mode, a flag not 0 or 1, or a send failure after anything but an entry \
                  that sent"
             }
-            Self::Lists => {
-                "id or stored list of bad length, order or size; of a pool, a bad entry length or counts that don't add up \
-                 to the ids"
-            }
+            Self::Lists => "id or stored list of bad length, order or size",
             Self::Peers => "peer list of bad length or size",
             Self::View => "malformed row or length",
             Self::HeightOutsideView => {
@@ -112,7 +104,6 @@ impl Refusal {
                 "map of another length or malformed, a height outside its window, a place that the height lacks, or \
                  a slide downwards"
             }
-            Self::TooManyLists => "more than 16 lists",
             Self::Unknown(_) => "a number that is not the documents'",
         }
     }
@@ -141,13 +132,12 @@ mod tests {
     #[test]
     fn each_number_has_its_refusal() {
         assert_eq!(Refusal::of(0), None);
-        for number in 1..=14 {
+        for number in 1..=13 {
             let refusal = Refusal::of(number);
             assert_eq!(refusal.map(Refusal::number), Some(number));
             let known = !matches!(refusal, Some(Refusal::Unknown(_)));
-            assert_eq!(known, number <= 13);
+            assert_eq!(known, number <= 12);
         }
         assert_eq!(numbered(12), Err(Refusal::Map));
-        assert_eq!(numbered(13), Err(Refusal::TooManyLists));
     }
 }

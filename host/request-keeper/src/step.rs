@@ -2,8 +2,7 @@ use crate::boundary::Arguments;
 use crate::{Id, ModifierType, Peer};
 
 /// One wake of the node: what happened. What stands beside a step says what it reads of its [`Surroundings`]; the clock
-/// is read by all. Announcements of several peers within one wake are a step of their own:
-/// [`RequestKeeper::pooled`](crate::RequestKeeper::pooled).
+/// is read by all.
 ///
 /// [`Surroundings`]: crate::Surroundings
 #[derive(Clone, Copy, PartialEq, Eq)]

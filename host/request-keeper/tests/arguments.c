@@ -120,26 +120,14 @@ struct call {
     struct list ids, continuation, stored, peers, view;
 };
 
-static void print_forecast(struct request_keeper_foretold f) {
-    printf("forecast [%" PRIu32 ", %" PRIu32 ", %" PRIu32 ", %" PRIu32 ", %" PRIu32 ", %" PRIu32 "]\n",
-           f.number, f.outcome, f.pending, f.evicted, f.commands, f.length);
-    print_state();
-}
-
-static void print_answer(struct request_keeper_answer a) {
-    printf("[%" PRIu32 ", %" PRIu32 ", %" PRIu32 ", %" PRIu32 ", %" PRIu32 ", %" PRIu32 ", %" PRIu32 ", %" PRIu32
-           ", %" PRIu32 "]\n",
-           a.number, a.outcome, a.retried, a.fresh, a.abandoned, a.forgotten, a.pending, a.evicted, a.length);
-    hex(a.length);
-    print_state();
-}
-
 static void forecast(struct call c) {
     struct request_keeper_foretold f = request_keeper_forecast(
         state, sizeof state, c.kind, BASE + c.after, c.gate, c.height, c.peer, c.type, c.fork, c.parsed, c.hastip, c.tip,
         c.ids.bytes, c.ids.length, c.continuation.bytes, c.continuation.length, c.stored.bytes, c.stored.length,
         c.peers.bytes, c.peers.length, c.view.bytes, c.view.length);
-    print_forecast(f);
+    printf("forecast [%" PRIu32 ", %" PRIu32 ", %" PRIu32 ", %" PRIu32 ", %" PRIu32 ", %" PRIu32 "]\n",
+           f.number, f.outcome, f.pending, f.evicted, f.commands, f.length);
+    print_state();
 }
 
 static void mean_age(uint64_t after) {
@@ -155,39 +143,11 @@ static void step(struct call c) {
         state, sizeof state, commands, sizeof commands, c.kind, BASE + c.after, c.gate, c.height, c.peer, c.type, c.fork,
         c.parsed, c.hastip, c.tip, c.ids.bytes, c.ids.length, c.continuation.bytes, c.continuation.length,
         c.stored.bytes, c.stored.length, c.peers.bytes, c.peers.length, c.view.bytes, c.view.length);
-    print_answer(a);
-}
-
-struct pooled {
-    uint64_t after;
-    uint8_t gate;
-    uint16_t type;
-    struct list ids, pool, stored;
-};
-
-/* A list of so many ids more. */
-static void add_entry(struct list *pool, uint64_t peer, uint8_t count) {
-    for (int shift = 56; shift >= 0; shift -= 8) {
-        add(pool, (uint8_t)(peer >> shift), 1);
-    }
-    add(pool, 0, 3);
-    add(pool, count, 1);
-}
-
-static void pooled_forecast(struct pooled p) {
-    struct request_keeper_foretold f = request_keeper_pooled_forecast(
-        state, sizeof state, BASE + p.after, p.gate, p.type, p.ids.bytes, p.ids.length, p.pool.bytes, p.pool.length,
-        p.stored.bytes, p.stored.length);
-    print_forecast(f);
-}
-
-static void pooled(struct pooled p) {
-    mean_age(p.after);
-    pooled_forecast(p);
-    struct request_keeper_answer a = request_keeper_pooled(
-        state, sizeof state, commands, sizeof commands, BASE + p.after, p.gate, p.type, p.ids.bytes, p.ids.length,
-        p.pool.bytes, p.pool.length, p.stored.bytes, p.stored.length);
-    print_answer(a);
+    printf("[%" PRIu32 ", %" PRIu32 ", %" PRIu32 ", %" PRIu32 ", %" PRIu32 ", %" PRIu32 ", %" PRIu32 ", %" PRIu32
+           ", %" PRIu32 "]\n",
+           a.number, a.outcome, a.retried, a.fresh, a.abandoned, a.forgotten, a.pending, a.evicted, a.length);
+    hex(a.length);
+    print_state();
 }
 
 static void question(uint8_t flag) {
@@ -276,37 +236,6 @@ static void checks(void) {
     call.stored = pair(101, 0xe5);
     call.peers = peers(EIGHT, 0);
     step(call);
-}
-
-static void lists(void) {
-    struct call call = at(REQUEST_KEEPER_EVICTED, 22100);
-    call.ids = ids(0xd1, 3);
-    step(call);
-    struct pooled p = {.after = 22200, .gate = 0, .type = 108, .ids = ids(0x31, 3), .stored = pair(108, 0x32)};
-    add(&p.ids, 0x33, 32);
-    add(&p.ids, 0x34, 32);
-    add(&p.ids, 0x34, 32);
-    add(&p.ids, 0x31, 32);
-    p.pool.length = 0;
-    add_entry(&p.pool, SENDER, 3);
-    add_entry(&p.pool, SEVEN, 2);
-    add_entry(&p.pool, EIGHT, 2);
-    pooled(p);
-    p.after = 22300;
-    p.gate = 1;
-    p.type = 0x6c66;
-    pooled(p);
-    p.after = 22400;
-    p.type = 108;
-    pooled(p);
-    p.ids.length = 0;
-    p.pool.length = 0;
-    for (int list = 0; list <= REQUEST_KEEPER_POOL_LISTS; list++) {
-        add_entry(&p.pool, SENDER, 0);
-    }
-    pooled(p);
-    p.after = 22399;
-    pooled(p);
 }
 
 static void reorg(void) {
@@ -457,7 +386,6 @@ int main(void) {
     entry();
     messages();
     checks();
-    lists();
     reorg();
     ends();
     memset(map, 0xa5, sizeof map);

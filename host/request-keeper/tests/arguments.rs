@@ -5,8 +5,8 @@
 mod scenario;
 
 use request_keeper::{
-    Answer, Id, MeanAge, Mode, ModifierType, Outcome, PeerIds, Pooled, Question, Refusal, Step,
-    Surroundings, SyncInfo,
+    Answer, Id, MeanAge, Mode, ModifierType, Outcome, Question, Refusal, Step, Surroundings,
+    SyncInfo,
 };
 use scenario::{at, command, id, ids, row, view, Scenario};
 use scenario::{BASE, BLOCK, EIGHT, EXTENSION, HEADER, NEEDED, SECTION, SENDER, SEVEN};
@@ -142,66 +142,6 @@ fn checks(scenario: &mut Scenario) {
     assert_eq!(scenario.writes(Step::Check, now, &sends), expected);
 }
 
-/// Pooled announcements: gate, type, ids, pool, stored pairs, and the clock in a record. Every number but the outcome differs.
-fn pooled(scenario: &mut Scenario) {
-    let evicted = ids::<3>(0xd1);
-    scenario.writes(Step::Evicted { ids: &evicted }, at(22_100), &[]);
-    let (first, second, third) = (ids::<3>(0x31), ids::<2>(0x33), [id(0x34), id(0x31)]);
-    let list = |from, ids| PeerIds { from, ids };
-    let lists = [
-        list(SENDER, &first),
-        list(SEVEN, &second),
-        list(EIGHT, &third),
-    ];
-    let extensions = Pooled {
-        modifier_type: EXTENSION,
-        lists: &lists,
-    };
-    let stored = [(EXTENSION, id(0x32))].into_iter().collect();
-    let now = |after| Surroundings {
-        stored: &stored,
-        ..at(after)
-    };
-    let shut = Surroundings {
-        gate_open: false,
-        ..now(22_200)
-    };
-    let nothing = |scenario: &mut Scenario, pooled, now| {
-        let (answer, commands) = scenario.pooled(pooled, now).expect("it is finished");
-        assert_eq!((answer.pending, commands), (8, vec![]));
-    };
-    nothing(scenario, extensions, shut);
-    // Either byte of it is that of a known type.
-    let sections = Pooled {
-        modifier_type: SECTION,
-        ..extensions
-    };
-    nothing(scenario, sections, now(22_300));
-    let (answer, commands) = scenario
-        .pooled(extensions, now(22_400))
-        .expect("it is finished");
-    let expected = [
-        command(1, 108, 0, SENDER, &[id(0x31), id(0x33)]),
-        command(1, 108, 1, SEVEN, &[id(0x34)]),
-    ];
-    assert_eq!(commands, expected.concat());
-    assert_eq!((answer.pending, answer.evicted), (11, 3));
-    // The first record of all.
-    let record = [(2_592, 8), (2_600, 2), (2_602, 8)];
-    assert_eq!(
-        record.map(|(at, width)| scenario.field(at, width)),
-        [SENDER.0, 108, BASE + 22_400]
-    );
-    let many = Pooled {
-        lists: &[list(SENDER, &[]); 17],
-        ..extensions
-    };
-    let refused = scenario.pooled(many, now(22_400));
-    assert_eq!(refused, Err(Refusal::TooManyLists));
-    let refused = scenario.pooled(many, now(22_399));
-    assert_eq!(refused, Err(Refusal::ClockWentBack));
-}
-
 /// A reorg and what comes after: fork point, chain height, view, peers; received and needed ids; the peer that is lost.
 fn reorg(scenario: &mut Scenario) {
     let rows = view(4, &[row(EXTENSION, 0x44, true), row(SECTION, 0x55, false)]);
@@ -276,7 +216,6 @@ fn played() -> Scenario {
     announced(&mut scenario);
     sync_infos(&mut scenario);
     checks(&mut scenario);
-    pooled(&mut scenario);
     reorg(&mut scenario);
     ends(&mut scenario);
     scenario::map::play(&mut scenario.transcript);

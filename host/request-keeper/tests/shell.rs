@@ -2,8 +2,8 @@
 //! bytes that are no image.
 
 use request_keeper::{
-    Command, Id, Message, Mode, ModifierType, Outcome, Peer, PeerIds, Pooled, Refusal,
-    RequestKeeper, Section, Sends, Settings, Step, StoredPairs, Surroundings, View, STATE_BYTES,
+    Command, Id, Message, Mode, ModifierType, Outcome, Peer, Refusal, RequestKeeper, Section,
+    Sends, Settings, Step, StoredPairs, Surroundings, View, STATE_BYTES,
 };
 
 const PEERS: &[Peer] = &[Peer(4), Peer(5)];
@@ -164,78 +164,6 @@ fn lists_of_any_size_are_handed_on() {
         assert_eq!(keeper.step(step, &surroundings).err(), Some(refusal));
         assert!(keeper.as_bytes() == before);
     }
-}
-
-fn pooled<'a>(lists: &'a [PeerIds<'a>]) -> Pooled<'a> {
-    Pooled {
-        modifier_type: ModifierType::HEADER,
-        lists,
-    }
-}
-
-/// Pooled lists too: so many in all, and so many lists.
-#[test]
-fn pooled_lists_of_any_size_are_handed_on() {
-    let ids = many(1_025);
-    let list = |from, ids| PeerIds {
-        from: Peer(from),
-        ids,
-    };
-    let parts = |at, end| vec![list(6, &ids[..at]), list(7, &ids[at..end])];
-    let within = parts(512, 1_024);
-    let now = now(2_000);
-    let mut keeper = syncing();
-    let before = keeper.as_bytes().to_vec();
-    for (lists, refusal) in [
-        (vec![list(6, &ids)], Refusal::Lists),
-        (parts(1, 1_025), Refusal::Lists),
-        (parts(1_024, 1_025), Refusal::Lists),
-        (vec![list(6, &ids); 17], Refusal::Lists),
-        (vec![list(6, &[]); 17], Refusal::TooManyLists),
-        (vec![list(6, &ids[..60]); 17], Refusal::TooManyLists),
-    ] {
-        assert_eq!(keeper.pooled_forecast(pooled(&lists), &now), Err(refusal));
-        assert_eq!(keeper.pooled(pooled(&lists), &now).err(), Some(refusal));
-        assert!(keeper.as_bytes() == before);
-    }
-    let finished = keeper.pooled(pooled(&within), &now).expect("finished");
-    assert_eq!(finished.answer.pending, 1_024);
-}
-
-/// Of pooled lists each is a batch of its own, also where two share a peer: a failed send drops the rest of one.
-#[test]
-fn a_failed_send_drops_the_rest_of_a_pooled_list() {
-    let ids = many(900);
-    let list = |from, ids| PeerIds {
-        from: Peer(from),
-        ids,
-    };
-    let lists = [
-        list(6, &ids[..850]),
-        list(7, &ids[..9]),
-        list(6, &ids[849..]),
-    ];
-    let mut keeper = syncing();
-    let finished = keeper.pooled(pooled(&lists), &now(1_000));
-    let finished = finished.expect("finished");
-    let mut tried = Vec::new();
-    let sends = finished.send(|command| {
-        if let Message::Request { ids, .. } = command.message {
-            tried.push((command.batch, command.to, ids.len()));
-        }
-        match tried.len() {
-            1 => Err("full queue"),
-            _ => Ok(()),
-        }
-    });
-    assert_eq!(tried, [(0, Peer(6), 400), (1, Peer(6), 50)]);
-    let expected = Sends {
-        sent: 1,
-        failed: 1,
-        dropped: 2,
-        entry_failed: false,
-    };
-    assert_eq!(sends, expected);
 }
 
 #[test]

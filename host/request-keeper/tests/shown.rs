@@ -2,8 +2,8 @@
 
 use request_keeper::{
     Answer, Command, Forecast, Hex, Id, MeanAge, Message, Mode, ModifierType, Outcome, Peer,
-    PeerIds, PendingRequest, Pooled, Question, Refusal, RequestKeeper, Section, Sends, Settings,
-    Step, StoredPairs, Surroundings, SyncInfo, View, WindowMap,
+    PendingRequest, Question, Refusal, RequestKeeper, Section, Sends, Settings, Step, StoredPairs,
+    Surroundings, SyncInfo, View, WindowMap,
 };
 use std::fmt::Debug;
 
@@ -28,16 +28,6 @@ const ANNOUNCED: Step<'static> = Step::Announced {
     from: Peer(9),
     modifier_type: EXTENSION,
     ids: &[ID, ID],
-};
-
-const LIST: PeerIds<'static> = PeerIds {
-    from: Peer(9),
-    ids: &[ID, ID],
-};
-
-const POOLED: Pooled<'static> = Pooled {
-    modifier_type: EXTENSION,
-    lists: &[LIST, LIST],
 };
 
 const SYNC_INFO: Step<'static> = Step::SyncInfo {
@@ -92,8 +82,6 @@ fn ids_are_hexadecimal() {
     check(1, &stored().iter());
     check(1, &view());
     check(2, &ANNOUNCED);
-    check(2, &LIST);
-    check(4, &POOLED);
     check(1, &SYNC_INFO);
     check(1, &Step::Received { ids: &[ID] });
     check(1, &Step::Evicted { ids: &[ID] });
@@ -196,18 +184,6 @@ fn in_a_few_words() {
             "peer 9 announces extension, 2 ids".to_string(),
         ),
         (
-            POOLED.to_string(),
-            "2 lists of extension, 4 ids".to_string(),
-        ),
-        (
-            Pooled {
-                lists: &[PeerIds { ids: &[ID], ..LIST }],
-                ..POOLED
-            }
-            .to_string(),
-            "1 list of extension, 1 id".to_string(),
-        ),
-        (
             SYNC_INFO.to_string(),
             "sync info of peer 9: tip 7, continued by 1 id".to_string(),
         ),
@@ -253,10 +229,6 @@ fn in_a_few_words() {
         (
             Refusal::TooManyStalled.to_string(),
             "refused as 11: a 257th stalled peer".to_string(),
-        ),
-        (
-            Refusal::TooManyLists.to_string(),
-            "refused as 13: more than 16 lists".to_string(),
         ),
     ];
     for (value, words) in shown {

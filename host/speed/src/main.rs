@@ -18,7 +18,6 @@ mod ids;
 mod map;
 mod mean_age;
 mod measure;
-mod pooled;
 mod repeat;
 mod table;
 mod times;
@@ -65,7 +64,6 @@ fn show_all(areas: &mut Areas) -> Vec<String> {
     over.extend(map::show(areas));
     over.extend(forecast::show(areas));
     over.extend(mean_age::show(areas));
-    over.extend(pooled::show(areas));
     over.extend(growth::show(areas));
     over.extend(hostile::show(areas));
     over

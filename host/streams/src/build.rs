@@ -2,7 +2,7 @@
 
 use crate::{Opening, Script};
 use keeper_values::numbers::kinds;
-use keeper_values::{Call, Id, Mode, PeerIds, Place, Request, Row, Settings, State, TypeId, View};
+use keeper_values::{Call, Id, Mode, Place, Request, Row, Settings, State, TypeId, View};
 use std::collections::BTreeMap;
 
 /// Document 01's cases: timeout 10,000, limit 2, no throttle, stall 60,000.
@@ -31,11 +31,6 @@ pub fn place(type_id: TypeId, number: u16, stored: bool) -> Place {
         id: id(number),
         stored,
     }
-}
-
-/// A list of ids, and the peer that announces it.
-pub fn of_peer(peer: u64, ids: Vec<Id>) -> PeerIds {
-    PeerIds { peer, ids }
 }
 
 /// Rows of one missing section each, block transactions numbered by height.
@@ -147,14 +142,6 @@ impl Build {
             c.peer = peer;
             c.type_id = type_id;
             c.ids = ids;
-        })
-    }
-
-    /// Lists of a type, each of a peer, announced within one wake.
-    pub fn pooled(self, type_id: TypeId, lists: Vec<PeerIds>) -> Self {
-        self.call(kinds::POOLED, |c| {
-            c.type_id = type_id;
-            c.lists = lists;
         })
     }
 

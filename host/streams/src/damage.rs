@@ -1,26 +1,24 @@
 //! Damaged copies of good calls: areas of wrong lengths, images with a broken field, lists and views that are too long,
 //! too short, out of order. A keeper has to answer each with a number, and nothing may change.
 
-mod pooled;
-
 use crate::rng::Rng;
 use keeper_values::numbers::widths::{ID, PAIR, PEER, PLACE, RECORD, ROW};
-use keeper_values::{Arguments, StepCall, COMMAND_BYTES, STATE_BYTES};
+use keeper_values::{Arguments, COMMAND_BYTES, STATE_BYTES};
 
 /// A call on areas of any length, on an image with some bytes overwritten.
 #[derive(Debug, Clone, PartialEq, Eq)]
-pub struct Damaged<C = StepCall> {
-    pub arguments: C,
+pub struct Damaged {
+    pub arguments: Arguments,
     pub state_length: usize,
     pub commands_length: usize,
     /// Bytes written over the image.
     pub poke: Option<(usize, Vec<u8>)>,
 }
 
-impl<C> Damaged<C> {
-    pub fn none(arguments: C) -> Self {
+impl Damaged {
+    pub fn none(arguments: &Arguments) -> Self {
         Self {
-            arguments,
+            arguments: arguments.clone(),
             state_length: STATE_BYTES,
             commands_length: COMMAND_BYTES,
             poke: None,
@@ -36,21 +34,11 @@ impl<C> Damaged<C> {
         state.resize(self.state_length, 0);
         state
     }
-
-    /// The same damage with other arguments.
-    pub fn with<D>(self, arguments: impl FnOnce(C) -> D) -> Damaged<D> {
-        Damaged {
-            arguments: arguments(self.arguments),
-            state_length: self.state_length,
-            commands_length: self.commands_length,
-            poke: self.poke,
-        }
-    }
 }
 
 /// Damages one thing, or now and then two.
-pub fn damage(rng: &mut Rng, image: &[u8], good: &StepCall) -> Damaged {
-    let mut damaged = Damaged::none(good.clone());
+pub fn damage(rng: &mut Rng, image: &[u8], good: &Arguments) -> Damaged {
+    let mut damaged = Damaged::none(good);
     let times = if rng.once_in(4) { 2 } else { 1 };
     for _ in 0..times {
         fault(rng, image, &mut damaged);
@@ -59,8 +47,8 @@ pub fn damage(rng: &mut Rng, image: &[u8], good: &StepCall) -> Damaged {
 }
 
 /// Damages several things, so that the order of refusals shows.
-pub fn several(rng: &mut Rng, image: &[u8], good: &StepCall) -> Damaged {
-    let mut damaged = Damaged::none(good.clone());
+pub fn several(rng: &mut Rng, image: &[u8], good: &Arguments) -> Damaged {
+    let mut damaged = Damaged::none(good);
     for _ in 0..rng.range(2, 6) {
         fault(rng, image, &mut damaged);
     }
@@ -71,20 +59,11 @@ fn fault(rng: &mut Rng, image: &[u8], damaged: &mut Damaged) {
     match rng.below(10) {
         0 => lengths(rng, damaged),
         1..=4 => damaged.poke = Some(poke(rng, image)),
-        part => match &mut damaged.arguments {
-            StepCall::Step(arguments) => call(rng, part, arguments),
-            StepCall::Pooled(pooled) => pooled::call(rng, part, pooled),
-        },
-    }
-}
-
-fn call(rng: &mut Rng, part: u64, arguments: &mut Arguments) {
-    match part {
-        5 => numbers(rng, arguments),
-        6 => ids(rng, arguments),
-        7 => stored(rng, &mut arguments.stored),
-        8 => peers(rng, &mut arguments.peers),
-        _ => view(rng, &mut arguments.view),
+        5 => numbers(rng, &mut damaged.arguments),
+        6 => ids(rng, &mut damaged.arguments),
+        7 => stored(rng, &mut damaged.arguments.stored),
+        8 => peers(rng, &mut damaged.arguments.peers),
+        _ => view(rng, &mut damaged.arguments.view),
     }
 }
 
@@ -173,7 +152,7 @@ fn count(rng: &mut Rng, now: usize, edges: &[usize]) -> Vec<u8> {
 fn numbers(rng: &mut Rng, call: &mut Arguments) {
     match rng.below(6) {
         0 => call.kind = rng.draw() as u8,
-        1 => call.kind = rng.below(19) as u8,
+        1 => call.kind = rng.below(18) as u8,
         2 => call.clock = call.clock.saturating_sub(rng.below(1 << 20)),
         3 => call.gate = rng.draw() as u8,
         4 => call.parsed = rng.draw() as u8,

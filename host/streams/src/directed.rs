@@ -9,7 +9,6 @@ mod heights;
 mod limits;
 mod messages;
 mod peers;
-mod pooled;
 mod runs;
 mod shapes;
 mod types;
@@ -30,6 +29,5 @@ pub fn scripts() -> Vec<Script> {
     scripts.extend(limits::scripts());
     scripts.extend(shapes::scripts());
     scripts.extend(types::scripts());
-    scripts.extend(pooled::scripts());
     scripts
 }

@@ -1,6 +1,6 @@
 //! All short streams over a small alphabet: one id or two, two peers, heights 0 to 2, clocks that stand or pass a limit.
 
-use crate::build::{id, of_peer, place, Build};
+use crate::build::{id, place, Build};
 use crate::Script;
 use keeper_values::numbers::kinds;
 use keeper_values::{Call, Row, Settings, View};
@@ -88,13 +88,6 @@ pub fn alphabet() -> Vec<Call> {
         letter(kinds::SECTION_TICK, 0, complete),
         letter(kinds::SEND_FAILURE, 0, |_| {}),
         letter(kinds::END_OF_STREAM, 0, |_| {}),
-        letter(kinds::POOLED, 1, |c| {
-            c.type_id = 102;
-            c.lists = vec![
-                of_peer(5, vec![id(1), id(1)]),
-                of_peer(4, vec![id(2), id(1)]),
-            ];
-        }),
     ]
 }
 

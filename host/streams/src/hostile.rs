@@ -2,13 +2,12 @@
 
 mod areas;
 mod calls;
-mod pooled;
 
 use crate::build::{id, ids, place, syncing, CASES};
 use crate::damage::Damaged;
 use crate::text::Line;
 use keeper_values::numbers::kinds;
-use keeper_values::{Arguments, Call, Mode, Pooled, Request, Row, State, View};
+use keeper_values::{Call, Mode, Request, Row, State, View};
 
 /// A call on a state put in, and its number.
 #[derive(Debug, Clone)]
@@ -31,10 +30,10 @@ impl Hostile {
             lines.extend(modifiers.clone());
             lines.push(Line::Ask(1));
             lines.extend(modifiers.clone());
-            lines.push(Line::Age(self.damaged.arguments.clock()));
+            lines.push(Line::Age(self.damaged.arguments.clock));
         }
         lines.extend(modifiers);
-        lines.push(Line::step(self.damaged.arguments.clone()));
+        lines.push(Line::Step(Box::new(self.damaged.arguments.clone()), vec![]));
         lines
     }
 }
@@ -90,38 +89,16 @@ fn good() -> Call {
 struct Cases(Vec<Hostile>);
 
 impl Cases {
-    fn push(&mut self, name: &str, number: u32, state: State, damaged: Damaged) {
+    fn add(&mut self, name: &str, number: u32, change: impl FnOnce(&mut State, &mut Damaged)) {
+        let mut state = held();
+        let mut damaged = Damaged::none(&good().to_arguments());
+        change(&mut state, &mut damaged);
         self.0.push(Hostile {
             name: format!("hostile: {name}"),
             state,
             damaged,
             number,
         });
-    }
-
-    fn add(
-        &mut self,
-        name: &str,
-        number: u32,
-        change: impl FnOnce(&mut State, &mut Damaged<Arguments>),
-    ) {
-        let mut state = held();
-        let mut damaged = Damaged::none(good().to_arguments());
-        change(&mut state, &mut damaged);
-        self.push(name, number, state, damaged.with(Arguments::into));
-    }
-
-    /// A pooled call of two lists.
-    fn pooled(
-        &mut self,
-        name: &str,
-        number: u32,
-        change: impl FnOnce(&mut State, &mut Damaged<Pooled>),
-    ) {
-        let mut state = held();
-        let mut damaged = Damaged::none(pooled::good());
-        change(&mut state, &mut damaged);
-        self.push(name, number, state, damaged.with(Pooled::into));
     }
 
     fn poke(&mut self, name: &str, number: u32, offset: usize, bytes: &[u8]) {
@@ -156,9 +133,5 @@ pub fn cases() -> Vec<Hostile> {
     calls::lists(&mut cases);
     calls::views(&mut cases);
     calls::results(&mut cases);
-    pooled::areas(&mut cases);
-    pooled::calls(&mut cases);
-    pooled::lists(&mut cases);
-    pooled::orders(&mut cases);
     cases.0
 }

@@ -8,7 +8,6 @@ pub mod exhaustive;
 pub mod hostile;
 pub mod maps;
 pub mod noise;
-mod pooling;
 pub mod random;
 pub mod rng;
 pub mod shapes;

@@ -2,8 +2,8 @@
 
 use crate::damage::Damaged;
 use crate::rng::Rng;
-use keeper_values::numbers::{limits, widths};
-use keeper_values::{pool_entry, Arguments, Pooled, Settings, StepCall, STATE_BYTES};
+use keeper_values::numbers::widths;
+use keeper_values::{Arguments, Settings, STATE_BYTES};
 
 pub fn bytes(rng: &mut Rng, length: usize) -> Vec<u8> {
     let words = length.div_ceil(8);
@@ -46,37 +46,20 @@ fn image(rng: &mut Rng, image: &[u8]) -> (usize, Vec<u8>) {
     }
 }
 
-/// A good call in which some parts, or all of them, are noise. Now and then a step is made a pooled one.
-pub fn noise(rng: &mut Rng, good_image: &[u8], good: &StepCall) -> Damaged {
-    let poke = rng.once_in(4).then(|| image(rng, good_image));
-    let arguments = match good {
-        StepCall::Step(call) if rng.once_in(8) => {
-            let pooled = Pooled {
-                clock: call.clock,
-                gate: call.gate,
-                type_id: call.type_id,
-                stored: call.stored.clone(),
-                ..Pooled::default()
-            };
-            noisy_pooled(rng, pooled).into()
-        }
-        StepCall::Step(call) => noisy(rng, call.clone()).into(),
-        StepCall::Pooled(pooled) => noisy_pooled(rng, pooled.clone()).into(),
-    };
-    Damaged {
-        poke,
-        ..Damaged::none(arguments)
+/// A good call in which some parts, or all of them, are noise.
+pub fn noise(rng: &mut Rng, good_image: &[u8], good: &Arguments) -> Damaged {
+    let mut damaged = Damaged::none(good);
+    if rng.once_in(4) {
+        damaged.poke = Some(image(rng, good_image));
     }
-}
-
-fn noisy(rng: &mut Rng, mut call: Arguments) -> Arguments {
+    let call = &mut damaged.arguments;
     let clock = call.clock;
     for part in 0..9 {
         if rng.once_in(2) {
             continue;
         }
         match part {
-            0 => call.kind = rng.below(19) as u8,
+            0 => call.kind = rng.below(18) as u8,
             1 => call.clock = clock.saturating_add(rng.draw() >> rng.below(64)),
             2 => call.height = number(rng),
             3 => (call.peer, call.type_id) = (rng.draw(), rng.draw() as u16),
@@ -93,50 +76,7 @@ fn noisy(rng: &mut Rng, mut call: Arguments) -> Arguments {
     if rng.once_in(8) {
         [call.gate, call.parsed, call.has_tip] = [(); 3].map(|()| rng.draw() as u8 % 4);
     }
-    call
-}
-
-/// Counts that cut so many ids into lists, now and then with a count more or less.
-fn counts(rng: &mut Rng, mut ids: u32) -> Vec<u32> {
-    let mut counts = Vec::new();
-    while ids > 0 && counts.len() < limits::LISTS {
-        let count = rng.below(u64::from(ids) + 1) as u32;
-        ids -= count;
-        counts.push(count);
-    }
-    match rng.below(8) {
-        0 => counts.push(ids + 1),
-        1 => {}
-        _ => counts.push(ids),
-    }
-    counts
-}
-
-fn noisy_pooled(rng: &mut Rng, mut pooled: Pooled) -> Pooled {
-    if rng.once_in(4) {
-        pooled.clock = pooled.clock.saturating_add(rng.draw() >> rng.below(64));
-    }
-    if rng.once_in(3) {
-        pooled.type_id = rng.draw() as u16;
-    }
-    if rng.once_in(8) {
-        pooled.gate = rng.draw() as u8 % 4;
-    }
-    if rng.once_in(2) {
-        pooled.ids = list(rng, widths::ID, limits::IDS);
-        let ids = (pooled.ids.len() / widths::ID) as u32;
-        let entries = counts(rng, ids).into_iter();
-        pooled.pool = entries
-            .flat_map(|count| pool_entry(rng.draw(), count))
-            .collect();
-    }
-    if rng.once_in(4) {
-        pooled.pool = list(rng, widths::POOL_ENTRY, limits::LISTS);
-    }
-    if rng.once_in(4) {
-        pooled.stored = list(rng, widths::PAIR, limits::STORED);
-    }
-    pooled
+    damaged
 }
 
 /// An opening of any numbers on an area of some length.

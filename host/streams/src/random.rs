@@ -1,6 +1,5 @@
 //! Random streams: the next call is drawn from a seed and from what the keeper holds.
 
-use crate::pooling::Pooling;
 use crate::rng::Rng;
 use crate::stalling::Stalling;
 use crate::world::World;
@@ -12,7 +11,6 @@ use std::collections::BTreeSet;
 pub struct Random {
     rng: Rng,
     stalling: Stalling,
-    pooling: Pooling,
     world: World,
     opening: Opening,
     /// Calls in this stream.
@@ -50,7 +48,6 @@ impl Random {
         Self {
             rng,
             stalling,
-            pooling: Pooling::new(seed),
             world,
             opening,
             length,
@@ -107,11 +104,9 @@ impl Random {
             stored: stored(rng, world),
             peers: world.listed.clone(),
             view: world.view(rng, first),
-            lists: Vec::new(),
             fails: fails(rng),
         };
         self.stalling.turn(world, state, &mut call);
-        self.pooling.turn(world, state, &mut call);
         call
     }
 }
@@ -119,13 +114,13 @@ impl Random {
 /// A kind of this mode, or now and then any number.
 fn kind(rng: &mut Rng, state: &State) -> u8 {
     if rng.once_in(60) {
-        return rng.below(19) as u8;
+        return rng.below(18) as u8;
     }
     match state.mode {
         Mode::New => kinds::START,
         Mode::Seeking if rng.once_in(30) => kinds::END_OF_STREAM,
         Mode::Seeking => kinds::PICK,
-        Mode::Ended => rng.below(19) as u8,
+        Mode::Ended => rng.below(18) as u8,
         Mode::Syncing if state.entry_mark && rng.once_in(8) => kinds::SEND_FAILURE,
         Mode::Syncing | Mode::Synced => match rng.below(24) {
             0 => kinds::NEEDED,

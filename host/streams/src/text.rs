@@ -2,8 +2,8 @@
 
 use crate::damage::Damaged;
 use keeper_values::numbers::widths;
-use keeper_values::{Answer, Arguments, Command, Id, MapCall, Mode, Pooled, Request, Settings};
-use keeper_values::{State, StepCall, COMMAND_BYTES, STATE_BYTES};
+use keeper_values::{Answer, Arguments, Command, Id, MapCall, Mode, Request, Settings, State};
+use keeper_values::{COMMAND_BYTES, STATE_BYTES};
 
 /// One line.
 #[derive(Debug, Clone, PartialEq, Eq)]
@@ -19,8 +19,7 @@ pub enum Line {
     Areas(usize, usize),
     /// Bytes over the state area, for the next call only.
     Poke(usize, Vec<u8>),
-    /// A step, and which of its sends fail; of a pooled one none is said to.
-    Step(Box<StepCall>, Vec<usize>),
+    Step(Box<Arguments>, Vec<usize>),
     Ask(u8),
     /// The mean age at this clock.
     Age(u64),
@@ -107,13 +106,8 @@ fn settings_words(settings: &Settings) -> String {
 }
 
 impl Line {
-    /// A step all of whose sends go out.
-    pub fn step(call: impl Into<StepCall>) -> Self {
-        Line::Step(Box::new(call.into()), Vec::new())
-    }
-
     /// The modifier lines that come before a damaged call.
-    pub fn modifiers<C>(damaged: &Damaged<C>) -> Vec<Self> {
+    pub fn modifiers(damaged: &Damaged) -> Vec<Self> {
         let mut lines = Vec::new();
         let lengths = (damaged.state_length, damaged.commands_length);
         if lengths != (STATE_BYTES, COMMAND_BYTES) {
@@ -147,10 +141,7 @@ impl Line {
             }
             Line::Areas(state, commands) => format!("areas {state} {commands}"),
             Line::Poke(offset, bytes) => format!("poke {offset} {}", hex(bytes)),
-            Line::Step(call, fails) => match call.as_ref() {
-                StepCall::Step(arguments) => write_step(arguments, fails),
-                StepCall::Pooled(pooled) => write_pooled(pooled),
-            },
+            Line::Step(call, fails) => write_step(call, fails),
             Line::Ask(flag) => format!("ask {flag}"),
             Line::Age(clock) => format!("age {clock}"),
             Line::Map(bytes) => format!("map {}", hex(bytes)),
@@ -198,7 +189,6 @@ impl Line {
             "areas" => Line::Areas(words.number()?, words.number()?),
             "poke" => Line::Poke(words.number()?, words.bytes()?),
             "step" => words.step()?,
-            "pooled" => words.pooled()?,
             "ask" => Line::Ask(words.number()?),
             "age" => Line::Age(words.number()?),
             "map" => Line::Map(words.bytes()?),
@@ -283,18 +273,6 @@ fn write_step(call: &Arguments, fails: &[usize]) -> String {
         call.tip,
         hex(&call.ids),
         hex(&call.continuation),
-    )
-}
-
-fn write_pooled(call: &Pooled) -> String {
-    format!(
-        "pooled {} {} {} {} {} {}",
-        call.clock,
-        call.gate,
-        call.type_id,
-        hex(&call.ids),
-        hex(&call.pool),
-        hex(&call.stored),
     )
 }
 
@@ -390,18 +368,7 @@ impl Words<'_> {
                 .map(|w| w.parse().ok())
                 .collect::<Option<_>>()?,
         };
-        Some(Line::Step(Box::new(call.into()), fails))
-    }
-
-    fn pooled(&mut self) -> Option<Line> {
-        Some(Line::step(Pooled {
-            clock: self.number()?,
-            gate: self.number()?,
-            type_id: self.number()?,
-            ids: self.bytes()?,
-            pool: self.bytes()?,
-            stored: self.bytes()?,
-        }))
+        Some(Line::Step(Box::new(call), fails))
     }
 
     fn command(&mut self) -> Option<Line> {
@@ -452,37 +419,6 @@ mod tests {
             view: Vec::new(),
         };
         written("slide 7 -", Line::MapCall(slide));
-    }
-
-    #[test]
-    fn pooled_lines() {
-        let pooled = Pooled {
-            clock: u64::MAX,
-            gate: 255,
-            type_id: 65_535,
-            ids: vec![1, 2],
-            pool: vec![0xab],
-            stored: Vec::new(),
-        };
-        let text = "pooled 18446744073709551615 255 65535 0102 ab -";
-        written(text, Line::step(pooled.clone()));
-        written("pooled 0 0 0 - - -", Line::step(Pooled::default()));
-        let stored = Pooled {
-            ids: Vec::new(),
-            stored: vec![9],
-            ..pooled
-        };
-        let text = "pooled 18446744073709551615 255 65535 - ab 09";
-        written(text, Line::step(stored));
-        for text in [
-            "pooled 0 0 0 - -",
-            "pooled 0 0 0 - - - -",
-            "pooled 0 256 0 - - -",
-            "pooled 0 0 65536 - - -",
-            "pooled 0 0 0 - - 0",
-        ] {
-            assert_eq!(Line::read(text), None, "{text}");
-        }
     }
 
     #[test]

@@ -1,4 +1,4 @@
-use crate::{MapCall, MeanAge, Pooled, Settings, StepCall, TypeId};
+use crate::{MapCall, MeanAge, Settings, TypeId};
 
 /// Length of the state area.
 pub const STATE_BYTES: usize = 65_536;
@@ -114,7 +114,7 @@ impl Forecast {
     }
 }
 
-/// The entries on areas of any length and content: seven of a core, and those of F-1's map. The reference, its faulty
+/// The entries on areas of any length and content: five of a core, and those of F-1's map. The reference, its faulty
 /// variants and any core that is to be held against them are keepers.
 pub trait Keeper {
     fn open(&self, state: &mut [u8], settings: Settings, clock: u64, height: u32) -> u32;
@@ -123,12 +123,6 @@ pub trait Keeper {
 
     /// What the step would show.
     fn forecast(&self, state: &[u8], arguments: &Arguments) -> Forecast;
-
-    /// The step of pooled announcements.
-    fn pooled(&self, state: &mut [u8], commands: &mut [u8], pooled: &Pooled) -> Answer;
-
-    /// What that step would show.
-    fn pooled_forecast(&self, state: &[u8], pooled: &Pooled) -> Forecast;
 
     /// The mean age of what is pending at a clock.
     fn mean_age(&self, state: &[u8], clock: u64) -> MeanAge;
@@ -141,20 +135,4 @@ pub trait Keeper {
 
     /// The number, and how many heights can be passed.
     fn map_passable(&self, map: &[u8]) -> (u32, u32);
-
-    /// A step by the entry that takes it.
-    fn step_call(&self, state: &mut [u8], commands: &mut [u8], call: &StepCall) -> Answer {
-        match call {
-            StepCall::Step(arguments) => self.step(state, commands, arguments),
-            StepCall::Pooled(pooled) => self.pooled(state, commands, pooled),
-        }
-    }
-
-    /// The forecast of such a step.
-    fn forecast_call(&self, state: &[u8], call: &StepCall) -> Forecast {
-        match call {
-            StepCall::Step(arguments) => self.forecast(state, arguments),
-            StepCall::Pooled(pooled) => self.pooled_forecast(state, pooled),
-        }
-    }
 }

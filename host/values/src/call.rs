@@ -1,5 +1,5 @@
-use crate::numbers::{kinds, widths};
-use crate::{Arguments, Id, PeerIds, Pooled, StepCall, TypeId};
+use crate::numbers::widths;
+use crate::{Arguments, Id, TypeId};
 use std::collections::BTreeSet;
 
 /// A section of a block, as a view row lists it.
@@ -77,25 +77,17 @@ pub struct Call {
     pub stored: BTreeSet<(TypeId, Id)>,
     pub peers: Vec<u64>,
     pub view: View,
-    /// Those of a pooled step, which reads of the others clock, gate, type and stored pairs only.
-    pub lists: Vec<PeerIds>,
-    /// Which of the sends that the shell tries in this step fail, counted from 0. The core never learns of them. None of a
-    /// pooled step: the Rust may need more requests for a list that has repeats.
+    /// Which of the sends that the shell tries in this step fail, counted from 0. The core never learns of them.
     pub fails: Vec<usize>,
 }
 
 impl Call {
-    fn stored_bytes(&self) -> Vec<u8> {
+    pub fn to_arguments(&self) -> Arguments {
         let mut stored = Vec::with_capacity(self.stored.len() * widths::PAIR);
         for (type_id, id) in &self.stored {
             stored.extend(type_id.to_be_bytes());
             stored.extend_from_slice(id);
         }
-        stored
-    }
-
-    /// As the entry takes it that has no lists.
-    pub fn to_arguments(&self) -> Arguments {
         Arguments {
             kind: self.kind,
             clock: self.clock,
@@ -109,29 +101,9 @@ impl Call {
             tip: self.tip,
             ids: self.ids.concat(),
             continuation: self.continuation.concat(),
-            stored: self.stored_bytes(),
+            stored,
             peers: self.peers.iter().flat_map(|p| p.to_be_bytes()).collect(),
             view: self.view.to_bytes(),
-        }
-    }
-
-    fn to_pooled(&self) -> Pooled {
-        let mut pooled = Pooled {
-            clock: self.clock,
-            gate: u8::from(self.gate),
-            type_id: self.type_id,
-            stored: self.stored_bytes(),
-            ..Pooled::default()
-        };
-        pooled.set_lists(&self.lists);
-        pooled
-    }
-
-    /// As the entry of its kind takes it.
-    pub fn to_step_call(&self) -> StepCall {
-        match self.kind {
-            kinds::POOLED => self.to_pooled().into(),
-            _ => self.to_arguments().into(),
         }
     }
 }

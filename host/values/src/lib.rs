@@ -7,7 +7,6 @@ mod command;
 mod map;
 mod mean_age;
 pub mod numbers;
-mod pooled;
 mod state;
 
 pub use arguments::{Answer, Arguments, Forecast, Keeper, COMMAND_BYTES, STATE_BYTES};
@@ -15,5 +14,4 @@ pub use call::{Call, Place, Row, View};
 pub use command::{read_commands, Command};
 pub use map::{MapCall, MAP_BYTES};
 pub use mean_age::MeanAge;
-pub use pooled::{pool_entries, pool_entry, PeerIds, Pooled, StepCall};
 pub use state::{Id, Mode, Request, Settings, State, TypeId};

@@ -24,8 +24,6 @@ pub mod widths {
     pub const ID: usize = 32;
     pub const PEER: usize = 8;
     pub const TYPE: usize = 2;
-    /// An entry of a pool: peer and count.
-    pub const POOL_ENTRY: usize = PEER + 4;
     /// A stored pair: type and id.
     pub const PAIR: usize = TYPE + ID;
     /// A place of a row: type, id, and whether it is stored.
@@ -56,15 +54,13 @@ pub mod kinds {
     pub const SECTION_TICK: u8 = 14;
     pub const SEND_FAILURE: u8 = 15;
     pub const END_OF_STREAM: u8 = 16;
-    /// Has entries of its own.
-    pub const POOLED: u8 = 17;
 
     /// The last number that is a step kind; 0 and what is above are not.
-    pub const LAST: u8 = POOLED;
+    pub const LAST: u8 = END_OF_STREAM;
 
     /// A word for each kind.
     pub fn name(kind: u8) -> &'static str {
-        const NAMES: [&str; 18] = [
+        const NAMES: [&str; 17] = [
             "unknown",
             "start",
             "pick",
@@ -82,7 +78,6 @@ pub mod kinds {
             "section tick",
             "send failure",
             "end of stream",
-            "pooled announcements",
         ];
         NAMES.get(usize::from(kind)).copied().unwrap_or(NAMES[0])
     }
@@ -105,7 +100,7 @@ pub mod commands {
     pub const SYNC_INFO: u8 = 3;
 }
 
-/// Limits of documents 01 and 02.
+/// Limits of document 01.
 pub mod limits {
     /// Pending and evicted together.
     pub const TRACKED: usize = 1024;
@@ -118,6 +113,4 @@ pub mod limits {
     pub const CONTINUATION: usize = 400;
     pub const STORED: usize = 1024;
     pub const PEERS: usize = 128;
-    /// Lists of a pooled step.
-    pub const LISTS: usize = 16;
 }

@@ -225,7 +225,7 @@ pub fn variants() -> Vec<Variant> {
             Rules {
                 arguments_fit: |rules, state, call| match entries::arguments_fit(rules, state, call)
                 {
-                    Err(Refusal(6)) if !inputs::peers_fit(&call.arguments.peers) => Err(Refusal(7)),
+                    Err(Refusal(6)) if !inputs::peers_fit(&call.peers) => Err(Refusal(7)),
                     other => other,
                 },
                 ..PLAIN
@@ -237,9 +237,7 @@ pub fn variants() -> Vec<Variant> {
             Rules {
                 arguments_fit: |rules, state, call| match entries::arguments_fit(rules, state, call)
                 {
-                    Err(Refusal(4)) if !steps::kind_fits(state.mode, call.arguments.kind) => {
-                        Err(Refusal(5))
-                    }
+                    Err(Refusal(4)) if !steps::kind_fits(state.mode, call.kind) => Err(Refusal(5)),
                     other => other,
                 },
                 ..PLAIN
@@ -251,7 +249,7 @@ pub fn variants() -> Vec<Variant> {
             Rules {
                 arguments_fit: |rules, state, call| match entries::arguments_fit(rules, state, call)
                 {
-                    Err(Refusal(6..=8)) if call.arguments.kind == kinds::OTHER_MESSAGE => Ok(()),
+                    Err(Refusal(6..=8)) if call.kind == kinds::OTHER_MESSAGE => Ok(()),
                     other => other,
                 },
                 ..PLAIN

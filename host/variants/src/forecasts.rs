@@ -1,10 +1,9 @@
 //! Faults in the forecast (F-3): figures that are not the step's.
 
 use crate::{variant, Variant, FORECAST};
-use keeper_reference::entries::Lent;
 use keeper_reference::{entries, forecast, image, Rules, PLAIN};
 use keeper_values::numbers::{commands, widths};
-use keeper_values::{read_commands, Forecast};
+use keeper_values::{read_commands, Arguments, Forecast};
 
 const HEADER: u32 = widths::HEADER as u32;
 
@@ -12,7 +11,7 @@ pub fn variants() -> Vec<Variant> {
     [counts(), lengths(), refusals()].concat()
 }
 
-fn fault(fault: &'static str, forecast: fn(&Rules, &[u8], &Lent) -> Forecast) -> Variant {
+fn fault(fault: &'static str, forecast: fn(&Rules, &[u8], &Arguments) -> Forecast) -> Variant {
     let rules = Rules { forecast, ..PLAIN };
     variant(FORECAST, fault, rules)
 }
@@ -28,7 +27,7 @@ fn before(rules: &Rules, state: &[u8]) -> [u32; 2] {
 fn finished(
     rules: &Rules,
     state: &[u8],
-    call: &Lent,
+    call: &Arguments,
     changed: fn(Forecast, [u32; 2]) -> Forecast,
 ) -> Forecast {
     match forecast::forecast(rules, state, call) {

@@ -12,7 +12,6 @@ mod losses;
 mod maps;
 mod mean_ages;
 mod messages;
-mod pooled;
 mod requests;
 mod results;
 mod runs;
@@ -22,7 +21,6 @@ mod types;
 mod versions;
 
 use keeper_reference::{Reference, Rules};
-pub use pooled::ON_BYTES as POOLED_ON_BYTES;
 pub use targets::{AS_IN_F2, AS_PUBLISHED};
 
 /// The place of the map's variants.
@@ -48,9 +46,6 @@ pub const MEAN_AGE: &str = "F-7";
 
 /// The place of those that choose a retry's target among stalled peers.
 pub const TARGETS: &str = "F-8";
-
-/// The place of those that take pooled announcements wrongly.
-pub const POOLED: &str = "F-9";
 
 /// A keeper with one fault.
 #[derive(Clone, Copy)]
@@ -92,7 +87,6 @@ pub fn all() -> Vec<Variant> {
         versions::variants(),
         mean_ages::variants(),
         targets::variants(),
-        pooled::variants(),
     ]
     .concat()
 }

@@ -4,7 +4,6 @@ use native.Mathlib.Nat.{mul-le-mul_right}
 use Prim.Native.Nat.{ℕ}
 use mathlib.Core.List.{List}
 use Rattle.mark_requested.proofs.ManyLaws.{Placed, still_sorted, too_many, few, copied_back}
-use Rattle.mark_requested.proofs.SortedLaws.{placed_ids, placed_listed}
 use Rattle.std.proofs.lemmas.Result.{err_from_is_err_and}
 use Rattle.model.specs.Layout.{record_size}
 use Rattle.mark_requested.proofs.mark_many.Goals.{After-sort_ids}
@@ -17,15 +16,12 @@ module _ (c : After-sort_ids) where
   places = c.sort_ids.new.places
 
   placed : let a = c.args in Placed a.asking.clock a.asking.typeid a.asking.peer a.most a.count a.ids.now places a.table.now
-  placed = record { order = placed_ids c.args.ids.now c.sort_ids.ensures; rises = c.requires.table_value }
-
-pub invariant_of-merge-clause-listed : goal.invariant_of-merge-clause-listed
-invariant_of-merge-clause-listed c = placed_listed c.args.ids.now c.sort_ids.ensures
+  placed = record { order = c.sort_ids.ensures.places_after; rises = c.requires.table_value }
 
 pub merge-requires-clause-in_order : goal.merge-requires-clause-in_order
 merge-requires-clause-in_order c =
     let sort = (goal.at.merge-requires-clause-in_order c).After-sort_ids in
-    still_sorted sort.args.ids.now (places sort) (placed sort).order
+    still_sorted sort.args.ids.now (places sort) sort.sort_ids.ensures.places_after
 
 pub overflow_mul-held : goal.overflow_mul-held
 overflow_mul-held c =
@@ -44,12 +40,11 @@ returns-in_err-held c =
     let sorted = (goal.at.returns-in_err-held c).After-sort_ids in
     let whole = too_many (placed sorted) c.in_err-held.was c.merge.ensures.value in
     let told = err_from_is_err_and c.from_residual.result c.from_residual.ensures.1 in
-    record { value = rw (told.1, told.2) whole.0; table_after = whole.1; places_after = sorted.sort_ids.ensures }
+    record { value = rw (told.1, told.2) whole.0; table_after = whole.1 }
 
 pub returns : goal.returns
 returns c =
     let sorted = (goal.at.returns c).After-sort_ids in
     let m = c.merge in
     let whole =
-    copied_back (placed sorted) c.in_ok-held.held c.in_ok-held.was m.ensures.value m.new.room m.ensures.room_after c.copy_prefix.ensures in
-    record { value = whole.0; table_after = whole.1; places_after = sorted.sort_ids.ensures }
+    copied_back (placed sorted) c.in_ok-held.held c.in_ok-held.was m.ensures.value m.new.room m.ensures.room_after c.copy_prefix.ensures in record { value = whole.0; table_after = whole.1 }

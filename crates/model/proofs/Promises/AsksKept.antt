@@ -14,21 +14,21 @@ use Rattle.model.specs.Settings as settings
 use Rattle.model.specs.Delivery.{Request}
 use Rattle.model.specs.State.{State, seeking, syncing, is_mode, with_known_tip, with_stalled_peers}
 use Rattle.model.specs.Peers.{first_of, select_peer}
-use Rattle.model.specs.Requests.{ask_pooled, Act, ask, wanted}
+use Rattle.model.specs.Requests.{Act, ask, wanted}
 use Rattle.model.specs.Sections.{View, request_sections_from, request_next_sections}
 use Rattle.model.specs.Events.{Outcome, Continue, Synced, BehindPeer, SyncPeerGone, Stalled, EndOfStream, outcome_number}
 use Rattle.model.specs.Events.{tip_outcome, raised_tip, continuation}
 use Rattle.model.specs.Steps
 use Rattle.model.specs.Steps.{Step, Args, is_check, unmarked, advance_from, say_to, sections_from, continues, leaves, advances, advances_and_requests}
-use Rattle.model.specs.Steps.{is_at_tip, answers, hears_sync_info, tells_tip, hears_announced, hears_pooled, ask_orphans, loses, progresses, evicts}
+use Rattle.model.specs.Steps.{is_at_tip, answers, hears_sync_info, tells_tip, hears_announced, ask_orphans, loses, progresses, evicts}
 use Rattle.model.specs.Steps.{plan_of, plan, remaining, commands}
-use Rattle.model.specs.Lists.{ids_in, peers_in, pairs_in, view_of, pool_in, lists_in}
+use Rattle.model.specs.Lists.{ids_in, peers_in, pairs_in, view_of}
 use Rattle.model.specs.Calls.{Call, step_of, args_of, step_answer}
 use Rattle.model.specs.Book.{requested_in}
 use Rattle.model.specs.Promises.Numbers as numbers
 use Rattle.model.specs.Promises.Outcomes.{NothingAhead, no_headers}
 use Rattle.model.specs.Promises.Asked.{AsksFor, Announceable, NextSections, in_reorg, on_progress, at_section_tick, on_entry, Orphans}
-use Rattle.model.specs.Promises.Asked.{MayAsk, announced, needed, sections, orphans, checks, pooled}
+use Rattle.model.specs.Promises.Asked.{MayAsk, announced, needed, sections, orphans, checks}
 use Rattle.model.proofs.RequestedLaws.{requested}
 use Rattle.model.proofs.Promises.SeenLaws as kinds
 use Rattle.model.proofs.Promises.SeenLaws.{seen_as, Finished, Kind, heard_tip, step_of_lem, kind_of_lem}
@@ -183,17 +183,6 @@ module _ (st : State) (call : Call) (f : Finished st call) where
         all_append Says (sections_from st a st.sync.downloaded).acts (cond st.sync.progress_used [] say)
         (sections_say st.sync.downloaded (on_progress k)) (either (All Says) st.sync.progress_used [] say tt (say_to_says st a st.sync.sync_peer))
 
-    pooled_says : call.kind ≡ numbers.pooled_ids → All Says (hears_pooled st a call.typeid (lists_in (pool_in call.pool) (ids_in call.ids))).acts
-    unfolding hears_pooled continues
-    pooled_says k = go (is_announceable call.typeid) refl
-      where
-        asks : List Act
-        asks = ask_pooled call.typeid a.stored (lists_in (pool_in call.pool) (ids_in call.ids))
-
-        go : (t : Bool) → is_announceable call.typeid ≡ t → All Says (cond t asks [])
-        go true e = absurd (barred (pooled k (passes_announceable call.typeid e)))
-        go false e = tt
-
     -- A step that may not ask only says something, and is no check.
     only_says : {step : Step} → Kind call step → (outcome_number (plan_of st a step).outcome ≡ 0 → (step_answer st (args_of call)).outcome ≡ 0)
         → (is_check step ≡ false) × All Says (plan_of st a step).acts
@@ -215,7 +204,6 @@ module _ (st : State) (call : Call) (f : Finished st call) where
     only_says (kinds.section_tick k) o = (refl, sections_say (advance_from st a st.sync.downloaded).height (at_section_tick k))
     only_says (kinds.send_failure k) o = (refl, tt)
     only_says (kinds.end_of_stream k) o = (refl, tt)
-    only_says (kinds.pooled_ids k) o = (refl, pooled_says k)
 
   pub others_ask_nothing : (MayAsk (seen_as st call) → ⊥) → requested_in (commands st (args_of call)) ≡ []
   unfolding args_of plan step_answer

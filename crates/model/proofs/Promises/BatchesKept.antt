@@ -336,12 +336,12 @@ module _ (st : State) (call : Call) (f : Finished st call) where
   sendings_send : All Sends sendings
   sendings_send = all_append Sends (retry_sendings (retried st a)) (performed st a).sendings (retries_send (retried st a)) performed_send
 
-  performed_next : (call.kind ≡ numbers.pooled_ids → ⊥) → Neighbours Apart (performed st a).sendings
+  performed_next : Neighbours Apart (performed st a).sendings
   unfolding performed plan args_of
-  performed_next n =
+  performed_next =
       pairwise_next Apart (performed st a).sendings
       (performed_apart a.gate a.clock (plan st a).acts (mark_all_retried (retried st a) (remaining st a a.step)) (acts_well_lem st call f)
-      (parts_differ (course_acts st call (told st call f).course) (ne_eqb call.kind numbers.pooled_ids n)))
+      (parts_differ (course_acts st call (told st call f).course)))
 
 -- ---- what is sent again, and what is asked for anew
 
@@ -372,9 +372,7 @@ uncut st call f =
       one_again =
           each_next OneBatch (commands_from 0 again)
           (commands_together 0 again (retries_next (retried st (args_of call))) (retries_send (retried st (args_of call))));
-      one_anew = λ n.
-          each_next OneBatch (commands_from behind anew)
-          (commands_together behind anew (performed_next st call f n) (performed_send st call f));
+      one_anew = each_next OneBatch (commands_from behind anew) (commands_together behind anew (performed_next st call f) (performed_send st call f));
       apart =
           all_weaker (λ (c : Command). c.batch < behind) (λ (c : Command). All (λ (d : Command). c.batch < d.batch) (commands_from behind anew))
           (λ c l. all_weaker (λ (d : Command). behind ≤ d.batch) (λ (d : Command). c.batch < d.batch) (λ d h. omega arith)

@@ -9,19 +9,20 @@ use native.Mathlib.Omega.{arith}
 use lib.Dec.{eqb}
 use borrow.Author.Tests.{eqb-true, eqb-false, eq-eqb, ne_eqb}
 use Rattle.fields.specs.Facts.{All}
+use Rattle.fields.specs.Order.{same}
 use Rattle.fields.specs.Filter.{cons_if, kept}
-use Rattle.fields.specs.Sort.{sorted}
+use Rattle.fields.specs.Sort.{inserted, sorted}
 use Rattle.fields.proofs.AllLaws.{all_append, all_weaker}
-use Rattle.fields.proofs.OrderLaws.{trichotomy, or_left, or_right}
+use Rattle.fields.proofs.OrderLaws.{trichotomy, or_left, or_right, same_eq, same_refl}
 use Rattle.fields.proofs.SortLaws.{all_sorted}
 use Rattle.model.specs.Protocol.{Id, is_among}
-use Rattle.model.specs.Delivery.{Request, is_pending, mark_requested}
+use Rattle.model.specs.Delivery.{Request, ids_of, is_pending, id_before, mark_requested}
 use Rattle.model.specs.Requests.{Pair, Act, ask, Done, wanted, perform, perform_all}
 use Rattle.model.specs.Sections.{Item, item_below, Batch, join, adjacent, batches_of}
 use Rattle.model.specs.Book.{Requested}
 use Rattle.model.specs.Promises.Words.{Among, LeftOf}
 use Rattle.model.specs.Promises.Asked.{under, PendingId, TypesRise}
-use Rattle.model.proofs.PendingLaws.{marked_pending}
+use Rattle.model.proofs.IdLaws.{among_inserted}
 use Rattle.model.proofs.RequestedLaws.{requested, requested_append}
 use Rattle.model.proofs.EnteringLaws.{requested_list}
 use Rattle.model.proofs.Promises.ListLaws.{among_back, among_either, all_mapped, kept_sorted, Pairwise}
@@ -121,6 +122,36 @@ batches_above : (type_id low : ℕ) (bs : List Batch) → type_id ≤ low → Al
 batches_above type_id low [] l h = refl
 batches_above type_id low (b ∷ bs) l h =
     rw (ne_eqb b.type_id type_id (λ e. lt_irrefl low (omega (arith, h.0))), batches_above type_id low bs l h.1)
+
+-- ---- an id that is marked is pending
+
+abbrev entering : ℕ → ℕ → ℕ → Id → Request
+entering clock type_id peer id = record { id = id; type_id = type_id; peer = peer; stamp = clock; checks = 0 }
+
+marked_one : (clock type_id peer : ℕ) (id x : Id) (pending : List Request)
+    → is_pending id (cond (is_pending x pending) pending (inserted id_before (entering clock type_id peer x) pending)) ≡ same id x || is_pending id pending
+unfolding is_pending
+marked_one clock type_id peer id x pending = go (is_among x (ids_of pending)) (same id x) refl refl
+  where
+    go : (t u : Bool) → is_among x (ids_of pending) ≡ t → same id x ≡ u
+        → is_among id (ids_of (cond t pending (inserted id_before (entering clock type_id peer x) pending))) ≡ same id x || is_among id (ids_of pending)
+    go true true e f = rw (same_eq id x f, e, same_refl x)
+    go true false e f = rw f
+    go false u e f = among_inserted (λ (r : Request). r.id) id_before id (entering clock type_id peer x) pending
+
+marked_pending : (clock type_id peer : ℕ) (id : Id) (ids : List Id) (pending : List Request)
+    → is_pending id (mark_requested clock type_id peer ids pending) ≡ is_among id ids || is_pending id pending
+unfolding is_among
+marked_pending clock type_id peer id [] pending = refl
+marked_pending clock type_id peer id (x ∷ ids) pending =
+    marked_pending clock type_id peer id ids (cond (is_pending x pending) pending (inserted id_before (entering clock type_id peer x) pending))
+    ∙ rw (marked_one clock type_id peer id x pending) (turned (is_among id ids) (same id x) (is_pending id pending))
+  where
+    turned : (a b c : Bool) → a || (b || c) ≡ (b || a) || c
+    turned true true c = refl
+    turned true false c = refl
+    turned false true c = refl
+    turned false false c = refl
 
 -- ---- batches asked for in turn
 

@@ -107,7 +107,6 @@ module _ (settings : Settings) (mode clock outcome : ℕ) (v : Verdict) (test : 
   counts (Steps.lost_peer peer) = none_ends book.purged only.purged (λ (r : Request). eqb mode 2 && (eqb outcome 3 && eqb r.peer peer))
   counts (Steps.received ids) = none_ends book.delivered only.delivered (λ (r : Request). is_among r.id ids)
   counts (Steps.evicted ids) = none_ends book.evicted only.evicted (λ (r : Request). is_among r.id ids)
-  counts (Steps.pooled type_id lists) = none_stays
 
 -- ---- the book's stays
 
@@ -189,7 +188,7 @@ checks_entered clock (q ∷ requested) b = checks_entered clock requested (enter
 -- ---- one finished step, over a book that agrees with the state; the bytes sent and the outcome do not matter
 
 module _ (st : State) (b : Book) (settings : b.settings ≡ st.settings) (pending : st.pending ≡ open_requests b.open') (call : Call) (low : 1 ≤ call.kind)
-    (high : call.kind ≤ 17) (outcome : ℕ) (bytes : List ℕ) where
+    (high : call.kind ≤ 16) (outcome : ℕ) (bytes : List ℕ) where
   abbrev next : Book
   next = book_after b call outcome bytes
 

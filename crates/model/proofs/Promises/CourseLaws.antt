@@ -18,7 +18,7 @@ use Rattle.model.specs.Delivery.{Request, orphans_of}
 use Rattle.model.specs.State.{Mode, seeking, syncing, synced, ended, is_mode, has_sync_peer, SendClock, Sync, State}
 use Rattle.model.specs.State.{with_downloaded, with_known_tip, with_evicted}
 use Rattle.model.specs.Peers.{first_of, or_else, first_unstalled, select_peer, reset_sends, is_some}
-use Rattle.model.specs.Requests.{PeerIds, ask_pooled, Sending, announcement, Command, Act, ask, send, sync_info_to}
+use Rattle.model.specs.Requests.{Sending, announcement, Command, Act, ask, send, sync_info_to}
 use Rattle.model.specs.Requests as requests
 use Rattle.model.specs.Sections.{Item, Batch, batches_of, request_sections_from, request_next_sections, window_within}
 use Rattle.model.specs.Check.{retry_target, retries, mark_all_retried, retry_sendings, ask_fresh}
@@ -27,14 +27,13 @@ use Rattle.model.specs.Events.{tip_outcome, raised_tip, not_above, announce, con
 use Rattle.model.specs.Steps
 use Rattle.model.specs.Steps.{Step, Args, Plan, of_mode, is_check, unmarked, without_peer, say_to, advance_from, sections_from, continues, leaves, advances}
 use Rattle.model.specs.Steps.{advances_and_requests, enters_syncing, picks, is_at_tip, answers, hears_sync_info, tells_tip, hears_announced, ask_orphans, loses}
-use Rattle.model.specs.Steps.{hears_pooled, ticks_syncing, ticks_synced, progresses, checks, evicts, plan_of, plan, remaining, retried, performed, after, commands}
+use Rattle.model.specs.Steps.{ticks_syncing, ticks_synced, progresses, checks, evicts, plan_of, plan, remaining, retried, performed, after, commands}
 use Rattle.model.specs.Lists.{ids_in, peers_in}
 use Rattle.model.specs.Calls.{Call, Answer, args_of, step_of, step_answer}
 use Rattle.model.specs.Promises.Numbers as numbers
 use Rattle.model.specs.Promises.Words.{Seen, First}
 use Rattle.model.specs.Promises.Outcomes.{Heard}
 use Rattle.model.specs.Promises.SyncInfos.{Announces, continuation_ids}
-use Rattle.model.proofs.PooledLaws.{asks_once}
 use Rattle.model.proofs.Promises.SeenLaws.{Finished, seen_as, sync_info_of, Kind, apart, heard_tip, Hears, is_heard, kind_of_lem, mode_of}
 use Rattle.model.proofs.Promises.SeenLaws as kinds
 use Rattle.model.proofs.Promises.ListLaws.{all_mapped, pairwise_map}
@@ -46,18 +45,18 @@ use Rattle.model.proofs.Promises.PartLaws.{IsAsk, Differs, AsksApart, no_asks, o
 -- ---- what only asks
 
 module _ (st : State) (a : Args) where
-  sections_ask : {pooled : Bool} (height : ℕ) → AsksApart pooled (sections_from st a height).acts
+  sections_ask : (height : ℕ) → AsksApart (sections_from st a height).acts
   unfolding sections_from request_next_sections request_sections_from
   sections_ask height = go (first_of a.peers)
     where
-      go : {pooled : Bool} (peer : Option ℕ) → AsksApart pooled (request_sections_from a.view a.chain_height height peer).acts
+      go : (peer : Option ℕ) → AsksApart (request_sections_from a.view a.chain_height height peer).acts
       go none = no_asks
       go (some peer) =
           let items : List Item = (window_within (min (height + window_size) a.chain_height - height) a.view peer height).items in
           let asks : Batch → Act = λ (b : Batch). ask b.type_id b.peer [] b.ids in
-          (all_mapped IsAsk asks (λ b. tt) (batches_of items), λ e. pairwise_map asks BatchBelow Differs below_differ (batches_of items) (batches_rise items))
+          (all_mapped IsAsk asks (λ b. tt) (batches_of items), pairwise_map asks BatchBelow Differs below_differ (batches_of items) (batches_rise items))
 
-  orphans_ask : {pooled : Bool} (lost : ℕ) (peer : Option ℕ) → AsksApart pooled (ask_orphans st a lost peer)
+  orphans_ask : (lost : ℕ) (peer : Option ℕ) → AsksApart (ask_orphans st a lost peer)
   unfolding ask_orphans
   orphans_ask lost none = no_asks
   orphans_ask lost (some peer) =
@@ -65,11 +64,11 @@ module _ (st : State) (a : Args) where
       let items : List Item = map orphan (orphans_of lost st.pending) in
       let asks : Batch → Act = λ (b : Batch). ask b.type_id peer a.stored b.ids in (
         all_mapped IsAsk asks (λ b. tt) (batches_of items),
-        λ e. pairwise_map asks LowerType Differs (λ b c l t p. lt_irrefl b.type_id (omega arith)) (batches_of items)
+        pairwise_map asks LowerType Differs (λ b c l t p. lt_irrefl b.type_id (omega arith)) (batches_of items)
             (batches_types peer items (all_mapped (λ (i : Item). i.peer ≡ peer) orphan (λ r. refl) (orphans_of lost st.pending))),
       )
 
-  fresh_ask : {pooled : Bool} (peer : Option ℕ) → AsksApart pooled (ask_fresh peer a.stored st.sync.evicted)
+  fresh_ask : (peer : Option ℕ) → AsksApart (ask_fresh peer a.stored st.sync.evicted)
   fresh_ask none = no_asks
   fresh_ask (some peer) = one_ask header_type peer a.stored st.sync.evicted
 
@@ -117,10 +116,6 @@ abbrev pub said_to : Bool → ℕ → List Sending
 said_to quiet peer = cond quiet [] (requests.sync_info peer ∷ [])
 
 module _ (st : State) (call : Call) where
-  -- whether its lists are pooled
-  abbrev pub is_pooled : Bool
-  is_pooled = eqb call.kind numbers.pooled_ids
-
   -- the interval holds a sync info back
   abbrev pub is_quiet : Bool
   is_quiet = throttled st.settings call.clock st.sync.send_clock.last_send
@@ -137,7 +132,7 @@ module _ (st : State) (call : Call) where
   -- A step that leaves marks and sets alone, but for a peer that is left.
   pub record Passes (announced : List Sending) (p : Plan) : Type 0 where
     pub silent : Silent p
-    pub acts : ActParts is_pooled announced [] p.acts
+    pub acts : ActParts announced [] p.acts
     pub not_behind : outcome_number p.outcome ≡ numbers.says_behind_peer → ⊥
     pub not_stalled : outcome_number p.outcome ≡ numbers.says_stalled → ⊥
     pub sync_peer : (p.mode ≡ syncing) ⊎ (p.mode ≡ synced) → p.sync.sync_peer ≡ st.sync.sync_peer
@@ -186,10 +181,10 @@ module _ (st : State) (call : Call) where
       go false = refl
 
   says : (announced : List Sending) (clock : ℕ) (c : SendClock) (peer : ℕ)
-      → ActParts is_pooled announced (said_to (throttled st.settings clock c.last_send) peer) (map send announced ++ sync_info_to st.settings clock c peer)
+      → ActParts announced (said_to (throttled st.settings clock c.last_send) peer) (map send announced ++ sync_info_to st.settings clock c peer)
   says announced clock c peer = record { asks = []; parts = ap (λ (acts : List Act). map send announced ++ acts) (say_sends clock c peer); are_asks = no_asks }
 
-  pub course_acts : {announced said : List Sending} {p : Plan} → Course announced said p → ActParts is_pooled announced said p.acts
+  pub course_acts : {announced said : List Sending} {p : Plan} → Course announced said p → ActParts announced said p.acts
   unfolding args_of picks enters_syncing reset_sends answers ticks_syncing ticks_synced progresses say_to unmarked
   course_acts (passes q) = q.acts
   course_acts (nobody k e) = only_asks [] no_asks
@@ -229,7 +224,7 @@ module _ (st : State) (call : Call) where
   abbrev tracked : Sync → Sync
   tracked s = with_evicted (with_known_tip (with_downloaded s 0) 0) []
 
-  goes_on_lem : (p : Plan) → Silent p → AsksApart is_pooled p.acts → outcome_number p.outcome ≡ numbers.says_continue
+  goes_on_lem : (p : Plan) → Silent p → AsksApart p.acts → outcome_number p.outcome ≡ numbers.says_continue
       → tracked p.sync ≡ tracked (unmarked st (args_of call)) → Course [] [] p
   unfolding unmarked
   goes_on_lem p silent w o e =
@@ -246,7 +241,7 @@ module _ (st : State) (call : Call) where
         entry_sent = ap (λ (s : Sync). s.entry_sent) e;
       })
 
-  is_left : (outcome : Outcome) (mode : Mode) (acts : List Act) → Silent (leaves st (args_of call) outcome mode acts) → AsksApart is_pooled acts
+  is_left : (outcome : Outcome) (mode : Mode) (acts : List Act) → Silent (leaves st (args_of call) outcome mode acts) → AsksApart acts
       → eqb (outcome_number outcome) numbers.says_behind_peer ≡ false → eqb (outcome_number outcome) numbers.says_stalled ≡ false
       → has_sync_peer mode ≡ false → Course [] [] (leaves st (args_of call) outcome mode acts)
   unfolding leaves without_peer
@@ -282,7 +277,7 @@ module _ (st : State) (call : Call) where
       })
     where
       go : (t : Bool)
-          → ActParts is_pooled announced [] (map send announced
+          → ActParts announced [] (map send announced
           ++ (cond t (sections_from st (args_of call) st.sync.downloaded) (record { acts = []; in_view = true })).acts)
       go true =
           let asks : List Act = (sections_from st (args_of call) st.sync.downloaded).acts in
@@ -511,17 +506,8 @@ module _ (st : State) (call : Call) where
   hears_announced_lem peer type_id (id ∷ ids) k =
       let asks : List Act = cond (is_announceable type_id) (ask type_id peer (args_of call).stored (id ∷ ids) ∷ []) [] in
       goes_on_lem st call (continues st (args_of call) asks) (plain_silent st call (continues st (args_of call) asks) k)
-      (either (AsksApart (is_pooled st call)) (is_announceable type_id) (ask type_id peer (args_of call).stored (id ∷ ids) ∷ []) []
+      (either AsksApart (is_announceable type_id) (ask type_id peer (args_of call).stored (id ∷ ids) ∷ []) []
       (one_ask type_id peer (args_of call).stored (id ∷ ids)) no_asks) refl refl
-
-  hears_pooled_lem : call.kind ≡ numbers.pooled_ids → (type_id : ℕ) (lists : List PeerIds) → Course st call [] [] (hears_pooled st (args_of call) type_id lists)
-  unfolding hears_pooled ask_pooled continues
-  hears_pooled_lem k type_id lists =
-      let asks : List Act = cond (is_announceable type_id) (map (asks_once type_id (args_of call).stored) lists) [] in
-      goes_on_lem st call (continues st (args_of call) asks) (plain_silent st call (continues st (args_of call) asks) (ap is_plain k))
-      (either (AsksApart (is_pooled st call)) (is_announceable type_id) (map (asks_once type_id (args_of call).stored) lists) []
-      (all_mapped IsAsk (asks_once type_id (args_of call).stored) (λ l. tt) lists, λ e. absurd (eqb-false call.kind numbers.pooled_ids e k)) no_asks)
-      refl refl
 
   loses_peer : (peer : ℕ) → is_plain call.kind ≡ true → Course st call [] [] (loses st (args_of call) peer)
   unfolding loses continues
@@ -530,8 +516,7 @@ module _ (st : State) (call : Call) where
       let asks : List Act = cond (is_mode st.mode syncing) orphans [] in
       either (Course st call [] []) (eqb peer st.sync.sync_peer) (leaves st (args_of call) SyncPeerGone seeking asks) (continues st (args_of call) [])
       (is_left st call SyncPeerGone seeking asks (plain_silent st call (leaves st (args_of call) SyncPeerGone seeking asks) k)
-      (either (AsksApart (is_pooled st call)) (is_mode st.mode syncing) orphans []
-      (orphans_ask st (args_of call) peer (first_of (args_of call).peers)) no_asks) refl refl refl)
+      (either AsksApart (is_mode st.mode syncing) orphans [] (orphans_ask st (args_of call) peer (first_of (args_of call).peers)) no_asks) refl refl refl)
       (goes_on_lem st call (continues st (args_of call) []) (plain_silent st call (continues st (args_of call) []) k) no_asks refl refl)
 
   requests_next : (height : ℕ) → Silent st call (advances_and_requests st (args_of call) height)
@@ -574,8 +559,6 @@ module _ (st : State) (call : Call) where
       plain (Steps.received ids) numbers.received_ids refl k (λ s. goes_on_lem st call (advances st (args_of call) st.mode) s no_asks refl refl)
   told_of (Steps.evicted ids) (kinds.evicted_ids k) m =
       plain (Steps.evicted ids) numbers.evicted_ids refl k (λ s. goes_on_lem st call (evicts st (args_of call) ids) s no_asks refl refl)
-  told_of (Steps.pooled type_id lists) (kinds.pooled_ids k) m =
-      plain (Steps.pooled type_id lists) numbers.pooled_ids refl k (λ s. hears_pooled_lem k type_id lists)
 
   retries_none : (announced : List Sending) (t : Bool) (items : List Item) → (t ≡ false) ⊎ (announced ≡ [])
       → (retry_sendings (cond t items []) ≡ []) ⊎ (announced ≡ [])

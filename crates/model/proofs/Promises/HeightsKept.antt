@@ -16,7 +16,7 @@ use Rattle.model.specs.Requests.{Act}
 use Rattle.model.specs.Events.{Continue, Synced, BehindPeer, tip_outcome, raised_tip, continuation}
 use Rattle.model.specs.Steps.{Step, Args, Plan, plan, plan_of, after, unmarked, without_peer, continues, leaves, advances, advances_and_requests}
 use Rattle.model.specs.Steps.{enters_syncing, is_at_tip, answers, hears_sync_info}
-use Rattle.model.specs.Steps.{hears_pooled, checks, evicts}
+use Rattle.model.specs.Steps.{checks, evicts}
 use Rattle.model.specs.Lists.{ids_in}
 use Rattle.model.specs.Calls.{Call, args_of}
 use Rattle.model.specs.Promises.Numbers as numbers
@@ -127,7 +127,7 @@ module _ (s : Seen) where
       go tip (kinds.no_tip n) = stays n refl
 
   step_tips : {step : Step} → Kind s.call step → Tip s (plan_of s.before (args s) step).sync.known_tip
-  unfolding plan_of advances advances_and_requests continues leaves checks evicts hears_pooled unmarked without_peer
+  unfolding plan_of advances advances_and_requests continues leaves checks evicts unmarked without_peer
   step_tips (kinds.start k) = stays (unheard numbers.start k refl) refl
   step_tips (kinds.pick k) =
       stays (unheard numbers.pick k refl) (picks_spares s.before (args s) (select_peer s.before.sync.stalled_peers (args s).peers)).0
@@ -152,7 +152,6 @@ module _ (s : Seen) where
   step_tips (kinds.section_tick k) = stays (unheard numbers.section_tick k refl) refl
   step_tips (kinds.send_failure k) = stays (unheard numbers.send_failure k refl) refl
   step_tips (kinds.end_of_stream k) = stays (unheard numbers.end_of_stream k refl) refl
-  step_tips (kinds.pooled_ids k) = stays (unheard numbers.pooled_ids k refl) refl
 
 pub known_tip_kept : (st : State) (call : Call) → Finished st call → KnownTip (seen_as st call)
 unfolding after plan args_of

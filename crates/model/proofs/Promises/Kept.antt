@@ -1,15 +1,11 @@
--- All promises, proved: of any finished call, of any refused one, of any run, of any call of the map, of any
--- question and opening.
+-- All promises, proved: of any finished call, of any refused one, of any run, of any call of the map.
 use Rattle.model.specs.State.{State}
 use Rattle.model.specs.Calls.{Call}
 use Rattle.model.specs.Promises.{Promises, AnyFinished}
 use Rattle.model.specs.Promises.Asked.{Asks}
-use Rattle.model.specs.Promises.Refusals.{Refusals, MeanAgeRefusals}
-use Rattle.model.specs.Promises.Told.{AnyLeftBehind}
+use Rattle.model.specs.Promises.Refusals.{Refusals}
 use Rattle.model.specs.Promises.Runs.{AnyRun}
 use Rattle.model.specs.Promises.Maps.{Maps}
-use Rattle.model.specs.Promises.Questions.{Questions}
-use Rattle.model.specs.Promises.Openings.{Openings}
 use Rattle.model.proofs.Promises.SeenLaws.{seen_as, Finished, promised}
 use Rattle.model.proofs.Promises.OutcomesKept.{outcomes_kept, modes_kept}
 use Rattle.model.proofs.Promises.PassedOverKept.{passed_over_kept}
@@ -21,14 +17,11 @@ use Rattle.model.proofs.Promises.SectionsAsked.{sections_asked}
 use Rattle.model.proofs.Promises.OrphansAsked.{orphans_asked}
 use Rattle.model.proofs.Promises.CheckAsked.{check_asked}
 use Rattle.model.proofs.Promises.BatchesKept.{batches_kept}
-use Rattle.model.proofs.Promises.PooledAsked.{pooled_asked}
 use Rattle.model.proofs.Promises.PendingKept.{pending_kept, evicted_kept}
-use Rattle.model.proofs.Promises.ToldKept.{told_kept, left_behind_kept}
-use Rattle.model.proofs.Promises.RefusalsKept.{refusals_kept, mean_age_refusals_kept}
+use Rattle.model.proofs.Promises.ToldKept.{told_kept}
+use Rattle.model.proofs.Promises.RefusalsKept.{refusals_kept}
 use Rattle.model.proofs.Promises.RunsKept.{any_run}
 use Rattle.model.proofs.Promises.MapsKept.{maps_kept}
-use Rattle.model.proofs.Promises.QuestionsKept.{questions_kept}
-use Rattle.model.proofs.Promises.OpeningsKept.{openings_kept}
 
 asks_kept : (st : State) (call : Call) → Finished st call → Asks (seen_as st call)
 asks_kept st call f =
@@ -40,7 +33,6 @@ asks_kept st call f =
       sections = sections_asked st call f;
       orphans = orphans_asked st call f;
       checks = check_asked st call f;
-      pooled = λ open' k known. pooled_asked st call f k open' known;
     }
 
 kept : (st : State) (call : Call) → Finished st call → Promises (seen_as st call)
@@ -67,17 +59,9 @@ kept st call f =
 pub any_finished : AnyFinished
 any_finished = promised Promises kept
 
--- What any finished call leaves of the command area.
-pub left_behind : AnyLeftBehind
-left_behind = left_behind_kept
-
 -- What is promised of a refused one: its number exactly, and nothing touched.
 pub refusals : Refusals
 refusals = refusals_kept
-
--- What is promised of a mean age: its number exactly.
-pub mean_age_refusals : MeanAgeRefusals
-mean_age_refusals = mean_age_refusals_kept
 
 -- What is promised along any run.
 pub runs : AnyRun
@@ -86,11 +70,3 @@ runs = any_run
 -- What is promised of the map's calls, on any lent bytes.
 pub maps : Maps
 maps = maps_kept
-
--- What is promised of the question.
-pub questions : Questions
-questions = questions_kept
-
--- What is promised of the opening.
-pub openings : Openings
-openings = openings_kept

@@ -37,16 +37,6 @@ module _ {A : Type 0} where
       go true e rest (inr b) = let p = rest b in (inr p.0, p.1)
       go false e rest b = let p = rest b in (inr p.0, p.1)
 
-  pub kept_among : (test : A → Bool) (x : A) (xs : List A) → Among x xs → test x ≡ true → Among x (kept test xs)
-  kept_among test x [] a p = absurd a
-  kept_among test x (y ∷ ys) a p = go (test y) refl (λ b. kept_among test x ys b p) a
-    where
-      go : (t : Bool) → test y ≡ t → (Among x ys → Among x (kept test ys)) → Among x (y ∷ ys) → Among x (cons_if t y (kept test ys))
-      go true e rest (inl f) = inl f
-      go true e rest (inr b) = inr (rest b)
-      go false e rest (inl f) = absurd (not_both (test x) p (ap test f ∙ e))
-      go false e rest (inr b) = rest b
-
 module _ {A B : Type 0} (f : A → B) where
   pub among_map : (y : B) (xs : List A) → Among y (map f xs) → (x : A) × Among x xs × (y ≡ f x)
   among_map y [] x' = elim x' [ ]

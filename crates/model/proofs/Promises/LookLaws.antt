@@ -15,14 +15,14 @@ use Rattle.model.specs.Protocol.{Id, header_type, is_announceable}
 use Rattle.model.specs.Settings as settings
 use Rattle.model.specs.State.{Mode, seeking, syncing, synced, ended, is_mode, has_sync_peer, State}
 use Rattle.model.specs.Peers.{first_of, select_peer}
-use Rattle.model.specs.Requests.{ask_pooled, Act, ask}
+use Rattle.model.specs.Requests.{Act, ask}
 use Rattle.model.specs.Sections.{Advance, Sections, advance_downloaded_height, request_next_sections}
 use Rattle.model.specs.Events.{Outcome, Continue, Synced, BehindPeer, SyncPeerGone, EndOfStream, tip_outcome, raised_tip, continuation}
 use Rattle.model.specs.Steps
 use Rattle.model.specs.Steps.{Step, Args, Plan, of_mode, plan_of, plan, unmarked, without_peer, advance_from, sections_from, continues, leaves}
 use Rattle.model.specs.Steps.{advances, advances_and_requests, enters_syncing, picks, is_at_tip, answers, hears_sync_info, hears_announced}
-use Rattle.model.specs.Steps.{hears_pooled, ask_orphans, loses, ticks_syncing, ticks_synced, progresses, checks, evicts}
-use Rattle.model.specs.Lists.{ids_in, pool_in, lists_in}
+use Rattle.model.specs.Steps.{ask_orphans, loses, ticks_syncing, ticks_synced, progresses, checks, evicts}
+use Rattle.model.specs.Lists.{ids_in}
 use Rattle.model.specs.Calls.{args_of, step_of}
 use Rattle.model.specs.Promises.Numbers as numbers
 use Rattle.model.specs.Promises.Words.{Seen, ids, peers, view}
@@ -365,7 +365,7 @@ module _ (s : Seen) where
 
   step_reads : {step : Step} → Kind s.call step → of_mode s.before.mode s.before.sync.entry_sent step ≡ true
       → Reading s (plan_of s.before (args s) step)
-  unfolding plan_of of_mode args_of hears_pooled
+  unfolding plan_of of_mode args_of
   step_reads (kinds.start k) mode = advances_reads seeking (at_start k) (no_ask s numbers.start k refl) (λ e. omega (arith, k, e))
   step_reads (kinds.pick k) mode =
       let chosen = select_peer s.before.sync.stalled_peers (peers s) in
@@ -390,10 +390,6 @@ module _ (s : Seen) where
   step_reads (kinds.end_of_stream k) mode =
       let next = cond (is_mode s.before.mode seeking) ended seeking in
       quiet numbers.end_of_stream k refl refl (leaves s.before (args s) EndOfStream next []) (leaves_still EndOfStream next [])
-  step_reads (kinds.pooled_ids k) mode =
-      let lists = lists_in (pool_in s.call.pool) (ids s) in
-      let acts = cond (is_announceable s.call.typeid) (ask_pooled s.call.typeid (args s).stored lists) [] in
-      quiet numbers.pooled_ids k refl refl (continues s.before (args s) acts) (continues_still acts)
 
   pub plan_reads : Kind s.call (step_of s.call) → of_mode s.before.mode s.before.sync.entry_sent (step_of s.call) ≡ true
       → Reading s (plan s.before (args_of s.call))

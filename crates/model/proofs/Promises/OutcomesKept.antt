@@ -18,7 +18,7 @@ use Rattle.model.specs.Events.{tip_outcome, raised_tip, continuation}
 use Rattle.model.specs.Steps
 use Rattle.model.specs.Steps.{Step, Args, Plan, of_mode, plan_of, plan, after}
 use Rattle.model.specs.Steps.{advances, picks, enters_syncing, continues, advances_and_requests, leaves, evicts, progresses, checks}
-use Rattle.model.specs.Steps.{hears_sync_info, hears_pooled, answers, is_at_tip, tells_tip, hears_announced, loses, ticks_syncing, ticks_synced, ask_orphans}
+use Rattle.model.specs.Steps.{hears_sync_info, answers, is_at_tip, tells_tip, hears_announced, loses, ticks_syncing, ticks_synced, ask_orphans}
 use Rattle.model.specs.Calls.{Call, args_of, step_answer}
 use Rattle.model.specs.Promises.Numbers as numbers
 use Rattle.model.specs.Promises.Words.{Seen}
@@ -126,7 +126,7 @@ module _ (st : State) (call : Call) where
 
   -- Every outcome has its reason.
   why : {step : Step} → Kind call step → of_mode st.mode st.sync.entry_sent step ≡ true → Why s (plan_of st a step).outcome
-  unfolding plan_of of_mode advances picks enters_syncing continues advances_and_requests leaves evicts progresses checks hears_sync_info hears_pooled args_of
+  unfolding plan_of of_mode advances picks enters_syncing continues advances_and_requests leaves evicts progresses checks hears_sync_info args_of
   why (kinds.start k) m = tt
   why (kinds.pick k) m = go (select_peer st.sync.stalled_peers a.peers)
     where
@@ -151,7 +151,6 @@ module _ (st : State) (call : Call) where
   why (kinds.section_tick k) m = tt
   why (kinds.send_failure k) m = send_failed k
   why (kinds.end_of_stream k) m = k
-  why (kinds.pooled_ids k) m = tt
 
   -- ---- and every reason gives its outcome
 
@@ -295,7 +294,7 @@ module _ (st : State) (call : Call) where
   leads_pick k (some peer) = λ n m. absurd (m k)
 
   leads : {step : Step} → Kind call step → Leads (plan_of st arguments step)
-  unfolding plan_of advances continues advances_and_requests leaves evicts checks hears_sync_info hears_pooled
+  unfolding plan_of advances continues advances_and_requests leaves evicts checks hears_sync_info
   leads (kinds.start k) = λ n m. absurd (n k)
   leads (kinds.pick k) = leads_pick k (select_peer st.sync.stalled_peers arguments.peers)
   leads (kinds.needed_modifier k) = λ n m. refl
@@ -316,7 +315,6 @@ module _ (st : State) (call : Call) where
   leads (kinds.section_tick k) = λ n m. refl
   leads (kinds.send_failure k) = refl
   leads (kinds.end_of_stream k) = refl
-  leads (kinds.pooled_ids k) = λ n m. refl
 
   -- a pick: with nobody listed nobody is chosen, else somebody is
   picks_nobody : call.kind ≡ numbers.pick → peers_in call.peers ≡ [] → (plan st arguments).mode ≡ seeking

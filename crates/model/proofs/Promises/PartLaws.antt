@@ -38,15 +38,15 @@ Differs (ask type_id peer pairs ids) (ask type_id' peer' pairs' ids') = type_id 
 Differs (ask type_id peer pairs ids) (send s) = Unit {0}
 Differs (send s) act = Unit {0}
 
--- acts that ask, each for another list unless lists are pooled
-abbrev pub AsksApart : Bool → List Act → Type 0
-AsksApart pooled acts = All IsAsk acts × (pooled ≡ false → Pairwise Differs acts)
+-- acts that ask, each for another list
+abbrev pub AsksApart : List Act → Type 0
+AsksApart acts = All IsAsk acts × Pairwise Differs acts
 
-pub no_asks : {pooled : Bool} → AsksApart pooled []
-no_asks = (tt, λ e. tt)
+pub no_asks : AsksApart []
+no_asks = (tt, tt)
 
-pub one_ask : {pooled : Bool} (type_id peer : ℕ) (pairs : List Pair) (ids : List Id) → AsksApart pooled (ask type_id peer pairs ids ∷ [])
-one_ask type_id peer pairs ids = ((tt, tt), λ e. (tt, tt))
+pub one_ask : (type_id peer : ℕ) (pairs : List Pair) (ids : List Id) → AsksApart (ask type_id peer pairs ids ∷ [])
+one_ask type_id peer pairs ids = ((tt, tt), (tt, tt))
 
 abbrev IsRequest : Sending → Type 0
 IsRequest (request type_id peer ids) = Unit {0}
@@ -119,10 +119,10 @@ requests_kind batch (s ∷ sendings) w =
 
 -- ---- the parts
 
-pub record ActParts (pooled : Bool) (announced said : List Sending) (acts : List Act) : Type 0 where
+pub record ActParts (announced said : List Sending) (acts : List Act) : Type 0 where
   pub asks : List Act
   pub parts : acts ≡ map send announced ++ (asks ++ map send said)
-  pub are_asks : AsksApart pooled asks
+  pub are_asks : AsksApart asks
 
 pub record Parts (announced said : List Sending) (sent : List Command) : Type 0 where
   pub requests : List Command
@@ -130,7 +130,7 @@ pub record Parts (announced said : List Sending) (sent : List Command) : Type 0 
   pub parts : sent ≡ commands_from 0 announced ++ (requests ++ commands_from batch said)
   pub are_requests : All (OfKind numbers.a_request) requests
 
-pub only_asks : {pooled : Bool} (acts : List Act) → AsksApart pooled acts → ActParts pooled [] [] acts
+pub only_asks : (acts : List Act) → AsksApart acts → ActParts [] [] acts
 only_asks acts w = record { asks = acts; parts = sym (append-nil acts); are_asks = w }
 
 -- what is sent straight away is no list that is asked for
@@ -147,11 +147,10 @@ sent_behind acts sendings d =
     pairwise_append Differs acts (map send sendings) d (subst (Pairwise Differs) (append-nil (map send sendings)) (sent_before sendings [] tt))
     (all_of (λ (act : Act). All (Differs act) (map send sendings)) (λ act. all_mapped (Differs act) send (differs_sent act) sendings) acts)
 
--- No two lists of a step are of one type and go to one peer, unless lists are pooled.
-pub parts_differ :
-    {pooled : Bool} {announced said : List Sending} {acts : List Act} → ActParts pooled announced said acts → pooled ≡ false → Pairwise Differs acts
-parts_differ {pooled} {announced} {said} p e =
-    subst (Pairwise Differs) (sym p.parts) (sent_before announced (p.asks ++ map send said) (sent_behind p.asks said (p.are_asks.1 e)))
+-- No two lists of a step are of one type and go to one peer.
+pub parts_differ : {announced said : List Sending} {acts : List Act} → ActParts announced said acts → Pairwise Differs acts
+parts_differ {announced} {said} p =
+    subst (Pairwise Differs) (sym p.parts) (sent_before announced (p.asks ++ map send said) (sent_behind p.asks said p.are_asks.1))
 
 module _ (gate : Bool) (clock : ℕ) (announced said : List Sending) where
   performed_parts : (asks : List Act) (rs : List Request) → All IsAsk asks
@@ -176,8 +175,7 @@ module _ (gate : Bool) (clock : ℕ) (announced said : List Sending) where
   retries_behind retries requests (inl e) = rw e
   retries_behind retries requests (inr e) = rw e (sym (append_assoc retries requests said))
 
-  pub commands_parts : {pooled : Bool} (items : List Item) (acts : List Act) (rs : List Request) → (retry_sendings items ≡ []) ⊎ (announced ≡ [])
-      → ActParts pooled announced said acts
+  pub commands_parts : (items : List Item) (acts : List Act) (rs : List Request) → (retry_sendings items ≡ []) ⊎ (announced ≡ []) → ActParts announced said acts
       → Parts announced said (commands_from 0 (retry_sendings items ++ (perform_all gate clock acts rs).sendings))
   commands_parts items acts rs alone p =
       let done = performed_parts p.asks rs p.are_asks.0 in

@@ -22,7 +22,7 @@ use Rattle.model.specs.State.{State, syncing, is_mode}
 use Rattle.model.specs.Peers.{first_of, select_peer}
 use Rattle.model.specs.Steps.{Step, Args, is_check, plan_of, plan, remaining, retried, performed, after, commands}
 use Rattle.model.specs.Steps.{unmarked, without_peer, continues, leaves, advances, advances_and_requests}
-use Rattle.model.specs.Steps.{hears_sync_info, hears_pooled, checks, evicts}
+use Rattle.model.specs.Steps.{hears_sync_info, checks, evicts}
 use Rattle.model.specs.Check.{retry_target, retry_of, retries, mark_all_retried}
 use Rattle.model.specs.Sections.{Item, item_below}
 use Rattle.model.specs.Book.{Requested, requested_in}
@@ -71,7 +71,7 @@ module _ (st : State) (call : Call) where
   a = args_of call
 
   evicted_in_lem : (step : Step) → Kind call step → EvictedIn call st.sync.evicted (plan_of st a step).sync.evicted
-  unfolding plan_of advances advances_and_requests continues leaves hears_sync_info hears_pooled checks evicts evicted_after_eviction unmarked without_peer
+  unfolding plan_of advances advances_and_requests continues leaves hears_sync_info checks evicts evicted_after_eviction unmarked without_peer
   evicted_in_lem step (kinds.start k) = spared numbers.start k refl refl refl
   evicted_in_lem step (kinds.pick k) = spared numbers.pick k refl refl (picks_spares st a (select_peer st.sync.stalled_peers a.peers)).1
   evicted_in_lem step (kinds.needed_modifier k) = spared numbers.needed_modifier k refl refl refl
@@ -90,7 +90,6 @@ module _ (st : State) (call : Call) where
   evicted_in_lem step (kinds.section_tick k) = spared numbers.section_tick k refl refl refl
   evicted_in_lem step (kinds.send_failure k) = spared numbers.send_failure k refl refl refl
   evicted_in_lem step (kinds.end_of_stream k) = spared numbers.end_of_stream k refl refl refl
-  evicted_in_lem step (kinds.pooled_ids k) = spared numbers.pooled_ids k refl refl refl
 
 pub evicted_kept : (st : State) (call : Call) → Finished st call → Evicted (seen_as st call)
 unfolding after plan args_of
@@ -190,7 +189,6 @@ module _ (st : State) (call : Call) (f : Finished st call) where
   left_by step (kinds.section_tick k) = left_whole numbers.section_tick k refl
   left_by step (kinds.send_failure k) = left_whole numbers.send_failure k refl
   left_by step (kinds.end_of_stream k) = left_whole numbers.end_of_stream k refl
-  left_by step (kinds.pooled_ids k) = left_whole numbers.pooled_ids k refl
 
   left : Left s st.pending (middle (step_of call))
   left = left_by (step_of call) (kind_of_lem st call f)

@@ -11,7 +11,7 @@ use Rattle.model.specs.State.{State}
 use Rattle.model.specs.Steps
 use Rattle.model.specs.Steps.{Step, of_mode, is_check, plan_of, plan, after, commands}
 use Rattle.model.specs.Image.{decode}
-use Rattle.model.specs.Lists.{ids_in, pool_in, lists_in}
+use Rattle.model.specs.Lists.{ids_in}
 use Rattle.model.specs.Calls.{Call, is_flag, step_of, args_of, call_fits, step_refusal, step, step_answer}
 use Rattle.model.specs.Demand3.{InWidth}
 use Rattle.model.specs.Promises.Numbers as numbers
@@ -84,9 +84,6 @@ promised P keeps state area call bytes width e =
 abbrev pub sync_info_of : Call → Step
 sync_info_of call = Steps.sync_info call.peer (eqb call.parsed 1) (cond (eqb call.hastip 1) (some call.tip) none) (ids_in call.continuation)
 
-abbrev pub pooled_of : Call → Step
-pooled_of call = Steps.pooled call.typeid (lists_in (pool_in call.pool) (ids_in call.ids))
-
 pub data Kind (call : Call) : Step → Type 0 where
   start : call.kind ≡ numbers.start → Kind call Steps.start
   pick : call.kind ≡ numbers.pick → Kind call Steps.pick
@@ -104,7 +101,6 @@ pub data Kind (call : Call) : Step → Type 0 where
   section_tick : call.kind ≡ numbers.section_tick → Kind call Steps.section_tick
   send_failure : call.kind ≡ numbers.send_failure → Kind call Steps.send_failure
   end_of_stream : call.kind ≡ numbers.end_of_stream → Kind call Steps.end_of_stream
-  pooled_ids : call.kind ≡ numbers.pooled_ids → Kind call (pooled_of call)
 
 -- a call of a kind is that step
 pub step_of_lem : (call : Call) {step : Step} → Kind call step → step_of call ≡ step
@@ -125,7 +121,6 @@ step_of_lem call (scheduled_tick e) = rw e
 step_of_lem call (section_tick e) = rw e
 step_of_lem call (send_failure e) = rw e
 step_of_lem call (end_of_stream e) = rw e
-step_of_lem call (pooled_ids e) = rw e
 
 pub plan_of_lem : (st : State) (call : Call) {step : Step} → Kind call step → plan st (args_of call) ≡ plan_of st (args_of call) step
 unfolding plan args_of
@@ -138,7 +133,7 @@ module _ (call : Call) where
   kind_case : ℕ → Type 0
   kind_case k = call.kind ≡ k → Kind call (step_of call)
 
-  pub kind_known : 1 ≤ call.kind → call.kind ≤ 17 → Kind call (step_of call)
+  pub kind_known : 1 ≤ call.kind → call.kind ≤ 16 → Kind call (step_of call)
   unfolding kind_case step_of
   kind_known l h =
       by_kind kind_case
@@ -158,7 +153,6 @@ module _ (call : Call) where
       (λ e. is (rw e) (section_tick e))
       (λ e. is (rw e) (send_failure e))
       (λ e. is (rw e) (end_of_stream e))
-      (λ e. is (rw e) (pooled_ids e))
       call.kind l h refl
 
 -- A number is one only.
@@ -187,7 +181,7 @@ is_heard s k = go (eqb s.call.parsed 1) (eqb s.call.hastip 1) refl refl
 
 pub record Numbers (call : Call) : Type 0 where
   pub kind_low : 1 ≤ call.kind
-  pub kind_high : call.kind ≤ 17
+  pub kind_high : call.kind ≤ 16
   pub gate : call.gate ≤ 1
   pub parsed : call.parsed ≤ 1
   pub hastip : call.hastip ≤ 1
@@ -196,7 +190,7 @@ module _ (st : State) (call : Call) (f : Finished st call) where
   pub numbers_fit : Numbers call
   unfolding call_fits
   numbers_fit =
-      let known = leb 1 call.kind && leb call.kind 17 in
+      let known = leb 1 call.kind && leb call.kind 16 in
       let answers = is_flag call.parsed && is_flag call.hastip in
       let flags = is_flag call.gate && answers in
       let mode = of_mode st.mode st.sync.entry_sent (step_of call) in
@@ -204,8 +198,8 @@ module _ (st : State) (call : Call) (f : Finished st call) where
       let g : flags ≡ true = and_left flags mode (and_right known (flags && mode) f.passed.fits) in
       let a : answers ≡ true = and_right (is_flag call.gate) answers g in
       record {
-        kind_low = leb-true 1 call.kind (and_left (leb 1 call.kind) (leb call.kind 17) k);
-        kind_high = leb-true call.kind 17 (and_right (leb 1 call.kind) (leb call.kind 17) k);
+        kind_low = leb-true 1 call.kind (and_left (leb 1 call.kind) (leb call.kind 16) k);
+        kind_high = leb-true call.kind 16 (and_right (leb 1 call.kind) (leb call.kind 16) k);
         gate = leb-true call.gate 1 (and_left (is_flag call.gate) answers g);
         parsed = leb-true call.parsed 1 (and_left (is_flag call.parsed) (is_flag call.hastip) a);
         hastip = leb-true call.hastip 1 (and_right (is_flag call.parsed) (is_flag call.hastip) a);

@@ -11,30 +11,24 @@ use borrow.Author.Tests.{le-leb, eqb-true, eqb-false, eq-eqb, ne_eqb}
 use Rattle.fields.specs.Facts.{All}
 use Rattle.fields.specs.Filter.{cons_if}
 use Rattle.fields.proofs.AllLaws.{all_weaker}
-use Rattle.fields.proofs.OverwriteLaws.{length_overwritten, drop_after}
 use Rattle.model.specs.Protocol.{is_transaction, tracked_limit, stalled_limit}
 use Rattle.model.specs.Settings.{Settings, expired, patience, given_up}
 use Rattle.model.specs.Delivery
 use Rattle.model.specs.Delivery.{Request, Verdict, verdict, verdict_number, judged}
 use Rattle.model.specs.State.{State}
 use Rattle.model.specs.Requests.{Command}
-use Rattle.model.specs.Image.{decode}
 use Rattle.model.specs.Steps.{is_check, after, commands, count_of, fresh_count}
 use Rattle.model.specs.Commands.{command_bytes, all_command_bytes}
-use Rattle.model.specs.Calls.{Call, step_of, args_of, result_refusal, call_refusal, step_refusal}
-use Rattle.model.specs.Calls.{step_answer, step_bytes}
+use Rattle.model.specs.Calls.{Call, step_of, args_of, result_refusal, call_refusal, step_answer, step_bytes}
 use Rattle.model.specs.Promises.Numbers as numbers
 use Rattle.model.specs.Promises.Words.{Seen, Counted}
 use Rattle.model.specs.Promises.Pending.{Overdue}
-use Rattle.model.specs.Promises.Told.{bytes_of, Told, AnyLeftBehind}
-use Rattle.model.proofs.Well.{Well}
+use Rattle.model.specs.Promises.Told.{bytes_of, Told}
 use Rattle.model.proofs.Widths.{WellCommand}
-use Rattle.model.proofs.FinishedLaws.{Passed, PassedAreas, passed_areas}
-use Rattle.model.proofs.RoundLaws.{decode_well}
-use Rattle.model.proofs.EntryLaws.{step_finished}
+use Rattle.model.proofs.FinishedLaws.{Passed}
 use Rattle.model.proofs.CommandLaws.{length_command}
-use Rattle.model.proofs.BoundLaws.{commands_in_width, step_bytes_fit}
-use Rattle.model.proofs.Promises.SeenLaws.{seen_as, Finished, number_told, is_check_lem}
+use Rattle.model.proofs.BoundLaws.{commands_in_width}
+use Rattle.model.proofs.Promises.SeenLaws.{seen_as, Finished, is_check_lem}
 use Rattle.model.proofs.Promises.TellsLaws.{Tells, tells_passed, tells_failed, turned_tells}
 use Rattle.model.proofs.Promises.WordLaws.{counted_kept}
 use Rattle.model.proofs.Promises.VerdictLaws.{verdict_is, Made, made, made_once, late, in_time, stamps_past}
@@ -112,8 +106,6 @@ none_refused st call p =
       le-leb st.last_clock call.clock p.clock,
       p.fits,
       p.lists,
-      p.pool,
-      p.pool_few,
       p.peers,
       p.view,
       p.in_view,
@@ -198,21 +190,4 @@ told_kept st call f =
       waiting = length (judged st.settings call.clock Delivery.waiting st.pending);
       wait = waiting_told st call f;
       add_up = counts_add st call f;
-    }
-
--- ---- behind the commands
-
-pub left_behind_kept : AnyLeftBehind
-unfolding step_answer
-left_behind_kept state area call bytes width e =
-    let none : step_refusal state area call ≡ 0 = sym (number_told state area call) ∙ e in
-    let p : PassedAreas state area call = passed_areas state area call none in
-    let well : Well (decode state) = decode_well state p.state_size bytes p.image in
-    let written : List ℕ = step_bytes (decode state) (args_of call) in
-    let most = step_bytes_fit (decode state) call well width p.finished in
-    let size = p.commands_size in
-    let done = step_finished state area call none in
-    record {
-      behind = rw done (drop_after 0 written area (omega arith) (length written) (omega arith));
-      size = rw done (length_overwritten 0 written area (omega arith));
     }

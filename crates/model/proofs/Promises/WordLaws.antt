@@ -26,7 +26,7 @@ use Rattle.model.proofs.Promises.TellsLaws.{Tells, turned_tells, both_tell}
 -- ---- tests
 
 -- one of two passes
-pub either_true : (a b : Bool) → a || b ≡ true → (a ≡ true) ⊎ (b ≡ true)
+either_true : (a b : Bool) → a || b ≡ true → (a ≡ true) ⊎ (b ≡ true)
 either_true true b e = inl refl
 either_true false b e = inr e
 

@@ -26,11 +26,11 @@ module _ (kind : ℕ) where
   not_seeking : (kind ≡ 2 → ⊥) × (kind ≡ 16 → ⊥) → NotTaken seeking kind
   not_seeking n = ⊎_elim n.0 n.1
 
-  not_syncing : (3 ≤ kind → 13 < kind) × (kind ≡ 15 → ⊥) × (kind ≡ 16 → ⊥) × (kind ≡ 17 → ⊥) → NotTaken syncing kind
-  not_syncing n = ⊎_elim (λ t. let l : 13 < kind = n.0 t.0 in absurd (omega arith)) (⊎_elim n.1 (⊎_elim n.2 n.3))
+  not_syncing : (3 ≤ kind → 13 < kind) × (kind ≡ 15 → ⊥) × (kind ≡ 16 → ⊥) → NotTaken syncing kind
+  not_syncing n = ⊎_elim (λ t. let l : 13 < kind = n.0 t.0 in absurd (omega arith)) (⊎_elim n.1 n.2)
 
-  not_synced : (3 ≤ kind → 14 < kind) × (kind ≡ 16 → ⊥) × (kind ≡ 17 → ⊥) → NotTaken synced kind
-  not_synced n = ⊎_elim (λ t. let l : 14 < kind = n.0 t.0 in absurd (omega arith)) (⊎_elim n.1 n.2)
+  not_synced : (3 ≤ kind → 14 < kind) × (kind ≡ 16 → ⊥) → NotTaken synced kind
+  not_synced n = ⊎_elim (λ t. let l : 14 < kind = n.0 t.0 in absurd (omega arith)) n.1
 
   -- a test's answer on a kind that is taken, and on one that is not
   yes : (mode : Mode) → Taken mode kind → Tells false (Taken mode kind)
@@ -78,23 +78,16 @@ module _ (kind : ℕ) where
   end_taken : (mode : Mode) → kind ≡ 16 → Tells (not (is_mode mode seeking || has_sync_peer mode)) (Taken mode kind)
   end_taken new e = no new (omega arith)
   end_taken seeking e = yes seeking (inr e)
-  end_taken syncing e = yes syncing (inr (inr (inl e)))
-  end_taken synced e = yes synced (inr (inl e))
+  end_taken syncing e = yes syncing (inr (inr e))
+  end_taken synced e = yes synced (inr e)
   end_taken ended e = no ended (λ t. t)
 
-  pooled_taken : (mode : Mode) → kind ≡ 17 → Tells (not (has_sync_peer mode)) (Taken mode kind)
-  pooled_taken new e = no new (omega arith)
-  pooled_taken seeking e = no seeking (not_seeking (omega arith))
-  pooled_taken syncing e = yes syncing (inr (inr (inr e)))
-  pooled_taken synced e = yes synced (inr (inr e))
-  pooled_taken ended e = no ended (λ t. t)
-
   -- only known kinds are taken
-  taken_known : (mode : Mode) → Taken mode kind → (1 ≤ kind) × (kind ≤ 17)
+  taken_known : (mode : Mode) → Taken mode kind → (1 ≤ kind) × (kind ≤ 16)
   taken_known new t = omega arith
   taken_known seeking t = ⊎_elim (λ e. omega arith) (λ e. omega arith) t
-  taken_known syncing t = ⊎_elim (λ r. omega arith) (⊎_elim (λ e. omega arith) (⊎_elim (λ e. omega arith) (λ e. omega arith))) t
-  taken_known synced t = ⊎_elim (λ r. omega arith) (⊎_elim (λ e. omega arith) (λ e. omega arith)) t
+  taken_known syncing t = ⊎_elim (λ r. omega arith) (⊎_elim (λ e. omega arith) (λ e. omega arith)) t
+  taken_known synced t = ⊎_elim (λ r. omega arith) (λ e. omega arith) t
   taken_known ended t = absurd t
 
 -- not taken in this mode, or a send failure after anything but an entry that sent
@@ -128,7 +121,6 @@ module _ (mode : Mode) (entry_sent : Bool) (call : Call) where
   mode_fits (kinds.section_tick e) = alone (is_mode mode synced) (omega arith) (section_tick_taken call.kind mode e)
   mode_fits (kinds.send_failure e) = marked (is_mode mode syncing) e (send_failure_taken call.kind mode e)
   mode_fits (kinds.end_of_stream e) = alone (is_mode mode seeking || has_sync_peer mode) (omega arith) (end_taken call.kind mode e)
-  mode_fits (kinds.pooled_ids e) = alone (has_sync_peer mode) (omega arith) (pooled_taken call.kind mode e)
 
   pub fits_taken : {ok : Bool} → Fits ok → ok ≡ true → Taken mode call.kind
   fits_taken (alone test n t) e = t.failed (ap not e)
@@ -141,15 +133,15 @@ module _ (mode : Mode) (entry_sent : Bool) (call : Call) where
 
 -- ---- in the words of the promise
 
-known_kind : (call : Call) → leb 1 call.kind && leb call.kind 17 ≡ true → Kind call (step_of call)
+known_kind : (call : Call) → leb 1 call.kind && leb call.kind 16 ≡ true → Kind call (step_of call)
 known_kind call e =
     let low = leb 1 call.kind in
-    let high = leb call.kind 17 in
-    kind_known call (leb-true 1 call.kind (and_left low high e)) (leb-true call.kind 17 (and_right low high e))
+    let high = leb call.kind 16 in
+    kind_known call (leb-true 1 call.kind (and_left low high e)) (leb-true call.kind 16 (and_right low high e))
 
 module _ (s : Seen) where
   abbrev Unknown : Type 0
-  Unknown = (s.call.kind < 1) ⊎ (17 < s.call.kind)
+  Unknown = (s.call.kind < 1) ⊎ (16 < s.call.kind)
 
   abbrev BadFlag : Type 0
   BadFlag = (1 < s.call.gate) ⊎ ((1 < s.call.parsed) ⊎ (1 < s.call.hastip))
@@ -179,11 +171,11 @@ module _ (s : Seen) where
       let k = s.call.kind in
       let flags = both_tell (le_tells s.call.gate 1) (λ e. both_tell (le_tells s.call.parsed 1) (λ e. le_tells s.call.hastip 1)) in
       tells_as not_now not_now_tested
-      (both_tell (both_tell (le_tells 1 k) (λ e. le_tells k 17))
+      (both_tell (both_tell (le_tells 1 k) (λ e. le_tells k 16))
       (λ e. both_tell flags (λ f. fits_tells s.before.mode s.before.sync.entry_sent s.call
       (mode_fits s.before.mode s.before.sync.entry_sent s.call (known_kind s.call e)))))
 
 -- what the later tests rest on
 pub fits_kind : (st : State) (call : Call) → call_fits st call ≡ true → Kind call (step_of call)
 unfolding call_fits
-fits_kind st call e = known_kind call (and_left (leb 1 call.kind && leb call.kind 17) _ e)
+fits_kind st call e = known_kind call (and_left (leb 1 call.kind && leb call.kind 16) _ e)

@@ -1,9 +1,9 @@
 -- Numbers 6 and 7: the lent lists fit unless something in the words of the promise is wrong with them.
 use Prim.Native.Nat.{ℕ, suc, ◌+◌, ◌*◌, ◌/◌, ◌%◌, ◌≤◌, ◌<◌}
-use mathlib.Core.Path.{◌≡◌, refl, sym, ap, ◌∙◌, subst}
-use mathlib.Core.Bool.{Bool, true, false, not, ◌&&◌, ◌||◌}
+use mathlib.Core.Path.{◌≡◌, refl, sym, ap, ◌∙◌}
+use mathlib.Core.Bool.{Bool, true, false, not, ◌||◌}
 use mathlib.Core.Logic.{◌⊎◌, inl, inr, ⊎_elim}
-use mathlib.Core.List.{List, [], ◌∷◌}
+use mathlib.Core.List.{List, []}
 use native.Mathlib.Nat.{le_of_mul-le-mul_right, mul-le-mul_right, div-add-mod', mul-mod_left}
 use native.Mathlib.Omega.{arith}
 use lib.ListN.{length, take, get_or}
@@ -14,12 +14,10 @@ use Rattle.fields.specs.Entries.{entry, rising}
 use Rattle.fields.proofs.OrderLaws.{and_left, and_right}
 use Rattle.fields.proofs.EntriesLaws.{length_entries, entries_at, entry_front}
 use Rattle.model.specs.Layout.{pair_size}
-use Rattle.model.specs.Lists.{list_fits, entries_of, ids_in, ids_fit, continuation_fits, pairs_fit, peers_fit}
-use Rattle.model.specs.Lists.{PoolEntry, pool_in, counted, pool_whole, pool_adds_up}
-use Rattle.model.specs.Calls.{lists_fit, pool_fits}
+use Rattle.model.specs.Lists.{list_fits, entries_of, ids_fit, continuation_fits, pairs_fit, peers_fit}
+use Rattle.model.specs.Calls.{lists_fit}
 use Rattle.model.specs.Promises.Words.{Seen}
-use Rattle.model.specs.Promises.Refusals.{BadList, AddUp, BadIds, BadPeers}
-use Rattle.model.proofs.ListLaws.{length_ids}
+use Rattle.model.specs.Promises.Refusals.{BadList, BadIds, BadPeers}
 use Rattle.model.proofs.Promises.TellsLaws.{Tells, tells_passed, tells_as, tells_not, eq_tells, both_tell, Somewhere, Unordered, rising_tells}
 
 -- ---- whole entries, at most so many
@@ -106,85 +104,33 @@ one_tells kind size = go (eqb kind 3) refl
     go true e = tells_as (λ n. (eqb-true kind 3 e, n)) (λ w. w.1) (eq_tells size 32)
     go false e = tells_passed ((kind ≡ 3) × (size ≡ 32 → ⊥)) (λ w. eqb-false kind 3 e w.0)
 
--- ---- pooled lists
-
--- entries of a size, whatever their number
-whole_tells : (size n : ℕ) → Tells (eqb (n % size) 0) ((count : ℕ) → n ≡ count * size → ⊥)
-whole_tells size n =
-    tells_as {A = ((count : ℕ) × (n ≡ count * size)) → ⊥} (λ bad count e. bad (count, e)) (λ bad w. bad w.0 w.1)
-    (tells_not (eqb (n % size) 0) (λ e. (n / size, whole size n (eqb-true (n % size) 0 e)))
-    (λ w. eq-eqb (n % size) 0 (ap (λ (m : ℕ). m % size) w.1 ∙ mul-mod_left w.0 size)))
-
-counted_adds : (pool : List PoolEntry) → AddUp pool (counted pool)
-counted_adds [] = refl
-counted_adds (e ∷ pool) = (counted pool, refl, counted_adds pool)
-
-adds_counted : (pool : List PoolEntry) (n : ℕ) → AddUp pool n → counted pool ≡ n
-adds_counted [] n e = sym e
-adds_counted (e ∷ pool) n w = ap (λ (m : ℕ). e.count + m) (adds_counted pool w.0 w.2) ∙ sym w.1
-
-sum_tells : (pool : List PoolEntry) (n : ℕ) → Tells (eqb (counted pool) n) (AddUp pool n → ⊥)
-sum_tells pool n =
-    tells_not (eqb (counted pool) n) (λ e. subst (AddUp pool) (eqb-true (counted pool) n e) (counted_adds pool))
-    (λ w. eq-eqb (counted pool) n (adds_counted pool n w))
-
--- counts are read in the pooled step alone
-pooled_tells : (kind : ℕ) (pool : List PoolEntry) (n : ℕ)
-    → Tells (not (eqb kind 17) || eqb (counted pool) n) ((kind ≡ 17) × (AddUp pool n → ⊥))
-pooled_tells kind pool n = go (eqb kind 17) refl
-  where
-    go : (t : Bool) → eqb kind 17 ≡ t → Tells (not t || eqb (counted pool) n) ((kind ≡ 17) × (AddUp pool n → ⊥))
-    go true e = tells_as (λ w. (eqb-true kind 17 e, w)) (λ w. w.1) (sum_tells pool n)
-    go false e = tells_passed ((kind ≡ 17) × (AddUp pool n → ⊥)) (λ w. eqb-false kind 17 e w.0)
-
 module _ (s : Seen) where
-  abbrev BadPool : Type 0
-  BadPool =
-      ((count : ℕ) → length s.call.pool ≡ count * 12 → ⊥)
-      ⊎ ((s.call.kind ≡ 17) × (AddUp (pool_in s.call.pool) (length (ids_in s.call.ids)) → ⊥))
-
   abbrev BadIdsAsTested : Type 0
   BadIdsAsTested =
-      ((BadList 32 1024 s.call.ids ⊎ ((s.call.kind ≡ 3) × (length s.call.ids ≡ 32 → ⊥)))
-      ⊎ (BadList 32 400 s.call.continuation ⊎ (BadList 34 1024 s.call.stored ⊎ Somewhere (OutOfOrder s.call.stored))))
-      ⊎ BadPool
+      (BadList 32 1024 s.call.ids ⊎ ((s.call.kind ≡ 3) × (length s.call.ids ≡ 32 → ⊥)))
+      ⊎ (BadList 32 400 s.call.continuation ⊎ (BadList 34 1024 s.call.stored ⊎ Somewhere (OutOfOrder s.call.stored)))
 
   bad_ids : BadIdsAsTested → BadIds s
   bad_ids =
-      ⊎_elim
-      (⊎_elim (⊎_elim BadIds.ids (λ w. BadIds.not_one w.0 w.1))
-      (⊎_elim BadIds.continuation (⊎_elim BadIds.stored (λ w. BadIds.order w.0 w.1.0 w.1.1))))
-      (⊎_elim BadIds.entries (λ w. BadIds.counts w.0 w.1))
+      ⊎_elim (⊎_elim BadIds.ids (λ w. BadIds.not_one w.0 w.1))
+      (⊎_elim BadIds.continuation (⊎_elim BadIds.stored (λ w. BadIds.order w.0 w.1.0 w.1.1)))
 
   bad_ids_tested : BadIds s → BadIdsAsTested
-  bad_ids_tested (BadIds.ids b) = inl (inl (inl b))
-  bad_ids_tested (BadIds.not_one e n) = inl (inl (inr (e, n)))
-  bad_ids_tested (BadIds.continuation b) = inl (inr (inl b))
-  bad_ids_tested (BadIds.stored b) = inl (inr (inr (inl b)))
-  bad_ids_tested (BadIds.order i l f) = inl (inr (inr (inr (i, (l, f)))))
-  bad_ids_tested (BadIds.entries b) = inr (inl b)
-  bad_ids_tested (BadIds.counts e b) = inr (inr (e, b))
+  bad_ids_tested (BadIds.ids b) = inl (inl b)
+  bad_ids_tested (BadIds.not_one e n) = inl (inr (e, n))
+  bad_ids_tested (BadIds.continuation b) = inr (inl b)
+  bad_ids_tested (BadIds.stored b) = inr (inr (inl b))
+  bad_ids_tested (BadIds.order i l f) = inr (inr (inr (i, (l, f))))
 
-  pool_tells : Tells (pool_fits s.call) BadPool
-  unfolding pool_fits pool_whole pool_adds_up
-  pool_tells =
-      let pool = pool_in s.call.pool in
-      let count = length (ids_in s.call.ids) in
-      both_tell (whole_tells 12 (length s.call.pool))
-      (λ e. subst (λ (n : ℕ). Tells (not (eqb s.call.kind 17) || eqb (counted pool) n) ((s.call.kind ≡ 17) × (AddUp pool count → ⊥)))
-      (length_ids s.call.ids) (pooled_tells s.call.kind pool count))
-
-  pub lists_tell : Tells (lists_fit s.call && pool_fits s.call) (BadIds s)
+  pub lists_tell : Tells (lists_fit s.call) (BadIds s)
   unfolding lists_fit ids_fit continuation_fits pairs_fit
   lists_tell =
       tells_as bad_ids bad_ids_tested
-      (both_tell
       (both_tell
       (both_tell (list_tells 32 1024 s.call.ids (omega arith)) (λ e. one_tells s.call.kind (length s.call.ids)))
       (λ e.
       both_tell (list_tells 32 400 s.call.continuation (omega arith))
       (λ e. both_tell (list_tells 34 1024 s.call.stored (omega arith)) (λ f. order_tells s.call.stored f))))
-      (λ e. pool_tells))
 
   pub peers_tell : Tells (peers_fit s.call.peers) (BadPeers s)
   unfolding peers_fit

@@ -5,12 +5,10 @@ use Rattle.fields.specs.Facts.{All}
 use Rattle.model.specs.Protocol.{Id}
 use Rattle.model.specs.Delivery.{Request}
 use Rattle.model.specs.State.{syncing}
-use Rattle.model.specs.Requests.{Command}
 use Rattle.model.specs.Sections.{Section, Header, absent, present, View}
-use Rattle.model.specs.Requests.{PeerIds}
 use Rattle.model.specs.Book.{Requested, requested_in}
 use Rattle.model.specs.Promises.Numbers
-use Rattle.model.specs.Promises.Words.{Seen, ids, lists, peers, stored, view, Among, First, LeftOf}
+use Rattle.model.specs.Promises.Words.{Seen, ids, peers, stored, view, Among, First, LeftOf}
 use Rattle.model.specs.Promises.Outcomes.{NothingAhead}
 use Rattle.model.specs.Promises.Pending.{Turns, Retried, TakenOut}
 
@@ -54,36 +52,6 @@ abbrev pub Announceable : ℕ → Type 0
 Announceable type_id =
     (type_id ≡ Numbers.a_transaction)
     ⊎ ((type_id ≡ Numbers.a_header) ⊎ ((type_id ≡ Numbers.block_transactions) ⊎ ((type_id ≡ Numbers.ad_proofs) ⊎ (type_id ≡ Numbers.an_extension))))
-
--- ---- pooled announcements (F-9)
-
--- pending, stored or asked for already
-abbrev pub Known : Seen → List Id → Id → Type 0
-Known s asked_for id = (PendingId s.before.pending id ⊎ StoredAs s s.call.typeid id) ⊎ Among id asked_for
-
--- what is left of a list, each id "one time", when some were asked for already
-abbrev pub LeftOnce : Seen → List Id → List Id → List Id → Type 0
-LeftOnce s asked_for [] left = left ≡ []
-LeftOnce s asked_for (id ∷ ids) left =
-    (Known s asked_for id × LeftOnce s asked_for ids left)
-    ⊎ ((Known s asked_for id → ⊥) × ((others : List Id) × (left ≡ id ∷ others) × LeftOnce s (id ∷ asked_for) ids others))
-
--- requests of one number, for these ids, of this peer
-pub record OwnBatch (s : Seen) (batch peer : ℕ) (ids : List Id) (requests : List Command) : Type 0 where
-  pub numbered : All (λ (c : Command). (c.kind ≡ Numbers.a_request) × (c.batch ≡ batch)) requests
-  pub requested : requested_in requests ≡ asked_of s.call.typeid peer ids
-
--- "List order holds; each list is a batch of its own, also where two share a peer, and a list with nothing left gives no command and
--- takes no batch number." Ids asked for already, the next number, the lists, the commands.
-pub data Serves (s : Seen) : List Id → ℕ → List PeerIds → List Command → Type 0 where
-  no_more : {asked_for : List Id} {batch : ℕ} → Serves s asked_for batch [] []
-  nothing_left :
-      {asked_for : List Id} {batch : ℕ} {lists : List PeerIds} {sent : List Command} (list : PeerIds) → LeftOnce s asked_for list.ids []
-      → Serves s asked_for batch lists sent → Serves s asked_for batch (list ∷ lists) sent
-  some_left :
-      {asked_for : List Id} {batch : ℕ} {lists : List PeerIds} {own others : List Command} (list : PeerIds) (left : List Id)
-      → LeftOnce s asked_for list.ids left → (left ≡ [] → ⊥) → OwnBatch s batch list.peer left own
-      → Serves s (left ++ asked_for) (suc batch) lists others → Serves s asked_for batch (list ∷ lists) (own ++ others)
 
 -- ---- the window of next sections
 
@@ -213,7 +181,6 @@ pub data MayAsk (s : Seen) : Type 0 where
   sections : NextSections s → (peers s ≡ [] → ⊥) → MayAsk s
   orphans : Orphans s → (peers s ≡ [] → ⊥) → MayAsk s
   checks : s.call.kind ≡ Numbers.check → MayAsk s
-  pooled : s.call.kind ≡ Numbers.pooled_ids → Announceable s.call.typeid → MayAsk s
 
 pub record Asks (s : Seen) : Type 0 where
   -- "gate shut, nothing"
@@ -230,6 +197,3 @@ pub record Asks (s : Seen) : Type 0 where
   pub sections : (peer : ℕ) → s.call.gate ≡ 1 → NextSections s → First peer (peers s) → AsksWindow s peer
   pub orphans : (peer : ℕ) → s.call.gate ≡ 1 → Orphans s → First peer (peers s) → AsksOrphans s peer
   pub checks : s.call.gate ≡ 1 → s.call.kind ≡ Numbers.check → AsksAgain s
-  -- each list to its peer
-  pub pooled :
-      s.call.gate ≡ 1 → s.call.kind ≡ Numbers.pooled_ids → Announceable s.call.typeid → Serves s [] 0 (lists s) s.sent

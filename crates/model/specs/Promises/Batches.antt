@@ -49,8 +49,7 @@ pub record Uncut (s : Seen) : Type 0 where
   pub anew : List Command
   pub parts : s.sent ≡ again ++ anew
   pub one_again : EachNext OneBatch again
-  -- two pooled lists may be alike: `Asks.pooled` says their numbers
-  pub one_anew : (s.call.kind ≡ Numbers.pooled_ids → ⊥) → EachNext OneBatch anew
+  pub one_anew : EachNext OneBatch anew
   -- and no number stands for a list of each
   pub apart : All (λ (c : Command). All (λ (d : Command). c.batch < d.batch) anew) again
   -- only a check retries, and what it asks for anew are the fresh ids

@@ -51,9 +51,6 @@ send_failure = 15
 abbrev pub end_of_stream : ℕ
 end_of_stream = 16
 
-abbrev pub pooled_ids : ℕ
-pooled_ids = 17
-
 -- ---- outcomes
 
 abbrev pub says_continue : ℕ

@@ -65,16 +65,12 @@ pub record Outcomes (s : Seen) : Type 0 where
   pub end_of_stream : (s.answer.outcome ≡ Numbers.says_end_of_stream) ↔ (s.call.kind ≡ Numbers.end_of_stream)
   pub no_other : s.answer.outcome ≤ Numbers.says_end_of_stream
 
--- "Steps by mode": the kinds that are taken in a mode. From 3 to 13 are the kinds from needed modifier to scheduled tick. Pooled ids
--- are "of syncing and synced" (F-9).
+-- "Steps by mode": the kinds that are taken in a mode. From 3 to 13 are the kinds from needed modifier to scheduled tick.
 abbrev pub Taken : Mode → ℕ → Type 0
 Taken new kind = kind ≡ Numbers.start
 Taken seeking kind = (kind ≡ Numbers.pick) ⊎ (kind ≡ Numbers.end_of_stream)
-Taken syncing kind =
-    ((Numbers.needed_modifier ≤ kind) × (kind ≤ Numbers.scheduled_tick))
-    ⊎ ((kind ≡ Numbers.send_failure) ⊎ ((kind ≡ Numbers.end_of_stream) ⊎ (kind ≡ Numbers.pooled_ids)))
-Taken synced kind =
-    ((Numbers.needed_modifier ≤ kind) × (kind ≤ Numbers.section_tick)) ⊎ ((kind ≡ Numbers.end_of_stream) ⊎ (kind ≡ Numbers.pooled_ids))
+Taken syncing kind = ((Numbers.needed_modifier ≤ kind) × (kind ≤ Numbers.scheduled_tick)) ⊎ ((kind ≡ Numbers.send_failure) ⊎ (kind ≡ Numbers.end_of_stream))
+Taken synced kind = ((Numbers.needed_modifier ≤ kind) × (kind ≤ Numbers.section_tick)) ⊎ (kind ≡ Numbers.end_of_stream)
 Taken ended kind = ⊥
 
 pub record Modes (s : Seen) : Type 0 where

@@ -1,15 +1,12 @@
--- Refusals: what each number of a step says of a call, in words, and that it is given exactly then.
+-- Refusals: what each number from 4 to 11 says of a call, in words, and that it is given exactly then.
 use Rattle.std.specs.Prelude.{ℕ, suc, ◌+◌, ◌*◌, ◌≤◌, ◌<◌, ◌^◌, ◌≡◌, false, ◌⊎◌, List, [], ◌∷◌, length, get_or, drop}
 use Rattle.std.proofs.Math.Option.{none}
 use Rattle.fields.specs.Order.{before}
 use Rattle.fields.specs.Entries.{entry}
-use Rattle.model.specs.Image.{field, decode, well_formed}
+use Rattle.model.specs.Image.{field, well_formed}
 use Rattle.model.specs.Steps.{after}
 use Rattle.model.specs.Calls.{Call, args_of, step}
-use Rattle.model.specs.MeanAge.{mean_age}
 use Rattle.model.specs.Promises.Numbers
-use Rattle.model.specs.Lists.{PoolEntry, pool_in}
-use Rattle.model.specs.Promises.Words
 use Rattle.model.specs.Promises.Words.{Seen, seen, peers, view}
 use Rattle.model.specs.Promises.Outcomes.{Taken}
 use Rattle.model.specs.Promises.Heights.{Complete, LooksOn, StartsFrom}
@@ -33,11 +30,6 @@ pub data NotNow (s : Seen) : Type 0 where
 abbrev pub BadList : ℕ → ℕ → List ℕ → Type 0
 BadList size most bytes = (count : ℕ) → count ≤ most → length bytes ≡ count * size → ⊥
 
--- F-9: the counts of the entries add up to so many
-abbrev pub AddUp : List PoolEntry → ℕ → Type 0
-AddUp [] n = n ≡ 0
-AddUp (e ∷ pool) n = (others : ℕ) × (n ≡ e.count + others) × AddUp pool others
-
 -- 6: "id or stored list of bad length, order or size"
 pub data BadIds (s : Seen) : Type 0 where
   ids : BadList 32 1024 s.call.ids → BadIds s
@@ -49,13 +41,6 @@ pub data BadIds (s : Seen) : Type 0 where
   order :
       (i : ℕ) → (i + 2) * 34 ≤ length s.call.stored → before (entry 34 i s.call.stored) (entry 34 (suc i) s.call.stored) ≡ false
       → BadIds s
-  -- F-9: "A bad entry length, counts that don't add up to the ids"
-  entries : ((count : ℕ) → length s.call.pool ≡ count * 12 → ⊥) → BadIds s
-  counts : s.call.kind ≡ Numbers.pooled_ids → (AddUp (pool_in s.call.pool) (length (Words.ids s)) → ⊥) → BadIds s
-
--- 13, after 6: "more than 16 lists"
-abbrev pub TooManyLists : Seen → Type 0
-TooManyLists s = 16 * 12 < length s.call.pool
 
 -- 7: "peer list of bad length or size"
 abbrev pub BadPeers : Seen → Type 0
@@ -115,32 +100,22 @@ TooManyStalled s = 256 < length (after s.before (args_of s.call)).sync.stalled_p
 
 -- ---- exactly
 
--- a number, and what it says
-pub record Says : Type 1 where
-  pub number : ℕ
-  pub wrong : Type 0
+-- The first of these that holds gives its number, counted from `first` on; if none holds, the number is 0.
+abbrev pub FirstWrong : ℕ → ℕ → List (Type 0) → Type 0
+FirstWrong number first [] = number ≡ 0
+FirstWrong number first (Wrong ∷ others) = (Wrong × (number ≡ first)) ⊎ ((Wrong → ⊥) × FirstWrong number (suc first) others)
 
-abbrev pub says : ℕ → Type 0 → Says
-says number wrong = record { number = number; wrong = wrong }
-
--- The first of these that holds gives its number; if none holds, the number is 0.
-abbrev pub FirstWrong : ℕ → List Says → Type 0
-FirstWrong number [] = number ≡ 0
-FirstWrong number (w ∷ others) = (w.wrong × (number ≡ w.number)) ⊎ ((w.wrong → ⊥) × FirstWrong number others)
-
--- What the numbers from 4 on say, in their order.
-abbrev pub wrongs : Seen → List Says
-wrongs s =
-    says 4 (Early s) ∷ says 5 (NotNow s) ∷ says 6 (BadIds s) ∷ says 13 (TooManyLists s) ∷ says 7 (BadPeers s) ∷ says 8 (BadView s.call.view)
-    ∷ says 9 (Unseen s) ∷ says 10 (Overfull s) ∷ says 11 (TooManyStalled s) ∷ []
+-- What the numbers from 4 to 11 say.
+abbrev pub wrongs : Seen → List (Type 0)
+wrongs s = Early s ∷ NotNow s ∷ BadIds s ∷ BadPeers s ∷ BadView s.call.view ∷ Unseen s ∷ Overfull s ∷ TooManyStalled s ∷ []
 
 -- What 1, 2 and 3 say of the areas, in front of them. What "malformed" means is `well_formed`, held by the round trips of images.
-abbrev pub all_wrongs : List ℕ → List ℕ → Seen → List Says
-all_wrongs state area s = says 1 (length state ≡ 65536 → ⊥) ∷ says 2 (well_formed state ≡ false) ∷ says 3 (length area < 65536) ∷ wrongs s
+abbrev pub all_wrongs : List ℕ → List ℕ → Seen → List (Type 0)
+all_wrongs state area s = (length state ≡ 65536 → ⊥) ∷ (well_formed state ≡ false) ∷ (length area < 65536) ∷ wrongs s
 
 pub record Answered (state area : List ℕ) (call : Call) : Type 0 where
   -- "Checked in this order."
-  pub first : FirstWrong (step state area call).answer.number (all_wrongs state area (seen state area call))
+  pub first : FirstWrong (step state area call).answer.number 1 (all_wrongs state area (seen state area call))
   -- "Each gives its number, all else 0, both areas untouched."
   pub untouched :
       ((step state area call).answer.number ≡ 0 → ⊥)
@@ -165,23 +140,3 @@ pub record Answered (state area : List ℕ) (call : Call) : Type 0 where
 -- Of any call on any areas.
 abbrev pub Refusals : Type 0
 Refusals = (state area : List ℕ) (call : Call) → Answered state area call
-
--- ---- the mean age (F-7)
-
--- 1 and 2 of the state area, and 4: "A clock before the image's last clock is number 4 here too."
-abbrev pub mean_age_wrongs : List ℕ → ℕ → List Says
-mean_age_wrongs state clock =
-    says 1 (length state ≡ 65536 → ⊥) ∷ says 2 (well_formed state ≡ false)
-    ∷ says 4 (clock < (decode state).last_clock) ∷ []
-
-pub record MeanAgeAnswered (state : List ℕ) (clock : ℕ) : Type 0 where
-  pub first : FirstWrong (mean_age state clock).number (mean_age_wrongs state clock)
-  -- all else 0
-  pub no_more :
-      ((mean_age state clock).number ≡ 0 → ⊥)
-      → mean_age state clock
-      ≡ record { number = (mean_age state clock).number; count = 0; quotient = 0; remainder = 0 }
-
--- Of any state area and any clock.
-abbrev pub MeanAgeRefusals : Type 0
-MeanAgeRefusals = (state : List ℕ) (clock : ℕ) → MeanAgeAnswered state clock

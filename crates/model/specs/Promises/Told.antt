@@ -1,10 +1,7 @@
 -- What a finished step tells: its counts are those of the images and of what the check made of each request.
-use Rattle.std.specs.Prelude.{ℕ, ◌+◌, ◌*◌, ◌≡◌, List, [], ◌∷◌, length, drop}
-use Rattle.fields.specs.Facts.{Bytes}
+use Rattle.std.specs.Prelude.{ℕ, ◌+◌, ◌*◌, ◌≡◌, List, [], ◌∷◌, length}
 use Rattle.model.specs.Delivery.{Request}
 use Rattle.model.specs.Requests.{Command}
-use Rattle.model.specs.Calls.{Call, step}
-use Rattle.model.specs.Demand3.{InWidth}
 use Rattle.model.specs.Promises.Numbers
 use Rattle.model.specs.Promises.Words.{Seen, Counted}
 use Rattle.model.specs.Promises.Pending.{Overdue, Forgotten, Abandoned, Retried}
@@ -30,18 +27,3 @@ pub record Told (s : Seen) : Type 0 where
   pub wait : Counted (λ (r : Request). Overdue s r → ⊥) s.before.pending waiting
   pub add_up :
       s.call.kind ≡ Numbers.check → s.answer.retried + s.answer.abandoned + s.answer.forgotten + waiting ≡ length s.before.pending
-
--- What a finished step leaves of the command area: the bytes behind its commands as they were, and
--- no byte more or less.
-pub record LeftBehind (state area : List ℕ) (call : Call) : Type 0 where
-  pub behind :
-      drop (step state area call).answer.length (step state area call).commands
-      ≡ drop (step state area call).answer.length area
-  pub size : length (step state area call).commands ≡ length area
-
--- Of any finished call.
-abbrev pub AnyLeftBehind : Type 0
-AnyLeftBehind =
-    (state area : List ℕ) (call : Call)
-    → Bytes state → InWidth call → (step state area call).answer.number ≡ 0
-    → LeftBehind state area call

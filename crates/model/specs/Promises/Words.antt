@@ -5,10 +5,9 @@ use Rattle.model.specs.State.{State}
 use Rattle.model.specs.Requests.{Command, Pair}
 use Rattle.model.specs.Image.{decode}
 use Rattle.model.specs.Commands.{commands_in}
-use Rattle.model.specs.Lists.{ids_in, peers_in, pairs_in, view_of, pool_in, lists_in}
+use Rattle.model.specs.Lists.{ids_in, peers_in, pairs_in, view_of}
 use Rattle.model.specs.Protocol.{Id}
 use Rattle.model.specs.Sections.{View}
-use Rattle.model.specs.Requests.{PeerIds}
 use Rattle.model.specs.Calls.{Call, Answer, Result, step}
 use Rattle.model.specs.Demand3.{InWidth}
 use Rattle.model.specs.Promises.Numbers as numbers
@@ -43,10 +42,6 @@ Promised P =
 
 abbrev pub ids : Seen → List Id
 ids s = ids_in s.call.ids
-
--- pooled lists, cut from the ids by the counts of their entries
-abbrev pub lists : Seen → List PeerIds
-lists s = lists_in (pool_in s.call.pool) (ids s)
 
 abbrev pub peers : Seen → List ℕ
 peers s = peers_in s.call.peers

@@ -1,8 +1,11 @@
--- Each kind by itself; those that are not named by a law over their numbers.
+-- Each kind by itself; the middle kinds and the last by laws over their numbers.
 use native.Mathlib.Omega.{arith}
+use Prim.Native.Nat.{◌≤◌, ◌<◌}
+use mathlib.Core.Logic.{◌⊎◌, inl, inr}
 use Rattle.model.specs.Steps.{of_mode}
 use Rattle.model.specs.Calls.{step_of}
-use Rattle.refusals.proofs.KindLaws.{allowed, other_kinds}
+use Rattle.refusals.proofs.KindLaws.{allowed, middle_kinds, end_kinds}
+use Rattle.refusals.proofs.of_mode.Goals.{in_default-via-then-kind-lt1, in_default-via-else-kind-lt1+else-kind-lt14}
 use Rattle.refusals.proofs.of_mode.Goals as goal
 
 pub returns-in-1 : goal.returns-in-1
@@ -21,11 +24,14 @@ pub returns-in-15 : goal.returns-in-15
 unfolding of_mode step_of
 returns-in-15 c = λ st d m s k. rw (← m, ← s, k, c.in-15.is)
 
-pub returns-in-16 : goal.returns-in-16
-unfolding of_mode step_of
-returns-in-16 c = λ st d m s k. rw (← m, k, c.in-16.is)
+pub returns-in-3-to-13 : goal.returns-in-3-to-13
+unfolding allowed
+returns-in-3-to-13 c =
+    λ st d m s k. rw (← m) (middle_kinds st d c.args.kind k (omega arith) (omega arith) (λ e. omega arith) (λ e. omega arith))
 
 pub returns-in_default : goal.returns-in_default
 unfolding allowed
 returns-in_default c =
-    λ st d m s k. rw (← m) (other_kinds st d c.args.kind k (λ e. omega arith) (λ e. omega arith) (λ e. omega arith) (λ e. omega arith) (λ e. omega arith))
+    let beside : (c.args.kind < 1) ⊎ (14 ≤ c.args.kind) =
+    elim c.in_default.branch [ in_default-via-then-kind-lt1 w ↦ inl (omega arith) | in_default-via-else-kind-lt1+else-kind-lt14 w ↦ inr (omega arith) ] in
+    λ st d m s k. rw (← m) (end_kinds st d c.args.kind k beside (λ e. omega arith) (λ e. omega arith))

@@ -156,11 +156,9 @@ fn outcome(words: &mut Words<'_>) -> Result<Outcome, Fault> {
 }
 
 fn refusal(words: &mut Words<'_>) -> Result<u32, Fault> {
-    match words.number("a refusal's number, 1 to 11 or 13")? {
-        number @ (1..=11 | 13) => Ok(number),
-        number => Err(words.fault(format!(
-            "`{number}` is not a refusal's number, 1 to 11 or 13"
-        ))),
+    match words.number("a refusal's number, 1 to 11")? {
+        number @ 1..=11 => Ok(number),
+        number => Err(words.fault(format!("`{number}` is not a refusal's number, 1 to 11"))),
     }
 }
 

@@ -12,7 +12,7 @@ pub use changes::{Change, Sections};
 pub use expectations::{Expectation, Figures, Foretold, Record, SentWhat};
 pub use names::{show_type, Names};
 pub use read::read;
-pub use wakes::{Info, Listed, Wake};
+pub use wakes::{Info, Wake};
 pub use words::Fault;
 
 use request_keeper::Settings;

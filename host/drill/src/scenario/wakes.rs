@@ -1,10 +1,9 @@
-//! The seventeen steps as words.
+//! The sixteen steps as words.
 
 use super::names::{expanded, modifier_type, Names, LONGEST_LIST};
 use super::words::{Fault, Words};
 use crate::text::grouped;
-use request_keeper::{Finished, Forecast, Id, ModifierType, Peer, PeerIds, Pooled, Refusal};
-use request_keeper::{RequestKeeper, Step, Surroundings, SyncInfo};
+use request_keeper::{Id, ModifierType, Peer, Step, SyncInfo};
 
 /// What wakes the keeper: a step that owns its lists.
 #[derive(Debug, Clone, PartialEq, Eq)]
@@ -14,8 +13,6 @@ pub enum Wake {
     Needed(ModifierType, Id),
     Reorg(u32),
     Announced(Peer, ModifierType, Vec<Id>),
-    /// What several peers announce.
-    Pooled(ModifierType, Vec<Listed>),
     /// `None` if it could not be parsed.
     SyncInfo(Peer, Option<Info>),
     Message,
@@ -30,22 +27,6 @@ pub enum Wake {
     EndOfStream,
 }
 
-/// A list of ids, and the peer that announces it.
-#[derive(Debug, Clone, PartialEq, Eq)]
-pub struct Listed {
-    pub from: Peer,
-    pub ids: Vec<Id>,
-}
-
-impl Listed {
-    fn handed(&self) -> PeerIds<'_> {
-        PeerIds {
-            from: self.from,
-            ids: &self.ids,
-        }
-    }
-}
-
 /// A parsed sync info.
 #[derive(Debug, Clone, PartialEq, Eq)]
 pub struct Info {
@@ -53,25 +34,12 @@ pub struct Info {
     pub continuation: Vec<Id>,
 }
 
-const STEPS: &str = "start, pick, needed, reorg, announced, pooled, sync-info, message, lost, received, evicted, progress, \
-check, scheduled-tick, section-tick, send-failure or end-of-stream";
-
-/// Parts the lists of pooled announcements.
-const NEXT_LIST: &str = "/";
-
-/// A wake as the keeper takes it.
-enum Handed<'w> {
-    Step(Step<'w>),
-    Pooled(ModifierType, Vec<PeerIds<'w>>),
-}
+const STEPS: &str = "start, pick, needed, reorg, announced, sync-info, message, lost, received, evicted, progress, check, \
+scheduled-tick, section-tick, send-failure or end-of-stream";
 
 impl Wake {
-    fn handed(&self) -> Handed<'_> {
-        Handed::Step(match self {
-            Self::Pooled(modifier_type, lists) => {
-                let lists = lists.iter().map(Listed::handed).collect();
-                return Handed::Pooled(*modifier_type, lists);
-            }
+    pub fn step(&self) -> Step<'_> {
+        match self {
             Self::Start => Step::Start,
             Self::Pick => Step::Pick,
             Self::Needed(modifier_type, id) => Step::NeededModifier {
@@ -103,44 +71,6 @@ impl Wake {
             Self::SectionTick => Step::SectionTick,
             Self::SendFailure => Step::SendFailure,
             Self::EndOfStream => Step::EndOfStream,
-        })
-    }
-
-    /// Asks a keeper what it would come to.
-    pub fn forecast(
-        &self,
-        keeper: &RequestKeeper,
-        now: &Surroundings<'_>,
-    ) -> Result<Forecast, Refusal> {
-        match self.handed() {
-            Handed::Step(step) => keeper.forecast(step, now),
-            Handed::Pooled(modifier_type, lists) => {
-                let lists = &lists;
-                let pooled = Pooled {
-                    modifier_type,
-                    lists,
-                };
-                keeper.pooled_forecast(pooled, now)
-            }
-        }
-    }
-
-    /// Hands it in.
-    pub fn run<'k>(
-        &self,
-        keeper: &'k mut RequestKeeper,
-        now: &Surroundings<'_>,
-    ) -> Result<Finished<'k>, Refusal> {
-        match self.handed() {
-            Handed::Step(step) => keeper.step(step, now),
-            Handed::Pooled(modifier_type, lists) => {
-                let lists = &lists;
-                let pooled = Pooled {
-                    modifier_type,
-                    lists,
-                };
-                keeper.pooled(pooled, now)
-            }
         }
     }
 
@@ -156,7 +86,6 @@ impl Wake {
                 let from = a_peer(words, names)?;
                 Self::Announced(from, a_type(words)?, ids(words, names)?)
             }
-            "pooled" => Self::Pooled(a_type(words)?, lists(words, names)?),
             "sync-info" => {
                 let from = a_peer(words, names)?;
                 Self::SyncInfo(from, info(words, names)?)
@@ -198,21 +127,12 @@ pub fn an_id(words: &mut Words<'_>, names: &Names) -> Result<Id, Fault> {
 pub fn list<T>(
     words: &mut Words<'_>,
     what: &str,
-    each: impl FnMut(&str) -> Result<T, String>,
+    mut each: impl FnMut(&str) -> Result<T, String>,
 ) -> Result<Vec<T>, Fault> {
     let given = words.all();
     if given.is_empty() {
         return Err(words.fault(format!("the line ends where {what} or `none` was expected")));
     }
-    list_of(words, &given, each)
-}
-
-/// Each of these words.
-fn list_of<T>(
-    words: &Words<'_>,
-    given: &[&str],
-    mut each: impl FnMut(&str) -> Result<T, String>,
-) -> Result<Vec<T>, Fault> {
     if given == ["none"] {
         return Ok(Vec::new());
     }
@@ -235,30 +155,6 @@ pub fn ids(words: &mut Words<'_>, names: &Names) -> Result<Vec<Id>, Fault> {
 
 pub fn peers(words: &mut Words<'_>, names: &Names) -> Result<Vec<Peer>, Fault> {
     list(words, "peers", |word| names.peer(word))
-}
-
-/// `PEER ID..` for each list, `none` for no ids; `none` alone for no lists.
-fn lists(words: &mut Words<'_>, names: &Names) -> Result<Vec<Listed>, Fault> {
-    const LISTS: &str = "lists as `PEER ID.. / PEER ID..`, or `none`";
-    let given = words.all();
-    if given == ["none"] {
-        return Ok(Vec::new());
-    }
-    let mut lists = Vec::new();
-    for part in given.split(|word| *word == NEXT_LIST) {
-        let Some((peer, given)) = part.split_first() else {
-            return Err(words.fault(format!("a list is missing: expected {LISTS}")));
-        };
-        let from = names.peer(peer).map_err(|what| words.fault(what))?;
-        if given.is_empty() {
-            return Err(words.fault(format!(
-                "the list of `{peer}` ends where ids or `none` was expected"
-            )));
-        }
-        let ids = list_of(words, given, |word| names.id(word))?;
-        lists.push(Listed { from, ids });
-    }
-    Ok(lists)
 }
 
 fn info(words: &mut Words<'_>, names: &Names) -> Result<Option<Info>, Fault> {

@@ -13,7 +13,7 @@ use std::thread::sleep;
 use std::time::Duration;
 
 /// A word for each mistake of the class, and the fault by which `keeper_variants` knows it.
-const CLASS: [(&str, &str); 9] = [
+const CLASS: [(&str, &str); 8] = [
     ("older-stamp", "a retry keeps its older stamp"),
     (
         "no-check-behind-a-shut-gate",
@@ -39,10 +39,6 @@ const CLASS: [(&str, &str); 9] = [
     (
         "type-by-its-low-byte",
         "an announced type is known by its low byte",
-    ),
-    (
-        "asks-each-who-announces",
-        "a pooled id is asked of each peer that announces it",
     ),
 ];
 

@@ -22,12 +22,9 @@ fn change_numbers(stream: &mut Stream, mut change: impl FnMut(u64, u64) -> u64) 
         *number = change(0, u64::from(*number)) as u32;
     }
     for call in &mut stream.calls {
-        let Some(clock) = call.clock_mut() else {
-            continue;
-        };
-        *clock = change(last, *clock);
-        last = *clock;
         let Call::Step(step) = call else { continue };
+        step.clock = change(last, step.clock);
+        last = step.clock;
         for number in [&mut step.height, &mut step.fork, &mut step.tip] {
             *number = change(0, u64::from(*number)) as u32;
         }
@@ -91,7 +88,10 @@ fn all_zero(stream: &Stream) -> Stream {
 /// Each clock by how many different ones are below it.
 fn ranked_clocks(stream: &Stream) -> Stream {
     let mut ranked = stream.clone();
-    let steps = ranked.calls.iter_mut().filter_map(Call::clock_mut);
+    let steps = ranked.calls.iter_mut().filter_map(|call| match call {
+        Call::Step(step) => Some(&mut step.clock),
+        Call::Ask(_) => None,
+    });
     let mut clocks: Vec<&mut u64> = steps.chain([&mut ranked.opening.clock]).collect();
     let sorted: BTreeSet<u64> = clocks.iter().map(|clock| **clock).collect();
     let ranks: BTreeMap<u64, u64> = sorted.into_iter().zip(0..).collect();
@@ -106,18 +106,15 @@ fn without_waiting(stream: &Stream, kind: u8) -> Stream {
     let mut earlier = stream.clone();
     let (mut old, mut new) = (stream.opening.clock, stream.opening.clock);
     for call in &mut earlier.calls {
-        let waits = call.kind() == Some(kind);
-        let Some(clock) = call.clock_mut() else {
-            continue;
-        };
-        let waited = clock.saturating_sub(old);
-        let back = old.saturating_sub(*clock);
-        old = *clock;
+        let Call::Step(step) = call else { continue };
+        let waited = step.clock.saturating_sub(old);
+        let back = old.saturating_sub(step.clock);
+        old = step.clock;
         new = new.saturating_sub(back);
-        if !waits {
+        if step.kind != kind {
             new = new.saturating_add(waited);
         }
-        *clock = new;
+        step.clock = new;
     }
     earlier
 }
@@ -127,8 +124,8 @@ fn from_clock_0(stream: &Stream) -> Stream {
     let mut moved = stream.clone();
     let start = std::mem::take(&mut moved.opening.clock);
     for call in &mut moved.calls {
-        if let Some(clock) = call.clock_mut() {
-            *clock = clock.saturating_sub(start);
+        if let Call::Step(step) = call {
+            step.clock = step.clock.saturating_sub(start);
         }
     }
     moved

@@ -3,10 +3,10 @@
 pub mod map;
 
 use request_keeper::{
-    Answer, Finished, Forecast, Id, ModifierType, Peer, Pooled, Question, Refusal, RequestKeeper,
-    Section, Settings, Step, StoredPairs, Surroundings, View,
+    Answer, Id, ModifierType, Peer, Question, Refusal, RequestKeeper, Section, Settings, Step,
+    StoredPairs, Surroundings, View,
 };
-use std::fmt::{Debug, Write};
+use std::fmt::Write;
 
 pub const BASE: u64 = 0x0102_0304_0506_0000;
 pub const SENDER: Peer = Peer(0x1122_3344_5566_7788);
@@ -73,15 +73,6 @@ fn hash(bytes: &[u8]) -> u64 {
     })
 }
 
-/// A finished step's numbers, how many commands it has written, and these.
-type Written = (Answer, u32, Vec<u8>);
-
-fn written(finished: Finished<'_>) -> Written {
-    let count = finished.commands().count() as u32;
-    let commands = finished.commands().as_bytes().to_vec();
-    (finished.answer, count, commands)
-}
-
 impl Scenario {
     fn state(&mut self) {
         let hash = hash(self.keeper.as_bytes());
@@ -89,8 +80,8 @@ impl Scenario {
     }
 
     /// The forecast of a step, noted in the transcript.
-    fn forecast(&mut self, forecast: Result<Forecast, Refusal>) -> [u32; 6] {
-        let numbers = match forecast {
+    fn forecast(&mut self, step: Step<'_>, now: &Surroundings<'_>) -> [u32; 6] {
+        let numbers = match self.keeper.forecast(step, now) {
             Ok(forecast) => [
                 0,
                 forecast.outcome.number(),
@@ -122,34 +113,11 @@ impl Scenario {
         now: Surroundings<'_>,
     ) -> Result<(Answer, Vec<u8>), Refusal> {
         self.mean_age(now.clock);
-        let forecast = self.forecast(self.keeper.forecast(step, &now));
-        let finished = self.keeper.step(step, &now).map(written);
-        self.shown(&step, forecast, finished)
-    }
-
-    /// The same for pooled announcements.
-    pub fn pooled(
-        &mut self,
-        pooled: Pooled<'_>,
-        now: Surroundings<'_>,
-    ) -> Result<(Answer, Vec<u8>), Refusal> {
-        self.mean_age(now.clock);
-        let forecast = self.forecast(self.keeper.pooled_forecast(pooled, &now));
-        let finished = self.keeper.pooled(pooled, &now).map(written);
-        self.shown(&pooled, forecast, finished)
-    }
-
-    /// What a step has shown, noted in the transcript, and held to what was foretold.
-    fn shown(
-        &mut self,
-        step: &dyn Debug,
-        forecast: [u32; 6],
-        finished: Result<Written, Refusal>,
-    ) -> Result<(Answer, Vec<u8>), Refusal> {
+        let forecast = self.forecast(step, &now);
         let mut count = 0;
-        let finished = finished.map(|(answer, commands, bytes)| {
-            count = commands;
-            (answer, bytes)
+        let finished = self.keeper.step(step, &now).map(|finished| {
+            count = finished.commands().count() as u32;
+            (finished.answer, finished.commands().as_bytes().to_vec())
         });
         let numbers = match &finished {
             Ok((answer, commands)) => [

@@ -1,6 +1,6 @@
 //! Pending and evicted around 1,024, in every step that adds.
 
-use crate::build::{id, ids, missing, of_peer, pending, syncing, Build, CASES};
+use crate::build::{id, ids, missing, pending, syncing, Build, CASES};
 use crate::Script;
 use keeper_values::numbers::kinds;
 use keeper_values::{Mode, Request, State};
@@ -100,8 +100,8 @@ pub fn scripts() -> Vec<Script> {
             );
         }
     }
-    // 10 goes by what is left at the end: an id that only changes its list is not refused, one more is; of too many pooled
-    // lists 13 is told first. The longest list of ids, so that the fixed list needs no other for it.
+    // 10 goes by what is left at the end: an id that only changes its list is not refused, one more is. The longest list
+    // of ids, so that the fixed list needs no other for it.
     scripts.push(
         Build::put(
             "an eviction to 1,024, one more, and a reorg",
@@ -117,8 +117,6 @@ pub fn scripts() -> Vec<Script> {
             c.peers = vec![4];
             c.view = missing(1, 2);
         })
-        .pooled(102, vec![of_peer(6, vec![id(2)])])
-        .pooled(102, vec![of_peer(6, vec![id(2)]); 17])
         .done(),
     );
     // What a step takes out makes room for what it puts in.

@@ -8,7 +8,7 @@ use keeper_values::numbers::kinds;
 use keeper_values::{Id, Place, Row, TypeId, View};
 
 /// So many ids of a shape, in no order.
-pub(super) fn drawn(shape: Shape, count: usize) -> Vec<Id> {
+fn drawn(shape: Shape, count: usize) -> Vec<Id> {
     let mut rng = Rng::new(count as u64);
     let mut random = || std::array::from_fn(|_| rng.draw() as u8);
     let first = random();

@@ -14,8 +14,7 @@ pub fn calls(cases: &mut Cases) {
         });
     }
     for mode in Mode::ALL {
-        // A pooled step, kind 17, with these ids is 6: `pooled`.
-        for kind in (0..=19).filter(|kind| *kind != kinds::POOLED) {
+        for kind in 0..=18 {
             let busy = mode.has_sync_peer();
             let taken = match kind {
                 1 => mode == Mode::New,

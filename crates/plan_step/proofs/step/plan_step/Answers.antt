@@ -37,13 +37,5 @@ returns-in-Mode c =
     let its = c.in-Mode.ensures.mode refl in
     λ st d h n ei shows es.
     let m = numbers d c.args.call n in
-    let outer : ((1 ≤ d.kind) × (d.kind < 3)) ⊎ ((14 ≤ d.kind) × (d.kind < 17)) = grind arith in
+    let outer : (d.kind < 3) ⊎ (14 ≤ d.kind) = grind arith in
     c.mode_step.ensures st d h n shows es outer
-
-pub returns-in-Pooled : goal.returns-in-Pooled
-returns-in-Pooled c =
-    let its = c.in-Pooled.ensures.pooled refl in
-    λ st d h n ei shows es.
-    let m = numbers d c.args.call n in
-    let outer : (d.kind < 1) ⊎ (17 ≤ d.kind) = grind arith in
-    c.pooled_step.ensures st d h n outer

@@ -40,7 +40,6 @@ module _ (c : After-copy_used) where
         stored = c.args.lists.stored_bytes;
         peers = c.args.lists.peers_bytes;
         view = c.args.lists.view_bytes;
-        pool = c.args.lists.pool_bytes;
       }
 
 -- ---- the goals

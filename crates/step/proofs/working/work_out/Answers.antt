@@ -6,7 +6,7 @@ use Rattle.plan.specs.Plans.{call_of}
 use Rattle.work.specs.Worked.{Worked, Performs}
 use Rattle.step.specs.Answers.{answer_of}
 use Rattle.step.specs.Planned.{Lists, lists, work_of}
-use Rattle.step.proofs.PlannedLaws.{Entered, long, ids_whole, ids_few, continuation_fit, stored_fit, pool_is_few, view_fit}
+use Rattle.step.proofs.PlannedLaws.{Entered, long, ids_whole, ids_few, continuation_fit, stored_fit, view_fit}
 use Rattle.step.proofs.PlannedLaws.{region_tracked, carry_room, carried, only_full, full_works, stalled_works}
 use Rattle.step.proofs.PlannedLaws.{settle_asks, last_fits, end_fits, settled_works}
 use Rattle.std.proofs.Common.{Err}
@@ -30,8 +30,7 @@ module _ (c : After-slice_known-2-1) where
   room = c.args.commands.now
 
   abbrev lent : Lists
-  lent =
-      lists c.args.lists.ids.now c.args.lists.continuation.now c.args.lists.stored.now c.args.lists.peers.now c.args.lists.view.now c.args.lists.pool.now
+  lent = lists c.args.lists.ids.now c.args.lists.continuation.now c.args.lists.stored.now c.args.lists.peers.now c.args.lists.view.now
 
   entered : Entered area c.args.head c.args.plan c.args.call lent
   unfolding call_of
@@ -52,7 +51,6 @@ module _ (c : After-slice_known-2-1) where
           stored = c.args.lists.stored_bytes;
           peers = c.args.lists.peers_bytes;
           view = c.args.lists.view_bytes;
-          pool = c.args.lists.pool_bytes;
         };
       }
 
@@ -88,9 +86,6 @@ module _ (c : After-carry_out) where
 
 pub invariant_of-ids : goal.invariant_of-ids
 invariant_of-ids c = let p = c.requires.planned in record { whole = ids_whole p; few = ids_few p; known = c.args.lists.ids_bytes }
-
-pub invariant_of-pool : goal.invariant_of-pool
-invariant_of-pool c = record { few = pool_is_few c.requires.planned; known = c.args.lists.pool_bytes }
 
 pub invariant_of-stored : goal.invariant_of-stored
 invariant_of-stored c = record { fit = stored_fit c.requires.planned; known = c.args.lists.stored_bytes }

@@ -34,10 +34,10 @@ returns c =
     let said = first.announce-place in
     let done = c.perform in
     record {
-      performs = (λ st call g same pool.
+      performs = (λ st call g same.
           carries st call a.plan same (said.ensures.out_after, (said.ensures.value, said.ensures.most_bytes_bound))
-          (omega (arith, room first)) said.auto.out done.auto.out (done.ensures.performs st call g pool));
-      untouched = (λ nobody first full.
-          let left = done.ensures.untouched first full in
+          (omega (arith, room first)) said.auto.out done.auto.out (done.ensures.performs st call g));
+      untouched = (λ nobody one full.
+          let left = done.ensures.untouched one full in
           (left.0, left.1 ∙ nothing_before a.plan.announces a.continuation.now a.out.now said.ensures.out_after nobody));
     }
