@@ -9,5 +9,4 @@ pub mod PartLaws
 pub mod RisingLaws
 pub mod SortLaws
 pub mod TotalLaws
-pub mod WordLaws
 pub mod ZeroLaws

@@ -138,6 +138,17 @@ to_le_parts (suc m) n low high h =
     let s : suc m + n ≡ suc (m + n) = omega arith in
     rw (s, r, q, to_le_parts m n (low / 256) high (omega arith))
 
+-- two parts of s, the low one in front
+pub low_parts : (s : List ℕ) (at m next n width low high both : ℕ) → at + m ≡ next → m + n ≡ width → both ≡ high * 256 ^ m + low → low < 256 ^ m
+    → to_le m low ≡ take m (drop at s) → to_le n high ≡ take n (drop next s) → to_le width both ≡ take width (drop at s)
+low_parts s at m next n width low high both p e b l h k =
+    rw (← e, b, to_le_parts m n low high l, h, k, take-add m n (drop at s), drop-drop m at s, p)
+
+pub low_one : (s : List ℕ) (at b : ℕ) → at < length s → b < 256 → b ≡ get_or s at 0 → to_le 1 b ≡ take 1 (drop at s)
+low_one s at b h l e =
+    let m : b % 256 ≡ get_or s at 0 = omega arith in
+    rw (drop-cons s at 0 h, m)
+
 -- the low byte as code takes it, by a mask; what it shifts out leaves n / 256 by computation
 abbrev pub low_byte : ℕ → ℕ
 low_byte n = bit_and n 255

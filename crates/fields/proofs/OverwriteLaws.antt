@@ -182,3 +182,12 @@ low_all at width n i s h = rw (take_all i (to_le width n) (rw length_to_le h))
 -- the low byte of the turned number is the high byte of n
 pub low_turned : (at width n other : ℕ) (s t : List ℕ) → other ≡ from_be (to_le width n) → t ≡ overwritten at (to_le width other) s → t ≡ overwritten at (to_be width n) s
 low_turned at width n other s t e w = w ∙ rw (e, to_le_turned width n)
+
+-- ---- copying over the front, byte by byte
+
+pub front_turn : (new s : List ℕ) (i b : ℕ) → i < length new → i < length s → b ≡ get_or new i 0 → set (take i new ++ drop i s) i b ≡ take (i + 1) new ++ drop (i + 1) s
+front_turn new s i b h l e =
+    rw (add-one, drop-cons s i 0 l, take-suc new i 0 h, set_at (take i new) (get_or s i 0) (drop (suc i) s) b i (length-take-le i new (omega arith)), e, append_assoc)
+
+pub front_all : (new s : List ℕ) (i : ℕ) → length new ≤ i → length s ≤ i → take i new ++ drop i s ≡ new
+front_all new s i h l = rw (take_all i new h, drop_of_length-le s {i = i} l, append-nil)

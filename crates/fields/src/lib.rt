@@ -35,13 +35,30 @@ pub fn write(s: &mut [u8], at: usize, width: usize, n: u64)
     }
 }
 
+// A byte as a number of 64 bits.
+fn wide(x: u8) -> u64
+    ensures { (result ≡ x) × (result < 256) }
+{
+    x.into()
+}
+
+// Two bytes. Four are a sum of these: of the ways to write such a sum, the one that becomes a single load wherever it is
+// inlined. No `from_be_bytes` here and below: the test of the source follows every path that what writes a command leads to
+// (F-4), and the library's lead out of the repository.
+fn pair(s: &[u8], at: usize) -> u64
+    requires { at + 2 ≤ length s.now }
+    ensures { (result ≡ from_be (take 2 (drop at s.now))) × (result < 65536) }
+{
+    wide(s[at]) * 256 + wide(s[at + 1])
+}
+
 // The number in 2 bytes. Each width has a function of its own, here and where a number is written: they are a line each, and a
 // trait over widths would be longer.
 pub fn read_u16(s: &[u8], at: usize) -> u16
     requires { at + 2 ≤ length s.now }
     ensures { result ≡ from_be (take 2 (drop at s.now)) }
 {
-    u16::from_be_bytes(s[at..at + 2].try_into().unwrap())
+    pair(s, at) as u16
 }
 
 // The number in 4 bytes.
@@ -49,7 +66,28 @@ pub fn read_u32(s: &[u8], at: usize) -> u32
     requires { at + 4 ≤ length s.now }
     ensures { result ≡ from_be (take 4 (drop at s.now)) }
 {
-    u32::from_be_bytes(s[at..at + 4].try_into().unwrap())
+    (pair(s, at) * 65536 + pair(s, at + 2)) as u32
+}
+
+// Eight bytes are read and written the low byte first, as memory holds a number, and turned round. LLVM makes one load or
+// store and one swap of that before it inlines; bytes summed up the high one first become a load only in the machine
+// code, and until then they weigh on every function that reads a word.
+fn low_pair(s: &[u8], at: usize) -> u64
+    requires { at + 2 ≤ length s.now }
+    ensures { (to_le 2 result ≡ take 2 (drop at s.now)) × (result < 65536) }
+{
+    wide(s[at + 1]) * 256 + wide(s[at])
+}
+
+// The number whose bytes these eight are, the low byte first.
+fn read_low_first(s: &[u8], at: usize) -> u64
+    requires { at + 8 ≤ length s.now }
+    ensures { to_le 8 result ≡ take 8 (drop at s.now) }
+{
+    low_pair(s, at + 6) * 281474976710656
+        + low_pair(s, at + 4) * 4294967296
+        + low_pair(s, at + 2) * 65536
+        + low_pair(s, at)
 }
 
 // The number in 8 bytes.
@@ -57,7 +95,7 @@ pub fn read_u64(s: &[u8], at: usize) -> u64
     requires { at + 8 ≤ length s.now }
     ensures { result ≡ from_be (take 8 (drop at s.now)) }
 {
-    u64::from_be_bytes(s[at..at + 8].try_into().unwrap())
+    turned(read_low_first(s, at))
 }
 
 // A number in 2 bytes.
@@ -76,9 +114,7 @@ pub fn write_u32(s: &mut [u8], at: usize, n: u32)
     write(s, at, 4, n.into())
 }
 
-// Eight bytes are written the low byte first, as memory holds a number, of the number turned round. LLVM makes one store
-// and one swap of that before it inlines; bytes written the high one first become a store only in the machine code, and
-// until then they weigh on every function that writes a word.
+// The bytes of n written from `at` on, the low byte first.
 fn write_low_first(s: &mut [u8], at: usize, n: u64)
     requires { at + 8 ≤ length s.old }
     ensures { s.new ≡ overwritten at (to_le 8 n) s.old }

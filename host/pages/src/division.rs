@@ -24,13 +24,6 @@ const SIGNS_OF_CUTTING: [&str; 3] = ["/", "%", ">>"];
 /// `checked_rem`, `is_multiple_of`, `chunks_exact`.
 const PARTS_OF_NAMES: [&str; 5] = ["div", "rem", "multiple", "quotient", "chunks"];
 
-/// Functions of the library, read: each is a sum of bytes at their weights. Any other path into the library leads to no file.
-const SUMS_OF_THE_LIBRARY: [&str; 3] = [
-    "u16::from_be_bytes",
-    "u32::from_be_bytes",
-    "u64::from_be_bytes",
-];
-
 /// Searches the files that cut and, whole file by whole file, all that they lead to: code, contracts and the names of specs.
 pub fn search(read: Read, cutting: &[&str]) -> Searched {
     let mut searched = Searched::default();
@@ -57,9 +50,6 @@ pub fn search(read: Read, cutting: &[&str]) -> Searched {
             // `f::<32>(..)` is a call of `f`.
             let code = opened(&code.replace("::<", "<"));
             for path in paths(&code) {
-                if SUMS_OF_THE_LIBRARY.contains(&path) {
-                    continue;
-                }
                 let found = led(read, &file, path);
                 if found.is_empty() {
                     let fault = format!("{place}: {path} leads to no file");

@@ -145,6 +145,10 @@ fn a_path_that_leads_nowhere_is_told() {
         ("use sizes::{RUN, {WIDTH}};", "sizes::"),
         ("use sizes::*;", "sizes::"),
         ("u64::from(n)", "u64::from"),
+        (
+            "u32::from_be_bytes(s[at..at + 4].try_into().unwrap())",
+            "u32::from_be_bytes",
+        ),
     ] {
         let searched = searched_in(&[(CUT, line), ("crates/sizes/src/lib.rt", "")]);
         let expected = format!("{CUT}:1: {path} leads to no file");
@@ -153,11 +157,7 @@ fn a_path_that_leads_nowhere_is_told() {
 }
 
 #[test]
-fn sums_of_the_library_and_calls_with_a_size_are_told_of_nothing() {
-    for line in [
-        "u32::from_be_bytes(s[at..at + 4].try_into().unwrap())",
-        "put::<32>(s, from + done, to + done);",
-    ] {
-        assert_eq!(searched_in(&[(CUT, line)]).faults, [""; 0], "{line}");
-    }
+fn a_call_with_a_size_is_told_of_nothing() {
+    let line = "put::<32>(s, from + done, to + done);";
+    assert_eq!(searched_in(&[(CUT, line)]).faults, [""; 0]);
 }
