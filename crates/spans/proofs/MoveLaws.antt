@@ -1,10 +1,10 @@
 -- Parts of bytes: moved within them, and lent and come back.
 use Prim.Native.Nat.{ℕ, ◌+◌, ◌-◌, ◌≤◌}
-use mathlib.Core.Path.{◌≡◌, sym, ap, ◌∙◌}
-use mathlib.Core.List.{List, ◌++◌, append_assoc, append-nil}
+use mathlib.Core.Path.{◌≡◌, ◌∙◌}
+use mathlib.Core.List.{List, ◌++◌, append-nil}
 use native.Mathlib.Omega.{arith}
 use lib.ListN.{length, take, drop, length-drop, drop_of_length-le}
-use lib.Seq.{take-add, drop-drop, take_all, length-take-le, paste}
+use lib.Seq.{take-add, drop-drop, take_all, length-take-le}
 use borrow.Rule.Slice.PartMut.{put_mid}
 use Rattle.std.specs.Array.{IsWholeChunk}
 use Rattle.fields.specs.Facts.{Bytes}
@@ -12,7 +12,7 @@ use Rattle.fields.specs.Number.{from_be, to_be}
 use Rattle.fields.specs.Zero.{zeros}
 use Rattle.fields.specs.Overwrite.{overwritten}
 use Rattle.fields.proofs.NumberLaws.{bytes_take, bytes_drop, to_be_from_be}
-use Rattle.fields.proofs.OverwriteLaws.{overwritten_nil, overwritten_next, overwritten_in_front, length_overwritten, part_before, take_before, drop_after, overwritten_same}
+use Rattle.fields.proofs.OverwriteLaws.{overwritten_nil, overwritten_next, overwritten_in_front, length_overwritten, part_before, take_before, drop_after}
 use Rattle.fields.proofs.ZeroLaws.{length_zeros}
 use Rattle.spans.specs.Move.{moved}
 
@@ -22,19 +22,6 @@ length_part from size s h = length-take-le size (drop from s) (simp length-drop 
 -- a prefix that is all of both
 pub whole_prefix : (n : ℕ) (s t : List ℕ) → length s ≡ n → length t ≡ n → take n s ++ drop n t ≡ s
 whole_prefix n s t h k = rw (take_all n s (omega arith), drop_of_length-le t {i = n} (omega arith), append-nil)
-
--- what `copy_within` leaves
-pub pasted : (from to size : ℕ) (s : List ℕ) → from + size ≤ length s → paste s to (drop from s) (from + size - from) ≡ moved from to size s
-unfolding moved overwritten
-pasted from to size s h =
-    let k : from + size - from ≡ size = omega arith in
-    rw (k, length_part from size s h, append_assoc)
-
--- where nothing moves
-pub moved_nowhere : (from to size : ℕ) (s : List ℕ) → from ≡ to → from + size ≤ length s → s ≡ moved from to size s
-unfolding moved
-moved_nowhere from to size s e h =
-    sym (overwritten_same from size s h) ∙ ap (λ (at : ℕ). overwritten at (take size (drop from s)) s) e
 
 part_add : (from m n : ℕ) (s : List ℕ) → take m (drop from s) ++ take n (drop (from + m) s) ≡ take (m + n) (drop from s)
 part_add from m n s = rw (take-add m n (drop from s), drop-drop)
@@ -105,6 +92,11 @@ pub word_again : (from size word : ℕ) (s : List ℕ) → Bytes s → from + si
 word_again from size word s b h e =
     let l : length (take size (drop from s)) ≡ size = length_part from size s h in
     rw e (rw l at (to_be_from_be (take size (drop from s)) (bytes_take size (drop from s) (bytes_drop from s b))))
+
+pub moved_word : (from to size word : ℕ) (s : List ℕ) → Bytes s → from + size ≤ length s → word ≡ from_be (take size (drop from s))
+    → overwritten to (to_be size word) s ≡ moved from to size s
+unfolding moved
+moved_word from to size word s b h e = rw (word_again from size word s b h e)
 
 covered : (at i : ℕ) (a b s : List ℕ) → at ≤ i → i + length a ≤ at + length b → i + length a ≤ length s
     → overwritten at b (overwritten i a s) ≡ overwritten at b s

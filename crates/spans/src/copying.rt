@@ -2,8 +2,9 @@
 //
 // A step that may still be refused works on a copy of the state area and copies back what finished: most of its cost is here.
 //
-// Of two slices the first so many bytes: a part of each would be checked twice. Where the library does it in a line, the
-// function is for a contract with the whole slice.
+// Of two slices the first so many bytes: a part of each would be checked twice. A copy is a loop and no `copy_from_slice`, which
+// allows for two slices that overlap: the archive would want memmove, which takes 15 times as long at some addresses
+// (docs/SPEED.md, Known).
 ghost use Rattle.std.specs.Prelude.{◌≡◌, ◌++◌, ◌+◌, ◌≤◌, length, take, drop};
 ghost use Rattle.fields.specs.Zero.{zeros, all_zero};
 
@@ -12,7 +13,9 @@ pub fn copy(src: &[u8], dst: &mut [u8])
     requires { length src.now ≡ length dst.old }
     ensures { dst.new ≡ src.now }
 {
-    dst.copy_from_slice(src);
+    for i in 0..src.len() {
+        dst[i] = src[i];
+    }
 }
 
 // Copies the first `count` bytes of src over those of dst.
@@ -20,7 +23,7 @@ pub fn copy_prefix(src: &[u8], count: usize, dst: &mut [u8])
     requires { (count ≤ length src.now) × (count ≤ length dst.old) }
     ensures { dst.new ≡ take count src.now ++ drop count dst.old }
 {
-    dst[..count].copy_from_slice(&src[..count]);
+    copy(&src[..count], &mut dst[..count]);
 }
 
 // A copy of an area of 65,536 bytes to work on. The part says its length to the compiler, which then makes one copy of it.

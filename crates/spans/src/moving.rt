@@ -15,6 +15,15 @@ fn move_part<const N: usize>(s: &mut [u8], from: usize, to: usize)
     s[to..to + N].copy_from_slice(&part);
 }
 
+// Up to 8 bytes moved: read as one number before they are written.
+fn move_word(s: &mut [u8], from: usize, to: usize, size: usize)
+    requires { (size ≤ 8) × ((from + size ≤ length s.old) × (to + size ≤ length s.old)) }
+    ensures { s.new ≡ moved from to size s.old }
+{
+    let word = fields::read(s, from, size);
+    fields::write(s, to, size, word);
+}
+
 // Words moved up, from the last on, while there are more bytes than one word. Answers how many are left. Counted by hand, as the
 // second loop goes on where the first one stopped.
 fn move_words_up(s: &mut [u8], from: usize, to: usize, size: usize) -> usize
@@ -41,7 +50,7 @@ pub fn move_up(s: &mut [u8], from: usize, to: usize, size: usize)
     ensures { s.new ≡ moved from to size s.old }
 {
     if size < 8 {
-        s.copy_within(from..from + size, to);
+        move_word(s, from, to, size);
         return;
     }
     let first = fields::read_u64(s, from);
@@ -68,17 +77,15 @@ fn move_words_down(s: &mut [u8], from: usize, to: usize, size: usize) -> usize
     done
 }
 
-// The `size` bytes from `from` on moved down to `to`. A record alone goes by words, its last word read before the others are
-// written and written over what they left: with `copy_within`, which ends in a loop over bytes, a pass that drops records
-// takes twice as long. Nor is that called where nothing moves: it would go byte by byte.
+// The `size` bytes from `from` on moved down to `to`, by words, the last word read before the others are written and written over
+// what they left. With `copy_within`, which ends in a loop over bytes, a pass that drops records takes twice as long; bytes that
+// move by less than 32 go one by one; and the archive wants memmove.
 pub fn move_down(s: &mut [u8], from: usize, to: usize, size: usize)
     requires { (to ≤ from) × (from + size ≤ length s.old) }
     ensures { s.new ≡ moved from to size s.old }
 {
-    if size < 8 || 64 < size {
-        if to < from {
-            s.copy_within(from..from + size, to);
-        }
+    if size < 8 {
+        move_word(s, from, to, size);
         return;
     }
     let before = size - 8;
@@ -87,11 +94,32 @@ pub fn move_down(s: &mut [u8], from: usize, to: usize, size: usize)
     fields::write_u64(s, to + before, last);
 }
 
+// The same by words, for few bytes. The last word is written over the end of the one before it. No range counts the words: with
+// `step_by` a word costs more than it writes.
+fn overwrite_words(s: &mut [u8], at: usize, new: &[u8])
+    requires { (8 ≤ length new.now) × (at + length new.now ≤ length s.old) }
+    ensures { s.new ≡ overwritten at new.now s.old }
+{
+    let last = new.len() - 8;
+    let mut done = 0;
+    while done < last {
+        let word = fields::read_u64(new, done);
+        fields::write_u64(s, at + done, word);
+        done += 8;
+    }
+    let word = fields::read_u64(new, last);
+    fields::write_u64(s, at + last, word);
+}
+
 // `new` written from `at` on.
 pub fn overwrite(s: &mut [u8], at: usize, new: &[u8])
     requires { at + length new.now ≤ length s.old }
     ensures { s.new ≡ overwritten at new.now s.old }
 {
+    if (8 <= new.len()) & (new.len() <= 64) {
+        overwrite_words(s, at, new);
+        return;
+    }
     let end = at + new.len();
     crate::copying::copy(new, &mut s[at..end]);
 }

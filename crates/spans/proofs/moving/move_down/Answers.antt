@@ -1,16 +1,8 @@
 -- The last word, read before the others move, is written over what they left: `last_word`.
 use native.Mathlib.Omega.{arith}
-use mathlib.Core.Path.{◌∙◌}
 use borrow.Author.Rules.{rules}
-use Rattle.spans.proofs.MoveLaws.{pasted, moved_nowhere, last_word}
+use Rattle.spans.proofs.MoveLaws.{last_word}
 use Rattle.spans.proofs.moving.move_down.Goals as goal
-
-pub returns-then-to-from : goal.returns-then-to-from
-returns-then-to-from c =
-    c.copy_within.ensures.after ∙ pasted c.args.from c.args.to c.args.size c.args.s.now (omega arith)
-
-pub returns-else-to-from : goal.returns-else-to-from
-returns-else-to-from c = moved_nowhere c.args.from c.args.to c.args.size c.args.s.now (omega arith) (omega arith)
 
 pub returns : goal.returns
 returns c =

@@ -1,12 +1,8 @@
 -- The first word, read before the others move, is written over what they left: `first_word`.
 use native.Mathlib.Omega.{arith}
-use mathlib.Core.Path.{◌∙◌}
 use borrow.Author.Rules.{rules}
-use Rattle.spans.proofs.MoveLaws.{pasted, first_word}
+use Rattle.spans.proofs.MoveLaws.{first_word}
 use Rattle.spans.proofs.moving.move_up.Goals as goal
-
-pub returns-then-size-lt8 : goal.returns-then-size-lt8
-returns-then-size-lt8 c = c.copy_within.ensures.after ∙ pasted c.args.from c.args.to c.args.size c.args.s.now (omega arith)
 
 pub returns : goal.returns
 returns c =
