@@ -3,14 +3,13 @@
 // The first words decide between most.
 //
 // Places twice in a row are told as in question's rising, by another comparison: a test more than a constant.
-ghost use Rattle.std.specs.Prelude.{◌≡◌, map, ◌+◌, ◌≤◌, ◌<◌, length, take, drop};
+ghost use Rattle.std.specs.Prelude.{◌≡◌, map, ◌+◌, ◌*◌, ◌≤◌, ◌<◌, length, take, drop, slice_index, EachIndex};
 ghost use Rattle.fields.specs.Entries.{entries, entry};
 ghost use Rattle.model.specs.Image.{request_of};
 ghost use Rattle.mark_requested.specs.Choices.{Listed, ids_at, repeats, chosen, choice_for, choice_at};
 ghost use Rattle.model.specs.Layout.{id_size, record_size};
+ghost use Rattle.model.specs.Protocol.{tracked_limit};
 
-use crate::Placed;
-use commands::pending::Pending;
 use model::layout::{ID_SIZE, RECORD_SIZE};
 use std::cmp::Ordering;
 
@@ -23,16 +22,17 @@ pub enum Choice {
 }
 
 // Whether the next id is the same as this one.
-fn comes_again(new: Placed, j: usize) -> bool
-    requires { j < length new.places.now }
-    ensures { result ≡ repeats (ids_at new.entry.ids.now (drop j new.entry.places.now)) }
+fn comes_again(ids: &[u8], places: &[u16], j: usize) -> bool
+    requires listed { EachIndex places.now (λ k. Listed ids.now (slice_index places.now k)) }
+    requires inside { j < length places.now }
+    ensures { result ≡ repeats (ids_at ids.now (drop j places.now)) }
 {
-    if new.places.len() <= j + 1 {
+    if places.len() <= j + 1 {
         return false;
     }
-    let p = usize::from(new.places[j]) * ID_SIZE;
-    let q = usize::from(new.places[j + 1]) * ID_SIZE;
-    let words = keys::key_unlike(new.ids, p, new.ids, q, ID_SIZE);
+    let p = usize::from(places[j]) * ID_SIZE;
+    let q = usize::from(places[j + 1]) * ID_SIZE;
+    let words = keys::key_unlike(ids, p, ids, q, ID_SIZE);
     words.left == words.right
 }
 
@@ -50,23 +50,34 @@ fn compare(table: &[u8], p: usize, ids: &[u8], q: usize) -> Choice
 }
 
 // The record at i, if there is one, or the id at a place.
-fn choose(pending: Pending, i: usize, ids: &[u8], place: usize) -> Choice
-    requires { (i ≤ pending.count) × Listed ids.now place }
-    ensures { result ≡ choice_for (entry id_size place ids.now) (map request_of (drop i (entries record_size pending.entry.count pending.entry.table.now))) }
+fn choose(table: &[u8], count: usize, i: usize, ids: &[u8], place: usize) -> Choice
+    requires records { (count * record_size ≤ length table.now) × ((i ≤ count) × (count ≤ tracked_limit)) }
+    requires listed { Listed ids.now place }
+    ensures { result ≡ choice_for (entry id_size place ids.now) (map request_of (drop i (entries record_size count table.now))) }
 {
-    if pending.count <= i {
+    if count <= i {
         return Choice::Enter;
     }
-    compare(pending.table, i * RECORD_SIZE, ids, place * ID_SIZE)
+    compare(table, i * RECORD_SIZE, ids, place * ID_SIZE)
 }
 
-// The record at i, or the id at place j of those left, in the order of the ids.
-pub fn next_choice(pending: Pending, i: usize, new: Placed, j: usize) -> Choice
-    requires { (i ≤ pending.count) × (j < length new.places.now) }
-    ensures { result ≡ choice_at (ids_at new.entry.ids.now (drop j new.entry.places.now)) (map request_of (drop i (entries record_size pending.entry.count pending.entry.table.now))) }
+// The record at i, or the id at place j of those left, in the order of the ids. A table with its count and ids with their places,
+// not a `Pending` and a `Placed`: neither order nor number of them is asked for.
+pub fn next_choice(
+    table: &[u8],
+    count: usize,
+    i: usize,
+    ids: &[u8],
+    places: &[u16],
+    j: usize,
+) -> Choice
+    requires records { (count * record_size ≤ length table.now) × ((i ≤ count) × (count ≤ tracked_limit)) }
+    requires listed { EachIndex places.now (λ k. Listed ids.now (slice_index places.now k)) }
+    requires inside { j < length places.now }
+    ensures { result ≡ choice_at (ids_at ids.now (drop j places.now)) (map request_of (drop i (entries record_size count table.now))) }
 {
-    if comes_again(new, j) {
+    if comes_again(ids, places, j) {
         return Choice::Skip;
     }
-    choose(pending, i, new.ids, usize::from(new.places[j]))
+    choose(table, count, i, ids, usize::from(places[j]))
 }

@@ -7,7 +7,7 @@
 // The table is written, so count and facts stand beside it: a ghost field would have to hold at each write.
 #![tactic(auto)]
 
-mod choosing;
+pub mod choosing;
 pub mod entering;
 pub mod merging;
 
@@ -78,6 +78,37 @@ fn mark_many(
     Ok(held)
 }
 
+// The same with rooms made here, of which a part is used for this number of ids: there is no heap. They are a function's of their
+// own, since few ids would pay for clearing them in `mark_requested`.
+fn mark_in_rooms(
+    table: &mut [u8],
+    count: usize,
+    most: usize,
+    asking: Asking,
+    ids: &[u8],
+    number: usize,
+) -> Result<usize, TrackerError>
+    requires number_value { number ≡ length ids.now / id_size }
+    requires id_size_len { (length ids.now % id_size ≡ 0) × ((length ids.now ≤ id_list_size) × ((count ≤ most) × ((most ≤ tracked_limit) × (most * record_size ≤ length table.old)))) }
+    requires table_value { rising id_size (entries record_size count table.old) ≡ true }
+    ensures value { result ≡ marked_as most (mark_requested asking.clock asking.typeid asking.peer (ids_in ids.now) (requests_in count table.old)) }
+    ensures table_after { table.new ≡ held_within most count (mark_requested asking.clock asking.typeid asking.peer (ids_in ids.now) (requests_in count table.old)) table.old }
+{
+    let mut places = [0u16; TRACKED_LIMIT];
+    let mut spare = [0u16; TRACKED_LIMIT];
+    let mut room = [0u8; 55350];
+    mark_many(
+        table,
+        count,
+        most,
+        asking,
+        ids,
+        &mut places[..number],
+        &mut spare[..number],
+        &mut room,
+    )
+}
+
 // Each id enters once, with type and peer, stamp `clock` and checks 0, unless it is pending. With more than `most`
 // requests pending then, the answer is Full and the table stays.
 pub fn mark_requested(
@@ -104,18 +135,5 @@ pub fn mark_requested(
     if (number <= 8) & (count + number <= most) {
         return Ok(crate::entering::mark_each(table, count, asking, ids));
     }
-    // Arrays, of which a part is used: there is no heap here.
-    let mut places = [0u16; TRACKED_LIMIT];
-    let mut spare = [0u16; TRACKED_LIMIT];
-    let mut room = [0u8; 55350];
-    mark_many(
-        table,
-        count,
-        most,
-        asking,
-        ids,
-        &mut places[..number],
-        &mut spare[..number],
-        &mut room,
-    )
+    mark_in_rooms(table, count, most, asking, ids, number)
 }

@@ -59,7 +59,14 @@ fn turn(
     ensures value { result ≡ front_after (choice_at (ids_at new.entry.ids.now (drop front.ids new.entry.places.now)) (map request_of (drop front.records (entries record_size pending.entry.count pending.entry.table.now)))) front }
     ensures room_after { room.new ≡ room_after (choice_at (ids_at new.entry.ids.now (drop front.ids new.entry.places.now)) (map request_of (drop front.records (entries record_size pending.entry.count pending.entry.table.now)))) (entry record_size front.records pending.entry.table.now) (entry id_size (get_or new.entry.places.now front.ids 0) new.entry.ids.now ++ drop id_size blank.now) front.held room.old }
 {
-    match crate::choosing::next_choice(pending, front.records, new, front.ids) {
+    match crate::choosing::next_choice(
+        pending.table,
+        pending.count,
+        front.records,
+        new.ids,
+        new.places,
+        front.ids,
+    ) {
         Choice::Keep => {
             let from = front.records * RECORD_SIZE;
             let end = from + RECORD_SIZE;

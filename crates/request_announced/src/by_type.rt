@@ -1,14 +1,14 @@
 // Pairs of type and id through rule 3, one list a type: rule 4, and the ids of a lost peer.
 //
 // The table is written, so count, bound and facts stand beside it.
-ghost use Rattle.std.specs.Prelude.{◌≡◌, true, ◌+◌, ◌*◌, ◌/◌, ◌≤◌, ◌<◌, length, leb};
+ghost use Rattle.std.specs.Prelude.{◌≡◌, true, [], ◌+◌, ◌*◌, ◌/◌, ◌≤◌, ◌<◌, length, leb};
 ghost use Rattle.fields.specs.Entries.{entries, rising};
 ghost use Rattle.model.specs.Lists.{pairs_in, entries_of};
 ghost use Rattle.commands.specs.Pending.{requests_in, holding};
 ghost use Rattle.commands.specs.Sent.{sent_at};
 ghost use Rattle.request_announced.specs.Requested.{requested_as};
 ghost use Rattle.request_announced.specs.ByType.{performed_by_type};
-ghost use Rattle.request_announced.specs.Run.{run, Ready, Asked};
+ghost use Rattle.request_announced.specs.Run.{run, Sorted, Ready, Asked};
 ghost use Rattle.model.specs.Layout.{command_size, id_size, pair_list_size, pair_size, record_size};
 ghost use Rattle.model.specs.Protocol.{tracked_limit};
 
@@ -56,6 +56,67 @@ fn ask_each(
     Ok(done)
 }
 
+// The same for asks that have no ids yet, with room to work in: `ids` and `rest`, for an id of each pair.
+fn ask_with_room(
+    asks: Asks,
+    table: &mut [u8],
+    ids: &mut [u8],
+    rest: &mut [u8],
+    out: &mut [u8],
+    start: Written,
+) -> Result<Written, TrackerError>
+    requires sorted { Sorted (run asks table.old [] out.old start) }
+    requires ids_room { length asks.pairs.now / pair_size * id_size ≤ length ids.old }
+    requires rest_room { length asks.pairs.now / pair_size * id_size ≤ length rest.old }
+    ensures { Asked (run asks.entry table.old rest.old out.old start) result table.new out.new }
+{
+    crate::pairs::put_ids(asks.pairs, asks.places, ids);
+    let size = asks.pairs.len() / PAIR_SIZE * ID_SIZE;
+    let gathered = Asks {
+        most: asks.most,
+        gate: asks.gate,
+        clock: asks.clock,
+        peer: asks.peer,
+        stored: asks.stored,
+        pairs: asks.pairs,
+        places: asks.places,
+        ids: &ids[..size],
+    };
+    ask_each(gathered, table, rest, out, start)
+}
+
+// The same of at most 32 pairs, with room for their ids. This and the next are functions of their own: in one with an earlier
+// return both rooms would be cleared before it.
+fn ask_few(
+    asks: Asks,
+    table: &mut [u8],
+    out: &mut [u8],
+    start: Written,
+) -> Result<Written, TrackerError>
+    requires sorted { Sorted (run asks table.old [] out.old start) }
+    requires few { length asks.pairs.now / pair_size ≤ 32 }
+    ensures { Asked (run asks.entry table.old [] out.old start) result table.new out.new }
+{
+    let mut ids = [0u8; 1024];
+    let mut rest = [0u8; 1024];
+    ask_with_room(asks, table, &mut ids, &mut rest, out, start)
+}
+
+// The same of as many as there may be.
+fn ask_many(
+    asks: Asks,
+    table: &mut [u8],
+    out: &mut [u8],
+    start: Written,
+) -> Result<Written, TrackerError>
+    requires sorted { Sorted (run asks table.old [] out.old start) }
+    ensures { Asked (run asks.entry table.old [] out.old start) result table.new out.new }
+{
+    let mut ids = [0u8; ID_LIST_SIZE];
+    let mut rest = [0u8; ID_LIST_SIZE];
+    ask_with_room(asks, table, &mut ids, &mut rest, out, start)
+}
+
 // One list a type through rule 3, types rising, ids in their order. `pairs` are type and id, in any order.
 // With Full, what is left in the table and behind the place is of no use.
 pub fn request_by_type(
@@ -79,9 +140,6 @@ pub fn request_by_type(
 {
     let number = pairs.len() / PAIR_SIZE;
     let places = crate::pairs::places_by_type(pairs);
-    let mut ids = [0u8; ID_LIST_SIZE];
-    crate::pairs::put_ids(pairs, &places[..number], &mut ids);
-    let mut rest = [0u8; ID_LIST_SIZE];
     let asks = Asks {
         most,
         gate,
@@ -90,7 +148,12 @@ pub fn request_by_type(
         stored,
         pairs,
         places: &places[..number],
-        ids: &ids[..number * ID_SIZE],
+        ids: b"",
     };
-    ask_each(asks, table, &mut rest, out, Written { count, place })
+    let start = Written { count, place };
+    // Mostly they are few or none, and so is the room to clear for them.
+    if number <= 32 {
+        return ask_few(asks, table, out, start);
+    }
+    ask_many(asks, table, out, start)
 }

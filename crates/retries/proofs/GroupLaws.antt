@@ -18,7 +18,7 @@ use Rattle.fields.proofs.EntriesLaws.{length_entry, length_joined, entries_joine
 use Rattle.fields.proofs.NumberLaws.{bytes_take, bytes_drop}
 use Rattle.fields.proofs.PartLaws.{part_below, length_part}
 use Rattle.fields.proofs.SortLaws.{map_sorted, all_sorted, length_sorted}
-use Rattle.fields.proofs.AllLaws.{all_map, all_weaker}
+use Rattle.fields.proofs.AllLaws.{all_map}
 use Rattle.order.proofs.MappedLaws.{next_mapped, drop_map, take_map}
 use Rattle.order.specs.Gathered.{gathered}
 use Rattle.order.proofs.GatheredLaws.{gathered_wide, length_gathered, gathered_front}

@@ -2,7 +2,7 @@
 use Prim.Native.Nat.{ℕ}
 use mathlib.Core.Path.{◌≡◌, refl, sym}
 use mathlib.Core.Bool.{Bool, true, false, cond}
-use mathlib.Core.List.{List, [], ◌∷◌}
+use mathlib.Core.List.{List, []}
 use Rattle.model.specs.Sections.{Item, batches_of}
 use Rattle.model.specs.Requests.{Sending}
 use Rattle.model.specs.Check.{retry_sendings}

@@ -44,8 +44,11 @@ fn put_batches(table: &[u8], places: &[u16], ids: &[u8], out: &mut [u8], place: 
     ensures value { result ≡ behind place (sendings_of (items_at table.now places.now)) }
 {
     let grouped = crate::batches::grouped(no_batches(), table, places);
+    // Taken out of the struct, and by index: a part of it would be lent from a copy of 32 KiB.
+    let list = grouped.list;
     let mut next = place;
-    for one in &grouped.list[..grouped.count] {
+    for i in 0..grouped.count {
+        let one = list[i];
         let from = one.first * ID_SIZE;
         let end = from + one.count * ID_SIZE;
         let at = commands::writing::put_requests(

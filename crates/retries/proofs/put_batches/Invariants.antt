@@ -2,5 +2,5 @@
 use Rattle.retries.proofs.WritingLaws.{Writing}
 use Rattle.retries.proofs.put_batches.Given as goal
 
-abbrev pub invariant-loop-one : goal.invariant-loop-one
-invariant-loop-one l = Writing l.table l.places l.fn.place l.initial.out l.out l.next l.one-index
+abbrev pub invariant-loop-i : goal.invariant-loop-i
+invariant-loop-i l = Writing l.table l.places l.fn.place l.initial.out l.out l.next l.i
