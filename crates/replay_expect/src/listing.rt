@@ -2,6 +2,7 @@
 use crate::replay::{Awaits, Fault, Replay};
 use replay_text::areas::Areas;
 use replay_text::line_words::Head;
+use replay_text::words::Words;
 use std::io;
 use std::io::Write;
 
@@ -93,11 +94,12 @@ impl Listing {
         })
     }
 
-    // A line that asks for no call, or one behind a difference.
-    pub fn take<W: Write>(
+    // A line that asks for no call, or one behind a difference, its words read into the room of those before.
+    pub fn take_with<W: Write>(
         self,
         out: &mut W,
         areas: &mut Areas,
+        words: &mut Words,
         head: Option<Head>,
         line: &[u8],
     ) -> io::Result<Listing> {
@@ -108,10 +110,21 @@ impl Listing {
             return Ok(self);
         }
         let took = match head {
-            Some(head) => crate::expecting::take(areas, head, line, self.replay),
+            Some(head) => crate::expecting::take_with(areas, words, head, line, self.replay),
             None => Err(Fault::Form),
         };
         Ok(self.held(took))
+    }
+
+    // The same of one line alone.
+    pub fn take<W: Write>(
+        self,
+        out: &mut W,
+        areas: &mut Areas,
+        head: Option<Head>,
+        line: &[u8],
+    ) -> io::Result<Listing> {
+        self.take_with(out, areas, &mut Words::none(), head, line)
     }
 
     // The last line that is printed.

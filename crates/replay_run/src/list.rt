@@ -4,31 +4,34 @@ ghost use Rattle.std.specs.Prelude.{◌≡◌, length};
 use replay_expect::listing::Listing;
 use replay_text::areas::Areas;
 use replay_text::line_words::Head;
+use replay_text::words::Words;
 use std::io;
 use std::io::{Read, Write};
 
-// One line of a list.
-fn take<W: Write>(
-    out: &mut W,
-    areas: &mut Areas,
-    line: &[u8],
-    listing: Listing,
-) -> io::Result<Listing> {
-    let next = listing.counted();
-    match Head::of(line) {
-        Some(Head::Call(call)) if next.fault.is_none() => {
-            let took = crate::stream::take_call(areas, call, line, next.replay);
-            Ok(next.held(took))
-        }
-        head => next.take(out, areas, head, line),
+// A NUL in front of these words, with nothing behind, stands for the space behind them.
+fn read_as(line: &[u8]) -> &[u8] {
+    match line {
+        b"\x00?" => b"? ",
+        b"\x00%" => b"% ",
+        b"\x00map" => b"map ",
+        _ => line,
     }
 }
 
-// All lines of a list.
+// All lines of a list. In one function: one for a line would touch the pages of a call's areas at every line.
 fn lines<W: Write>(out: &mut W, areas: &mut Areas, text: &[u8]) -> io::Result<Listing> {
     let mut listing = Listing::at_first();
+    let mut words = Words::none();
     for line in text.split(|byte| *byte == b'\n') {
-        listing = take(out, areas, line, listing)?;
+        let line = read_as(line);
+        let next = listing.counted();
+        listing = match Head::of(line) {
+            Some(Head::Call(call)) if next.fault.is_none() => {
+                let took = crate::stream::take_call(areas, &mut words, call, line, next.replay);
+                next.held(took)
+            }
+            head => next.take_with(out, areas, &mut words, head, line)?,
+        };
     }
     listing.end_stream(out)
 }

@@ -3,7 +3,7 @@ use replay_expect::made::made;
 use replay_expect::replay::{Awaits, Fault, Replay};
 use replay_text::areas::Areas;
 use replay_text::line_words::{AreaCall, Call, MapCall};
-use replay_text::words::{Words, read_words};
+use replay_text::words::Words;
 
 // A call of the map.
 fn map_call(
@@ -33,18 +33,19 @@ fn area_call(
     Ok(crate::calling::make(areas, call, long, wide, words))
 }
 
-// A line that asks for a call.
+// A line that asks for a call, its words read into the room of those before.
 pub fn take_call(
     areas: &mut Areas,
+    words: &mut Words,
     call: Call,
     line: &[u8],
     replay: Replay,
 ) -> Result<Replay, Fault> {
-    let words = read_words(line, call.shape()).ok_or(Fault::Form)?;
+    words.read_line(line, call.shape()).ok_or(Fault::Form)?;
     replay.expects(Awaits::Call)?;
     let answer = match call {
-        Call::Area(call) => area_call(areas, call, &words, replay)?,
-        Call::Map(call) => map_call(areas, call, &words, replay)?,
+        Call::Area(call) => area_call(areas, call, words, replay)?,
+        Call::Map(call) => map_call(areas, call, words, replay)?,
     };
-    Ok(made(areas, call, &words, answer, replay))
+    Ok(made(areas, call, words, answer, replay))
 }

@@ -27,7 +27,7 @@ fn is_nothing(word: &[u8]) -> bool {
 }
 
 // What the words of a line say: a number at the place of each word that is one, and bytes.
-#[derive(Drop)]
+#[derive(Clone, Copy)]
 pub struct Words {
     pub numbers: [u64; 17],
     // the bytes of the words of hex, one behind another
@@ -43,7 +43,7 @@ pub struct Words {
 
 impl Words {
     // Before the first word.
-    fn none() -> Words {
+    pub fn none() -> Words {
         Words {
             numbers: [0; 17],
             bytes: [0; 131072],
@@ -100,19 +100,39 @@ impl Words {
         }
         Some(())
     }
+
+    // Forgets what was read. Bytes are read only where they were written, so that they stay.
+    fn forget(&mut self) {
+        self.numbers = [0; 17];
+        self.a = 0;
+        self.b = 0;
+        self.c = 0;
+        self.d = 0;
+        self.e = 0;
+    }
+
+    // The words of a line behind its first, which have to be as many as the shape has letters, in place of what was read before.
+    // One room serves all lines: one for each would be cleared and moved at each.
+    pub fn read_line(&mut self, line: &[u8], shape: &[u8]) -> Option<()>
+        requires { length shape.now ≤ 17 }
+    {
+        self.forget();
+        let mut texts = line.split(|byte| *byte == b' ').skip(1);
+        for (i, letter) in shape.iter().enumerate() {
+            self.read(i, *letter, texts.next()?)?;
+        }
+        match texts.next() {
+            Some(_) => None,
+            None => Some(()),
+        }
+    }
 }
 
-// The words of a line behind its first, which have to be as many as the shape has letters.
+// The same by value, of a line alone.
 pub fn read_words(line: &[u8], shape: &[u8]) -> Option<Words>
     requires { length shape.now ≤ 17 }
 {
     let mut words = Words::none();
-    let mut texts = line.split(|byte| *byte == b' ').skip(1);
-    for (i, letter) in shape.iter().enumerate() {
-        words.read(i, *letter, texts.next()?)?;
-    }
-    match texts.next() {
-        Some(_) => None,
-        None => Some(words),
-    }
+    words.read_line(line, shape)?;
+    Some(words)
 }
