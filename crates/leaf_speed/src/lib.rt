@@ -76,37 +76,41 @@ pub extern "C" fn leaf_run_same(s: &[u8], p: usize, t: &[u8], q: usize, size: us
     has(s, p, size) && has(t, q, size) && keys::run_same(s, p, t, q, size)
 }
 
-// How many ids, 32 bytes each, `holds` puts before the one that follows. A loop, as a chain over pairs compares slower.
-fn neighbours<F: Fn(&[u8; 32], &[u8; 32]) -> bool>(ids: &[u8], holds: F) -> usize
-    requires { F.IsAlwaysCallable holds }
-{
-    let (ids, _) = ids.as_chunks::<32>();
+// How many ids, 32 bytes each, come before the one that follows. Two places in one slice, as the core compares them; the last
+// 32 bytes are an id, and what is too short for one stands in front.
+#[unsafe(no_mangle)]
+pub extern "C" fn leaf_ids_before(ids: &[u8]) -> usize {
     let mut count: usize = 0;
-    for i in 1..ids.len() {
-        if holds(&ids[i - 1], &ids[i]) {
+    for i in 1..ids.len() / 32 {
+        let next = ids.len() - i * 32;
+        if keys::run_before(ids, next - 32, ids, next, 32) {
             count += 1;
         }
     }
     count
 }
 
-// How many ids, 32 bytes each, come before the one that follows.
-#[unsafe(no_mangle)]
-pub extern "C" fn leaf_ids_before(ids: &[u8]) -> usize {
-    neighbours(ids, |id, next| keys::run_before(id, 0, next, 0, 32))
-}
-
 // How many are the same as the one that follows.
 #[unsafe(no_mangle)]
 pub extern "C" fn leaf_ids_same(ids: &[u8]) -> usize {
-    neighbours(ids, |id, next| keys::run_same(id, 0, next, 0, 32))
+    let mut count: usize = 0;
+    for i in 1..ids.len() / 32 {
+        let next = ids.len() - i * 32;
+        if keys::run_same(ids, next - 32, ids, next, 32) {
+            count += 1;
+        }
+    }
+    count
 }
 
-// All words of s together, read one by one.
+// All words of s together, read one by one, the last one first.
 #[unsafe(no_mangle)]
 pub extern "C" fn leaf_read_u64(s: &[u8]) -> u64 {
-    s.chunks_exact(8)
-        .fold(0, |all, word| all ^ fields::read_u64(word, 0))
+    let mut all: u64 = 0;
+    for i in 1..s.len() / 8 + 1 {
+        all ^= fields::read_u64(s, s.len() - i * 8);
+    }
+    all
 }
 
 // The narrow widths, and the writes, one at a time.
