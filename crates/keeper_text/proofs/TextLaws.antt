@@ -146,7 +146,7 @@ module _ {k : Keeping} {text out₀ table out : List ℕ} {keeper : Keeper} {fro
   run_room = omega (arith, s.place, s.inside, s.long, s.room)
 
   -- the text is used up but for a line without its line feed
-  pub run_ends : length text ≤ end → Prints k text out₀ (record { written = at; rest = Some (record { keeper = keeper; used = from }) }) table out
+  pub run_ends : length text ≤ end → Prints k text out₀ (record { written = at; used = from; rest = Some (record { keeper = keeper; used = from }) }) table out
   run_ends h =
       let rest : List ℕ = drop from text in
       let l : length rest ≡ length text - from = length-drop from text in
@@ -158,6 +158,8 @@ module _ {k : Keeping} {text out₀ table out : List ℕ} {keeper : Keeper} {fro
           within = s.inside;
           kept = s.kept;
         };
+        reached = refl;
+        within = s.inside;
         place = run_room;
         stay = s.stay;
       }
@@ -190,9 +192,9 @@ module _ {k : Keeping} {text out₀ table out : List ℕ} {keeper : Keeper} {fro
     prints_here more = s.prints more ∙ ap (λ (ls : List (List ℕ)). take at out ++ printed_from (keeping_in keeper table) ls) (lines_here more)
 
     -- a line ends it
-    pub run_stops : {made : Option (Keeper × ℕ)} {table' out' : List ℕ} → made ≡ None → Told step at keeper.count table out made table' out'
-        → Prints k text out₀ (record { written = at; rest = None }) table' out'
-    run_stops g m =
+    pub run_stops : {made : Option (Keeper × ℕ)} {table' out' : List ℕ} {used : ℕ} → used ≤ length text → made ≡ None → Told step at keeper.count table out made table' out'
+        → Prints k text out₀ (record { written = at; used = used; rest = None }) table' out'
+    run_stops h g m =
         let z : step ≡ ended = ended_means at step (sym g ∙ m.0) in
         let o : _ ≡ out = m.1.1.0 ∙ ap (λ (x : Step). overwritten at (bytes_of x) out) z ∙ overwritten_nil at out in
         record {
@@ -201,6 +203,8 @@ module _ {k : Keeping} {text out₀ table out : List ℕ} {keeper : Keeper} {fro
               ∙ ap (λ (x : Step). take at out ++ printing x (others more)) z
               ∙ ap (λ (x : List ℕ). take at x ++ []) (sym o);
           left = tt;
+          reached = tt;
+          within = h;
           place = omega (arith, run_room, ap length o);
           stay = o ∙ s.stay ∙ ap (λ (x : List ℕ). overwritten 0 (take at x) out₀) (sym o);
         }

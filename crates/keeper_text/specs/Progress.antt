@@ -24,6 +24,8 @@ pub record Prints (k : Keeping) (text out : List ℕ) (r : Progress) (table out'
   -- what is printed of the text and whatever follows: what was written, and then what the rest gives
   pub prints : (more : List ℕ) → printed_from k (lines_of (text ++ more)) ≡ take r.written out' ++ rest_prints table text r.rest more
   pub left : IfSome r.rest (Leaves table text)
+  pub reached : IfSome r.rest (λ rest. rest.used ≡ r.used)
+  pub within : r.used ≤ length text
   pub place : r.written + 126 ≤ length out'
   -- later bytes stay
   pub stay : out' ≡ overwritten 0 (take r.written out') out

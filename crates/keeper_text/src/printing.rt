@@ -26,6 +26,8 @@ pub struct Rest {
 #[derive(Clone, Copy)]
 pub struct Progress {
     pub written: usize,
+    // where the text begins that was not answered; a line that ended the program stands there
+    pub used: usize,
     // nothing where a line ended the program
     pub rest: Option<Rest>,
 }
@@ -44,6 +46,7 @@ pub fn answer_lines(table: &mut [u8], keeper: Keeper, text: &[u8], out: &mut [u8
         let Some((next, place)) = answer_line(table, now, &text[from..end], out, at) else {
             return Progress {
                 written: at,
+                used: from,
                 rest: None,
             };
         };
@@ -54,6 +57,7 @@ pub fn answer_lines(table: &mut [u8], keeper: Keeper, text: &[u8], out: &mut [u8
     }
     Progress {
         written: at,
+        used: from,
         rest: Some(Rest {
             keeper: now,
             used: from,

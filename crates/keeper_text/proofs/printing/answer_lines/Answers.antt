@@ -1,5 +1,6 @@
 -- The lines before `from` are answered, and the rest will print what is left: `Running`.
 use mathlib.Core.Path.{refl, ◌∙◌}
+use native.Mathlib.Omega.{arith}
 use Rattle.keeper_text.proofs.TextLaws.{run_starts, run_ends, run_stops, run_turn}
 use Rattle.keeper_text.proofs.printing.answer_lines.Goals as goal
 
@@ -10,7 +11,7 @@ loop-end-init c =
 pub returns-in_default : goal.returns-in_default
 returns-in_default c =
     let says = c.answer_line.ensures in
-    run_stops c.loop-end.invariant.0 c.loop-end-test.true c.in_default.is (says.value, (says.table_after, (says.out_after, says.holds)))
+    run_stops c.loop-end.invariant.0 c.loop-end-test.true (omega (arith, c.loop-end.invariant.0.inside)) c.in_default.is (says.value, (says.table_after, (says.out_after, says.holds)))
 
 pub loop-end-preserved : goal.loop-end-preserved
 loop-end-preserved c =
