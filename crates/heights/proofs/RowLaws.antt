@@ -148,11 +148,11 @@ module _ (view : List ℕ) (height : ℕ) where
         rw s.1 at (ltb-true (height - first_height view) (row_count view)
         (and_right (leb (first_height view) height) (ltb (height - first_height view) (row_count view)) s.0))
 
-    pub row_within : view_fits view ≡ true → row * row_size + 4 + row_size ≤ length view
+    pub row_within : 4 ≤ length view → row * row_size + 4 + row_size ≤ length view
     unfolding row_count
-    row_within v =
+    row_within l =
         let b : row < (length view - 4) / row_size = row_below in
-        omega (arith, fits_front view v)
+        omega arith
 
     pub view_row : view_of view height ≡ some (header_of (row_at row view))
     unfolding view_of row_at
@@ -177,4 +177,4 @@ module _ {view : List ℕ} {first count end height : ℕ} (t : Turn view first c
     next_row = view_row view (height + 1) (by_view e)
 
     pub next_within : view_fits view ≡ true → row * row_size + 4 + row_size ≤ length view
-    next_within = row_within view (height + 1) (by_view e)
+    next_within v = row_within view (height + 1) (by_view e) (fits_front view v)

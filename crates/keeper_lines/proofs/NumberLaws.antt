@@ -126,16 +126,27 @@ within_low : (low high n : ℕ) → within low high n ≡ true → low ≤ n
 unfolding within
 within_low low high n e = leb-true low n (and_left (leb low n) (leb n high) e)
 
+hex_of : (byte n : ℕ) (d l u : Bool) → within 48 57 byte ≡ d → within 97 102 byte ≡ l → within 65 70 byte ≡ u
+    → cond d (Some (byte - 48)) (cond l (Some (byte - 97 + 10)) (cond u (Some (byte - 65 + 10)) None)) ≡ Some n → n < 16
+hex_of byte n true l u e f g h = let k : byte - 48 ≡ n = cc in omega (arith, within_high 48 57 byte e)
+hex_of byte n false true u e f g h = let k : byte - 97 + 10 ≡ n = cc in omega (arith, within_high 97 102 byte f)
+hex_of byte n false false true e f g h = let k : byte - 65 + 10 ≡ n = cc in omega (arith, within_high 65 70 byte g)
+hex_of byte n false false false e f g h = let z : ◌≡◌ {A = ℕ} 0 1 = cc in omega arith
+
+pub hex_below : (byte n : ℕ) → hex_digit byte ≡ Some n → n < 16
+unfolding hex_digit
+hex_below byte n h = hex_of byte n (within 48 57 byte) (within 97 102 byte) (within 65 70 byte) refl refl refl h
+
 module _ (byte : ℕ) where
-  hex_digit_lem : 48 ≤ byte → byte ≤ 57 → hex_digit byte ≡ Some (byte - 48)
+  pub hex_digit_lem : 48 ≤ byte → byte ≤ 57 → hex_digit byte ≡ Some (byte - 48)
   unfolding hex_digit
   hex_digit_lem l h = rw (within_yes 48 57 byte l h)
 
-  hex_upper : 65 ≤ byte → byte ≤ 70 → hex_digit byte ≡ Some (byte - 65 + 10)
+  pub hex_upper : 65 ≤ byte → byte ≤ 70 → hex_digit byte ≡ Some (byte - 65 + 10)
   unfolding hex_digit
   hex_upper l h = rw (within_above 48 57 byte (omega arith), within_below 97 102 byte (omega arith), within_yes 65 70 byte l h)
 
-  hex_lower : 97 ≤ byte → byte ≤ 102 → hex_digit byte ≡ Some (byte - 97 + 10)
+  pub hex_lower : 97 ≤ byte → byte ≤ 102 → hex_digit byte ≡ Some (byte - 97 + 10)
   unfolding hex_digit
   hex_lower l h = rw (within_above 48 57 byte (omega arith), within_yes 97 102 byte l h)
 
@@ -165,6 +176,18 @@ module _ (byte : ℕ) where
   digit_read d small (inl h) = let same : byte - 48 ≡ d = omega arith in rw (hex_digit_lem (omega arith) (omega arith), same)
   digit_read d small (inr (inl h)) = let same : byte - 65 + 10 ≡ d = omega arith in rw (hex_upper (omega arith) (omega arith), same)
   digit_read d small (inr (inr h)) = let same : byte - 97 + 10 ≡ d = omega arith in rw (hex_lower (omega arith) (omega arith), same)
+
+hex_pair_below : (high low : Option ℕ) (n : ℕ) → ((h : ℕ) → high ≡ Some h → h < 16) → ((l : ℕ) → low ≡ Some l → l < 16) → hex_pair high low ≡ Some n → n < 256
+hex_pair_below None low n f g e = let z : ◌≡◌ {A = ℕ} 0 1 = cc in omega arith
+hex_pair_below (Some h) None n f g e = let z : ◌≡◌ {A = ℕ} 0 1 = cc in omega arith
+hex_pair_below (Some h) (Some l) n f g e = let k : h * 16 + l ≡ n = cc in omega (arith, f h refl, g l refl)
+
+pub hex_byte_below : (bytes : List ℕ) (n : ℕ) → hex_byte bytes ≡ Some n → n < 256
+unfolding hex_byte
+hex_byte_below [] n e = let z : ◌≡◌ {A = ℕ} 0 1 = cc in omega arith
+hex_byte_below (a ∷ []) n e = let z : ◌≡◌ {A = ℕ} 0 1 = cc in omega arith
+hex_byte_below (a ∷ (b ∷ [])) n e = hex_pair_below (hex_digit a) (hex_digit b) n (hex_below a) (hex_below b) e
+hex_byte_below (a ∷ (b ∷ (c ∷ bytes))) n e = let z : ◌≡◌ {A = ℕ} 0 1 = cc in omega arith
 
 pub hex_none : hex_byte [] ≡ None
 unfolding hex_byte

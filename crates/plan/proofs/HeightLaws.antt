@@ -31,12 +31,12 @@ unfolding steps.advance_from args_of advance_of
 reached st c from r view height eh ev a = record { height = rw (eh, ev, sym a); seen = rw (eh, ev, sym a) }
 
 -- Rule 4's work asks for the window's sections of the first listed peer; a purge changes nothing about that.
-pub asked : (st : State) (c : calls.Call) (purges : Bool) (height : ℕ) (shown : Shown) (work : Work)
-    → Shows c shown
-    → work ≡ sections_work purges (first_of (peers_in shown.peers.now))
+pub asked : (st : State) (c : calls.Call) (purges : Bool) (height : ℕ) (peers : List ℕ) (work : Work)
+    → c.peers ≡ peers
+    → work ≡ sections_work purges (first_of (peers_in peers))
     → acts_by st c height work ≡ (steps.sections_from st (args_of c) height).acts
 unfolding steps.sections_from args_of request_next_sections request_sections_from
-asked st c purges height shown work s e = rw (e, sym s.peers) (go purges (first_of (peers_in c.peers)))
+asked st c purges height peers work p e = rw (e, sym p) (go purges (first_of (peers_in c.peers)))
   where
     go : (b : Bool) (o : Option ℕ) → acts_by st c height (sections_work b o) ≡ (request_sections_from (view_of c.view) c.height height o).acts
     go false none = refl

@@ -35,4 +35,4 @@ module _ (area commands : List ℕ) (c : calls.Call) (p : Plan) (g : given_refus
   pub not_full : {A : Type 0} → works_on_copies p.work p.announces ≡ false → is_one_list p.work ≡ false → (Err Full) ≡ performed_as first_place w → A
   not_full small several full =
       let room : fits w ≡ true = few_fit (decode area) c p (area_well area facts.state_size bytes facts.image).tracked small several in
-      absurd (false≢true (sym (full_fails w full) ∙ room))
+      absurd (false≢true (sym (full_fails first_place w full) ∙ room))

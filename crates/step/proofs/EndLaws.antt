@@ -16,7 +16,8 @@ use Rattle.model.specs.Calls as calls
 use Rattle.model.specs.Calls.{args_of, step_bytes, step_answer, result_refusal, call_refusal, step_refusal, step}
 use Rattle.model.proofs.FinishedLaws.{passed_areas}
 use Rattle.model.proofs.EntryLaws.{step_refused, step_finished}
-use Rattle.commands.specs.Sent.{first_place, behind}
+use Rattle.commands.specs.Sent.{behind}
+use Rattle.commands.specs.declared.place.Place.{Place}
 use Rattle.work.specs.declared.Counts.{Counts}
 use Rattle.std.proofs.Common.{Ok, Err}
 use Rattle.commands.specs.declared.tracker.TrackerError.TheVariants.{Full}
@@ -67,9 +68,9 @@ module _ (area commands : List ℕ) (call : calls.Call) (g : given_refusal area 
 
 -- ---- what the work answered
 
--- the counts of a work whose sendings come first
-abbrev pub counts_of : Worked → Counts
-counts_of w =
+-- the counts of a work whose sendings begin at this place
+abbrev pub counts_of : Place → Worked → Counts
+counts_of place w =
     record {
       pending = length w.pending;
       evicted = length w.evicted;
@@ -77,29 +78,29 @@ counts_of w =
       fresh = w.fresh;
       abandoned = w.abandoned;
       forgotten = w.forgotten;
-      place = behind first_place w.sendings;
+      place = behind place w.sendings;
     }
 
-module _ (w : Worked) where
-  pub full_fails : (Err Full) ≡ performed_as first_place w → fits w ≡ false
+module _ (place : Place) (w : Worked) where
+  pub full_fails : (Err Full) ≡ performed_as place w → fits w ≡ false
   unfolding performed_as
   full_fails = go (fits w) refl
     where
       go : (b : Bool) → fits w ≡ b
-          → (Err Full) ≡ cond b (Ok (counts_of w)) (Err Full)
+          → (Err Full) ≡ cond b (Ok (counts_of place w)) (Err Full)
           → fits w ≡ false
       go true e h = let z : ◌≡◌ {A = ℕ} 0 1 = cc in absurd (lt_irrefl 0 (omega arith))
       go false e h = e
 
-  pub done_fits : (counts : Counts) → Ok counts ≡ performed_as first_place w
+  pub done_fits : (counts : Counts) → Ok counts ≡ performed_as place w
       → (fits w ≡ true)
-      × (counts ≡ counts_of w)
+      × (counts ≡ counts_of place w)
   unfolding performed_as
   done_fits counts = go (fits w) refl
     where
       go : (b : Bool) → fits w ≡ b
-          → Ok counts ≡ cond b (Ok (counts_of w)) (Err Full)
+          → Ok counts ≡ cond b (Ok (counts_of place w)) (Err Full)
           → (fits w ≡ true)
-          × (counts ≡ counts_of w)
+          × (counts ≡ counts_of place w)
       go true e h = (e, cc)
       go false e h = let z : ◌≡◌ {A = ℕ} 0 1 = cc in absurd (lt_irrefl 0 (omega arith))

@@ -182,7 +182,7 @@ module _ {area : List ℕ} {head : Head} {plan : Plan} {call : Call} {lent : Lis
 
       at_is : (counts : Counts) → answer ≡ Ok counts → counts.place.at ≡ length sent
       at_is counts f =
-          ap (λ (k : Counts). k.place.at) (done_fits (work_of area call lent plan) counts (sym f ∙ d.answered)).1 ∙ zero-add (length sent)
+          ap (λ (k : Counts). k.place.at) (done_fits first_place (work_of area call lent plan) counts (sym f ∙ d.answered)).1 ∙ zero-add (length sent)
 
       -- on a command area that begins with the room
       module _ (rest : List ℕ) (enough : area_size ≤ length (room ++ rest)) where
@@ -223,7 +223,7 @@ module _ {area : List ℕ} {head : Head} {plan : Plan} {call : Call} {lent : Lis
               → StepsTo area (room ++ rest) call lent r area' (room' ++ rest)
           settled_in_place few kept fits {r} {area'} {room'} settled =
               let done = sym f ∙ d.answered in
-              let full = (done_fits (work_of area call lent plan) counts done).0 in
+              let full = (done_fits first_place (work_of area call lent plan) counts done).0 in
               let said : length (last plan counts) ≤ command_header = said_short counts.place.batch (listed_peer plan.says) in
               let long-enough : region_at ≤ length area = omega (arith, long its) in
               finishes area (room ++ rest) (called call lent) plan g its.follows its.seen counts done few e.bytes e.width head its.read

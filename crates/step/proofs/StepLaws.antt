@@ -121,11 +121,11 @@ module _ (area commands : List ℕ) (c : calls.Call) (p : Plan) (g : given_refus
     seen = sym (seen_is old c p f) ∙ e
 
     pub too_many : (Err Full) ≡ performed_as first_place w → untouched area commands c g 10 ≡ step area commands c
-    too_many h = ends_10 area commands c g seen (sym (carried_fits old c p f) ∙ full_fails w h)
+    too_many h = ends_10 area commands c g seen (sym (carried_fits old c p f) ∙ full_fails first_place w h)
 
     module _ (counts : Counts) (d : Ok counts ≡ performed_as first_place w) where
       tracked : few area commands c g seen ≡ true
-      tracked = sym (carried_fits old c p f) ∙ (done_fits w counts d).0
+      tracked = sym (carried_fits old c p f) ∙ (done_fits first_place w counts d).0
 
       pub too_stalled : 256 < p.head.stalled → untouched area commands c g 11 ≡ step area commands c
       too_stalled h =
@@ -144,15 +144,15 @@ module _ (area commands : List ℕ) (c : calls.Call) (p : Plan) (g : given_refus
         not_refused_call : call_refusal old c ≡ 0
         not_refused_call = passes area commands c g seen tracked stalled_few_lem
 
-        counts_are : counts ≡ counts_of w
-        counts_are = (done_fits w counts d).1
+        counts_are : counts ≡ counts_of first_place w
+        counts_are = (done_fits first_place w counts d).1
 
         counts_few : Few counts
         unfolding fits carried_by worked_by
         counts_few =
             let t : length old.pending + length old.sync.evicted ≤ tracked_limit = well.tracked in
             let u : length w.pending + length w.evicted ≤ tracked_limit =
-            leb-true (length w.pending + length w.evicted) tracked_limit (done_fits w counts d).0 in
+            leb-true (length w.pending + length w.evicted) tracked_limit (done_fits first_place w counts d).0 in
             let judged-few = count_few old c p in
             rw counts_are (
               omega arith,

@@ -26,7 +26,7 @@ use Rattle.model.proofs.ArgumentLaws.{row_fits_lem}
 use Rattle.model.proofs.MapLaws.{few_below}
 use Rattle.model.proofs.MapRowLaws as model
 use Rattle.heights.specs.Rows.{row_of, row_at}
-use Rattle.heights.proofs.RowLaws.{row_first, row_byte_lem, has_row, view_none, row_is, row_below, row_within}
+use Rattle.heights.proofs.RowLaws.{row_first, row_byte_lem, fits_front, has_row, view_none, row_is, row_below, row_within}
 
 -- ---- a row
 
@@ -121,7 +121,7 @@ module _ (view : List ℕ) (height : ℕ) where
 
   module _ (v : view_fits view ≡ true) {row : ℕ} (e : Some row ≡ at_height) where
     pub row_lent : row * row_size + 4 + row_size ≤ length view
-    row_lent = let w = row_within view height e v in omega (arith, w)
+    row_lent = let w = row_within view height e (fits_front view v) in omega (arith, w)
 
     pub row_good : row_fits (row_at row view) ≡ true
     unfolding row_at

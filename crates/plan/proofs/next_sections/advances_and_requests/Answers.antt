@@ -21,7 +21,7 @@ returns-clause-result_value c st call h e s =
     let sees : seen.result ≡ (steps.sections_from st (args_of call) (steps.advance_from st (args_of call) a.from).height).in_view =
     seen_by_lem st call r.result.height seen.result a.shown s seen.ensures ∙ rw to.height
     in
-    let asks = asked st call a.purges r.result.height a.shown work.result s work.ensures in
+    let asks = asked st call a.purges r.result.height a.shown.peers.now work.result s.peers work.ensures in
     rw c.usual.ensures
     (sketched st call _ (steps.advances_and_requests st (args_of call) a.from) refl
     (rw (to.height, sym h, e))

@@ -22,7 +22,7 @@ returns-then-enters-clause-result_value c st call h e s =
     let m = is_mode_lem st a.head h 2 c.if-enters.true in
     let d : a.head.downloaded ≡ st.sync.downloaded = rw (sym h) in
     let before = announce_to (listed_peer a.announces) (ids_in call.continuation) in
-    let asks = asked st call false st.sync.downloaded a.shown work.result s work.ensures in
+    let asks = asked st call false st.sync.downloaded a.shown.peers.now work.result s.peers work.ensures in
     rw c.usual.ensures
     (sketched st call _ (steps.is_at_tip st (args_of call) before a.tip) refl
     (rw (sym h, e))

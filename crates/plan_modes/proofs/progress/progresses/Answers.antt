@@ -22,7 +22,7 @@ returns-clause-result_value c st call h e s =
     let seen = c.sections_seen-seen in
     let work = c.sections_work-work in
     let d = downloaded_of st a.head h in
-    let asks = asked st call false a.head.downloaded a.shown work.result s work.ensures in
+    let asks = asked st call false a.head.downloaded a.shown.peers.now work.result s.peers work.ensures in
     rw (not_mode st a.head h 2 c.if-head-eq-SYNCING.false, c.usual.ensures)
     (sketched st call _ (steps.progresses st (args_of call) false) refl
     (rw (sym h, e))

@@ -31,7 +31,7 @@ module _ (c : After-sections_work-work) where
       acts_by st call c.args.head.downloaded c.sections_work-work.result ≡ (steps.sections_from st (args_of call) st.sync.downloaded).acts
   asks st call h s =
       let a = c.args in
-      asked st call false a.head.downloaded a.shown c.sections_work-work.result s c.sections_work-work.ensures ∙ rw (downloaded_of st a.head h)
+      asked st call false a.head.downloaded a.shown.peers.now c.sections_work-work.result s.peers c.sections_work-work.ensures ∙ rw (downloaded_of st a.head h)
 
   sees :
       (st : State) (call : calls.Call) →
