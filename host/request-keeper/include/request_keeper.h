@@ -1,7 +1,7 @@
 /* The request keeper's ten entries for a host in C. Every byte and number is in docs/LAYOUT.md.
  *
- * Link librequest_keeper.a, which `rt lib` in crates/request_keeper_c writes as out/librequest_keeper_c.a. It wants memcpy, memmove,
- * memset and __udivti3, which every C compiler links (libc and libgcc, or compiler-rt), and nothing else.
+ * Link librequest_keeper.a, which `rt lib` in crates/request_keeper_c writes as out/librequest_keeper_c.a. It wants memcpy, memset
+ * and __udivti3, which every C compiler links (libc and libgcc, or compiler-rt), and nothing else.
  *
  * A list is a pointer and then its length in bytes. Any number and any bytes are answered. Of its pointers a caller
  * owes what C can't say otherwise: none is null, also where the length is 0; all the bytes of its length are there; the
