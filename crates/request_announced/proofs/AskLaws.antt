@@ -66,21 +66,21 @@ RequestSays r did done table out answer table' out' =
 
 module _ {r : Run} (ready : Ready r) where
   pub within : All (Within r.pairs) r.places
-  within = sorted_within r.pairs r.places ready.by_type
+  within = sorted_within r.pairs r.places ready.sorted.by_type
 
   pub ask_starts : Bytes r.table → Bytes r.pairs → r.peer < 2 ^ 64
       → Asking r r.table r.rest r.out (record { count = r.count; place = r.place }) 0
   ask_starts f fp hp =
       let w = asks_weight r.peer (pairs_in r.stored) r.pairs in
       let c = asks_count r.peer (pairs_in r.stored) r.pairs in
-      let q : asks_of r.peer (pairs_in r.stored) (pairs_at r.pairs r.places) ≡ asks r = rw ready.by_type (asks_of_places r.peer r.pairs fp (pairs_in r.stored)) in
+      let q : asks_of r.peer (pairs_in r.stored) (pairs_at r.pairs r.places) ≡ asks r = rw ready.sorted.by_type (asks_of_places r.peer r.pairs fp (pairs_in r.stored)) in
       let well = asks_well r.peer (pairs_in r.stored) r.pairs hp fp in
       record {
         i_le = omega arith;
         rest_as_long = refl;
         acts =
             rw q
-            (perform_starts r.gate r.clock r.most r.count r.place (asks r) r.table r.out ready.held ready.fits f ready.rise well (omega arith)
+            (perform_starts r.gate r.clock r.most r.count r.place (asks r) r.table r.out ready.sorted.held ready.sorted.fits f ready.sorted.rise well (omega arith)
             (omega arith));
       }
 
@@ -106,24 +106,24 @@ module _ {r : Run} (ready : Ready r) where
           (run_within_lem r.peer (pairs_in r.stored) r.pairs r.places r.ids within ready.gathered i next type_id turn.here turn.typed turn.ends).1
 
       pub places_few : length r.places ≤ tracked_limit
-      places_few = omega (arith, sorted_long r.pairs r.places ready.by_type, ready.few)
+      places_few = omega (arith, sorted_long r.pairs r.places ready.sorted.by_type, ready.sorted.few)
 
       part_long : length (part r i next) ≡ next * id_size - i * id_size
       part_long = run_long r.peer (pairs_in r.stored) r.pairs r.places r.ids within ready.gathered i next type_id turn.here turn.typed turn.ends
 
       part_room : done.place.at + length (part r i next) / id_size * command_size ≤ length out
       part_room =
-          let a = act_room s.acts asked_here ready.fits in
+          let a = act_room s.acts asked_here ready.sorted.fits in
           let l = write.length_ids (part r i next) in
           omega arith
 
       part_number : done.place.batch + 1 < 65536
-      part_number = act_number s.acts asked_here ready.fits
+      part_number = act_number s.acts asked_here ready.sorted.fits
 
       pub request_asks : RequestAsks r (part r i next) table rest out done
       request_asks =
           let q = s.acts in (
-            (rw part_long (omega (arith, stays_within, places_few)), (q.few, (ready.limit, omega (arith, q.grown.long, ready.fits)))),
+            (rw part_long (omega (arith, stays_within, places_few)), (q.few, (ready.sorted.limit, omega (arith, q.grown.long, ready.sorted.fits)))),
             (
               q.grown.rise,
               (rw part_long (omega (arith, stays_within, ids_long, s.rest_as_long, ready.rest_long)), (part_room, part_number)),
@@ -138,7 +138,7 @@ module _ {r : Run} (ready : Ready r) where
         pub ask_full : {table'' out'' : List ℕ} → answer ≡ Err Full → Asked r (Err Full) table'' out''
         ask_full full =
             let q : Err Full ≡ requested_as r.most done.place did = rw full at says.0 in
-            let m = perform_full s.acts asked_here ready.fits q in
+            let m = perform_full s.acts asked_here ready.sorted.fits q in
             record {
               answered = sym (many_requested r.most r.place (asked_of r) m);
               left = λ y. absurd (false≢true (sym m ∙ y));
@@ -152,5 +152,5 @@ module _ {r : Run} (ready : Ready r) where
             record {
               i_le = stays_within;
               rest_as_long = lr ∙ s.rest_as_long;
-              acts = perform_turn s.acts asked_here ready.fits hc w er says.1.0 says.1.1 f';
+              acts = perform_turn s.acts asked_here ready.sorted.fits hc w er says.1.0 says.1.1 f';
             }

@@ -60,16 +60,9 @@ pub record Sorted (r : Run) : Type 0 where
   pub number : r.place.batch + length r.pairs / pair_size + 1 < 65536
   pub by_type : r.places ≡ places_by_type r.pairs
 
--- the same, and `ids` are those of the pairs at `places`
+-- `ids` are those of the pairs at `places`
 pub record Ready (r : Run) : Type 0 where
-  pub few : length r.pairs ≤ pair_list_size
-  pub held : r.count ≤ r.most
-  pub limit : r.most ≤ tracked_limit
-  pub fits : r.most * record_size ≤ length r.table
-  pub rise : rising id_size (entries record_size r.count r.table) ≡ true
-  pub room : r.place.at + length r.pairs / pair_size * command_size ≤ length r.out
-  pub number : r.place.batch + length r.pairs / pair_size + 1 < 65536
-  pub by_type : r.places ≡ places_by_type r.pairs
+  pub sorted : Sorted r
   pub gathered : r.ids ≡ joined (ids_at r.pairs r.places)
   pub rest_long : length r.ids ≤ length r.rest
 

@@ -3,8 +3,7 @@
 // A step that may still be refused works on a copy of the state area and copies back what finished: most of its cost is here.
 //
 // Of two slices the first so many bytes: a part of each would be checked twice. A copy is a loop and no `copy_from_slice`, which
-// allows for two slices that overlap: the archive would want memmove, which takes 15 times as long at some addresses
-// (docs/SPEED.md, Known).
+// allows for two slices that overlap: the archive would want memmove.
 ghost use Rattle.std.specs.Prelude.{◌≡◌, ◌++◌, ◌+◌, ◌≤◌, length, take, drop};
 ghost use Rattle.fields.specs.Zero.{zeros, all_zero};
 

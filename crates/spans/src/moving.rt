@@ -78,8 +78,8 @@ fn move_words_down(s: &mut [u8], from: usize, to: usize, size: usize) -> usize
 }
 
 // The `size` bytes from `from` on moved down to `to`, by words, the last word read before the others are written and written over
-// what they left. With `copy_within`, which ends in a loop over bytes, a pass that drops records takes twice as long; bytes that
-// move by less than 32 go one by one; and the archive wants memmove.
+// what they left. With `copy_within`, which ends in a loop over bytes, a pass that drops records takes twice as long, and the
+// archive wants memmove.
 pub fn move_down(s: &mut [u8], from: usize, to: usize, size: usize)
     requires { (to ≤ from) × (from + size ≤ length s.old) }
     ensures { s.new ≡ moved from to size s.old }
@@ -94,8 +94,8 @@ pub fn move_down(s: &mut [u8], from: usize, to: usize, size: usize)
     fields::write_u64(s, to + before, last);
 }
 
-// The same by words, for few bytes. The last word is written over the end of the one before it. No range counts the words: with
-// `step_by` a word costs more than it writes.
+// `new` written from `at` on, by words: 8 bytes at least. The last word is written over the end of the one before it. Counted by
+// hand, as `keys::unlike` counts its words.
 fn overwrite_words(s: &mut [u8], at: usize, new: &[u8])
     requires { (8 ≤ length new.now) × (at + length new.now ≤ length s.old) }
     ensures { s.new ≡ overwritten at new.now s.old }
@@ -111,7 +111,7 @@ fn overwrite_words(s: &mut [u8], at: usize, new: &[u8])
     fields::write_u64(s, at + last, word);
 }
 
-// `new` written from `at` on.
+// The same of any bytes; few go by words.
 pub fn overwrite(s: &mut [u8], at: usize, new: &[u8])
     requires { at + length new.now ≤ length s.old }
     ensures { s.new ≡ overwritten at new.now s.old }

@@ -20,14 +20,16 @@ ask_each-requires c =
     let p = c.requires.sorted in
     let asks = c.args.asks in
     record {
-      few = p.few;
-      held = p.held;
-      limit = p.limit;
-      fits = p.fits;
-      rise = p.rise;
-      room = p.room;
-      number = p.number;
-      by_type = p.by_type;
+      sorted = record {
+        few = p.few;
+        held = p.held;
+        limit = p.limit;
+        fits = p.fits;
+        rise = p.rise;
+        room = p.room;
+        number = p.number;
+        by_type = p.by_type;
+      };
       gathered = front_ids asks.pairs.now asks.places.now p.by_type c.args.ids.now c.put_ids.ensures;
       rest_long = omega (arith, length-take (length asks.pairs.now / pair_size * id_size) c.put_ids.new.ids, c.requires.rest_room);
     }
